@@ -1,0 +1,94 @@
+-- Rules by which `search` follows a definition's tests as the code's own tests decided them. Each proves that an answer r is what a
+-- choice gives, from the fact that the code learnt and from what the chosen side gives.
+use mathlib.Core.Path.{_≡_, refl, ap, sym, _∙_}
+use mathlib.Core.Bool.{Bool, true, false}
+use Prim.Native.Nat.{ℕ, _<_, _≤_}
+use mir.Val.{Fits}
+use mir.Syntax.{w8, w64}
+use native.Mathlib.Omega.{arith}
+use lib.Dec.{leb, ltb, eqb}
+use borrow.Author.Tests.{lt-ltb, le-ltb, le-leb, lt-leb, eq-eqb, ne-eqb}
+use Rattle.der.specs.Choice.{pick}
+use Rattle.der.specs.Element.{onExtent, onElement}
+use Rattle.der.specs.Opaque.{onChecked}
+use Rattle.der.specs.declared.Fault.{Fault}
+use Rattle.der.specs.declared.Cursor.{Cursor}
+use Rattle.der.specs.declared.Element.{Element}
+use Rattle.der.specs.declared.Element.the-variants.{Found}
+use Rattle.der.specs.declared.Checked.{Checked}
+use Rattle.der.specs.declared.Checked.the-variants.{Passed}
+use Rattle.der.specs.declared.Extent.{Extent}
+use Rattle.der.specs.declared.Extent.the-variants.{Body}
+
+module _ {A : Type 0} where
+  pub at-true : (t : Bool) (r x y : A) → t ≡ true → r ≡ x → r ≡ pick t x y
+  at-true t r x y h e = rw h e
+
+  pub at-false : (t : Bool) (r x y : A) → t ≡ false → r ≡ y → r ≡ pick t x y
+  at-false t r x y h e = rw h e
+
+  pub at-lt : (a b : ℕ) (r x y : A) → a < b → r ≡ x → r ≡ pick (ltb a b) x y
+  at-lt a b r x y h e = rw (lt-ltb a b h) e
+
+  pub at-not-lt : (a b : ℕ) (r x y : A) → b ≤ a → r ≡ y → r ≡ pick (ltb a b) x y
+  at-not-lt a b r x y h e = rw (le-ltb a b h) e
+
+  pub at-le : (a b : ℕ) (r x y : A) → a ≤ b → r ≡ x → r ≡ pick (leb a b) x y
+  at-le a b r x y h e = rw (le-leb a b h) e
+
+  pub at-not-le : (a b : ℕ) (r x y : A) → b < a → r ≡ y → r ≡ pick (leb a b) x y
+  at-not-le a b r x y h e = rw (lt-leb a b h) e
+
+  pub at-eq : (a b : ℕ) (r x y : A) → a ≡ b → r ≡ x → r ≡ pick (eqb a b) x y
+  at-eq a b r x y h e = rw (eq-eqb a b h) e
+
+  pub at-ne : (a b : ℕ) (r x y : A) → (a ≡ b → ⊥) → r ≡ y → r ≡ pick (eqb a b) x y
+  at-ne a b r x y h e = rw (ne-eqb a b h) e
+
+  pub same : (x : A) → x ≡ x
+  same x = refl
+
+  -- an answer that a callee gave, taken apart: v is what the definition names, w what the code matched on
+  pub extent-refused : (v w : Extent) (f : Fault) (r : A) (bad : Fault → A) (good : Cursor → A)
+      → w ≡ v → w ≡ Extent.Refused f → r ≡ bad f → r ≡ onExtent v bad good
+  extent-refused v w f r bad good p q e = rw (sym p ∙ q) e
+
+  pub extent-body : (v w : Extent) (b : Cursor) (r : A) (bad : Fault → A) (good : Cursor → A)
+      → w ≡ v → w ≡ Body b → r ≡ good b → r ≡ onExtent v bad good
+  extent-body v w b r bad good p q e = rw (sym p ∙ q) e
+
+  pub element-refused : (v w : Element) (f : Fault) (r : A) (bad : Fault → A) (good : ℕ → Cursor → Cursor → A)
+      → w ≡ v → w ≡ Element.Refused f → r ≡ bad f → r ≡ onElement v bad good
+  element-refused v w f r bad good p q e = rw (sym p ∙ q) e
+
+  pub element-found : (v w : Element) (t : ℕ) (b n : Cursor) (r : A) (bad : Fault → A) (good : ℕ → Cursor → Cursor → A)
+      → w ≡ v → w ≡ Found t b n → r ≡ good t b n → r ≡ onElement v bad good
+  element-found v w t b n r bad good p q e = rw (sym p ∙ q) e
+
+  pub checked-refused : (v w : Checked) (f : Fault) (r : A) (bad : Fault → A) (good : ℕ → Cursor → A)
+      → w ≡ v → w ≡ Checked.Refused f → r ≡ bad f → r ≡ onChecked v bad good
+  checked-refused v w f r bad good p q e = rw (sym p ∙ q) e
+
+  pub checked-passed : (v w : Checked) (m : ℕ) (n : Cursor) (r : A) (bad : Fault → A) (good : ℕ → Cursor → A)
+      → w ≡ v → w ≡ Passed m n → r ≡ good m n → r ≡ onChecked v bad good
+  checked-passed v w m n r bad good p q e = rw (sym p ∙ q) e
+
+pub ruleset picks = (
+  at-lt,
+  at-not-lt,
+  at-le,
+  at-not-le,
+  at-eq,
+  at-ne,
+  extent-refused,
+  extent-body,
+  element-refused,
+  element-found,
+  checked-refused,
+  checked-passed,
+  same,
+)
+
+-- a byte that is cast to a word
+pub byte : {x : ℕ} → Fits w8 x → Fits w64 x
+byte h = omega arith

@@ -1,0 +1,50 @@
+-- What X.690 writes: the length octets, an element, the contents of an INTEGER. All of any size.
+use mathlib.Core.Path.{_≡_}
+use mathlib.Core.List.{List, [], _∷_, _++_}
+use Prim.Native.Nat.{ℕ, zero, suc, _+_, _-_, _*_, _/_, _%_, _≤_, _<_}
+use lib.Dec.{ltb}
+use lib.ListN.{length, getD}
+use Rattle.der.specs.Choice.{pick}
+
+-- the digits of n to the base 256, most significant first, with no leading zero but for n = 0; the first argument bounds their number
+unfoldable pub digitsFrom : ℕ → ℕ → List ℕ
+digitsFrom zero n = []
+digitsFrom (suc fuel) n = let high = digitsFrom fuel (n / 256) in pick (ltb n 256) (n ∷ []) (high ++ (n % 256 ∷ []))
+
+unfoldable pub digits : ℕ → List ℕ
+digits n = digitsFrom (suc n) n
+
+-- X.690, 8.1.3.4 and 8.1.3.5 in the shortest form (10.1): one octet below 128, else the number of octets and 128, and the octets
+unfoldable pub lengthOctets : ℕ → List ℕ
+lengthOctets n = pick (ltb n 128) (n ∷ []) ((128 + length (digits n)) ∷ digits n)
+
+-- X.690, 8.1.1: identifier octet, length octets, contents octets
+unfoldable pub tlv : ℕ → List ℕ → List ℕ
+tlv t body = t ∷ (lengthOctets (length body) ++ body)
+
+-- X.690, 8.3: the contents of the INTEGER n, in the fewest octets whose first bit is 0
+unfoldable pub integerOctets : ℕ → List ℕ
+integerOctets n = pick (ltb (getD (digits n) 0 0) 128) (digits n) (0 ∷ digits n)
+
+-- the number that digits to the base 256 stand for, after those of v
+unfoldable pub numberFrom : ℕ → List ℕ → ℕ
+numberFrom v [] = v
+numberFrom v (d ∷ ds) = numberFrom (v * 256 + d) ds
+
+unfoldable pub number : List ℕ → ℕ
+number ds = numberFrom 0 ds
+
+-- "INTEGER (02): 1 to 4 body bytes, minimal, not negative." (X.690, 8.3.2: the first nine bits are not all zero)
+pub record IntegerRule (body : List ℕ) : Type 0 where
+  pub some : 1 ≤ length body
+  pub four : length body ≤ 4
+  pub positive : getD body 0 0 < 128
+  pub minimal : 1 < length body → getD body 0 0 ≡ 0 → 128 ≤ getD body 1 0
+
+-- "OBJECT IDENTIFIER (06): body not empty, last byte below 80 hex, no part beginning with byte 80 hex." A part begins the body, or
+-- stands behind a byte below 80 hex.
+pub record IdentifierRule (body : List ℕ) : Type 0 where
+  pub some : 1 ≤ length body
+  pub last : getD body (length body - 1) 0 < 128
+  pub first : getD body 0 0 ≡ 128 → ⊥
+  pub later : (i : ℕ) → i + 1 < length body → getD body i 0 < 128 → getD body (i + 1) 0 ≡ 128 → ⊥

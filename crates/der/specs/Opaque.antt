@@ -1,0 +1,48 @@
+-- An opaque element, "checked through to the bottom" (scope, "One element").
+use mathlib.Core.List.{List}
+use Prim.Native.Nat.{ℕ, zero, suc, _+_, _-_, _/_, _%_}
+use lib.Dec.{eqb}
+use Rattle.der.specs.Choice.{pick}
+use Rattle.der.specs.Numbers.{tooMany}
+use Rattle.der.specs.Element.{cursor, fault, elementAt, onElement}
+use Rattle.der.specs.Many.{many}
+use Rattle.der.specs.declared.Fault.{Fault}
+use Rattle.der.specs.declared.Cursor.{Cursor}
+use Rattle.der.specs.declared.Checked.{Checked}
+use Rattle.der.specs.declared.Checked.the-variants.{Passed}
+
+abbrev pub onChecked : {A : Type 0} → Checked → (Fault → A) → (ℕ → Cursor → A) → A
+onChecked (Checked.Refused f) bad good = bad f
+onChecked (Passed m n) bad good = good m n
+
+-- one more element checked, after m of them
+abbrev pub counted : (Cursor → Checked) → ℕ → ℕ → ℕ → Checked
+counted check end m at = onChecked (check (cursor at end)) Checked.Refused (λ k n. Passed (m + k) n)
+
+abbrev pub goOn : Checked → (ℕ → ℕ → Checked) → Checked
+goOn x next = onChecked x Checked.Refused (λ m n. next m (n .at))
+
+abbrev pub atEnd : ℕ → ℕ → ℕ → Checked
+atEnd end m at = Passed m (cursor at end)
+
+-- "zero or more complete elements", each checked by `check`, up to the cursor's end
+unfoldable pub run : (Cursor → Checked) → Cursor → Checked
+run check c = many goOn (atEnd (c .end)) (counted check (c .end)) (c .end - c .at) (c .end) 0 (c .at)
+
+-- "where tag bit 20 (hex) is set its body is zero or more complete elements, otherwise the body isn't looked at"; l levels are left, and
+-- where none is, the element is refused (8), once its own form and extent are checked. The count is that of the elements checked.
+unfoldable pub opaqueAt : ℕ → List ℕ → Cursor → Checked
+opaqueAt zero s c = onElement (elementAt s c) Checked.Refused (λ t b n. Checked.Refused (fault tooMany (c .at)))
+opaqueAt (suc l) s c =
+    onElement (elementAt s c)
+    Checked.Refused
+    (λ t b n.
+    pick (eqb (t / 32 % 2) 0) (Passed 1 n) (onChecked (run (opaqueAt l s) b) Checked.Refused (λ m e. Passed (m + 1) n)))
+
+-- a body of zero or more opaque elements, each of l levels at most
+unfoldable pub elementsAt : ℕ → List ℕ → Cursor → Checked
+elementsAt l s c = run (opaqueAt l s) c
+
+-- "16 levels at most"
+abbrev pub opaqueLevels : ℕ
+opaqueLevels = 16

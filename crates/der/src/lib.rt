@@ -1,0 +1,288 @@
+// One element of DER (ITU-T X.690) and what PKCS #12 files are made of: tags, lengths, identifiers, integers, and opaque elements, which
+// are checked for their form to the bottom. Every public function answers any cursor over any bytes.
+ghost use mathlib.Core.Path.{_≡_};
+ghost use Prim.Native.Nat.{_+_, _^_, _<_, _≤_};
+ghost use lib.ListN.{length};
+ghost use lib.Seq.{slice};
+ghost use Rattle.der.specs.Element.{wholeOf, tagAt, finishAt, within, oneOctet, twoOctets, extentAt, elementAt, expectAt};
+//ghost use Rattle.der.specs.Content.{breaks, identifierBody, identifierAt, integerBody, andDigit, integerValue, integerAt};
+//ghost use Rattle.der.specs.Opaque.{opaqueAt, elementsAt};
+
+// The numbers of the refusals.
+pub const MISSING: u8 = 1;
+
+pub const OVERRUN: u8 = 1;
+
+pub const TAG_FORM: u8 = 2;
+
+pub const LENGTH_FORM: u8 = 3;
+
+pub const OTHER_TAG: u8 = 4;
+
+pub const CONTENT: u8 = 5;
+
+pub const LEFT_OVER: u8 = 6;
+
+pub const TOO_MANY: u8 = 8;
+
+// The tags of the elements whose bodies are read here.
+pub const INTEGER: u8 = 2;
+
+pub const OCTET_STRING: u8 = 4;
+
+pub const OBJECT_IDENTIFIER: u8 = 6;
+
+// The levels of an opaque element.
+pub const OPAQUE_LEVELS: u8 = 16;
+
+// The first fault: its number, and its offset in the file (the scope's place).
+pub struct Fault {
+    pub number: u8,
+    pub offset: usize,
+}
+
+// A place in the file: the next byte of a parent's body, and that body's end. A cursor that ends past the bytes, or before its own
+// position, has no byte left.
+pub struct Cursor {
+    pub at: usize,
+    pub end: usize,
+}
+
+// An element: its tag, its body, and the cursor past the whole element.
+pub enum Element {
+    Found { tag: u8, body: Cursor, next: Cursor },
+    Refused(Fault),
+}
+
+// What a check went through: the number of elements (the scope's opened count), and the cursor past them.
+pub enum Checked {
+    Passed { count: usize, next: Cursor },
+    Refused(Fault),
+}
+
+// The number in an INTEGER, and the cursor past it.
+pub enum Integer {
+    Value { value: u32, next: Cursor },
+    Refused(Fault),
+}
+
+// The body that a header announces.
+enum Extent {
+    Body(Cursor),
+    Refused(Fault),
+}
+
+// The body of `size` bytes from `start`, in the element at `at`, within its parent.
+fn within(at: usize, start: usize, size: usize, end: usize) -> Extent
+    requires { ⌜ start + size < 2 ^ 64 ⌝ }
+    ensures { λ r. ⌜ r ≡ within at start size end ⌝ }
+{
+    let stop = start + size;
+    if end < stop {
+        return Extent::Refused(Fault {
+            number: OVERRUN,
+            offset: at,
+        });
+    }
+    Extent::Body(Cursor {
+        at: start,
+        end: stop,
+    })
+}
+
+// The extent where the length is 81 and one byte.
+fn one_octet(s: &[u8], at: usize, end: usize) -> Extent
+    requires { ⌜ (at < end) × (end ≤ length (now s)) ⌝ }
+    ensures { λ r. ⌜ r ≡ oneOctet (now (s .entry)) at end ⌝ }
+{
+    let third = at + 2;
+    if end <= third {
+        return Extent::Refused(Fault {
+            number: OVERRUN,
+            offset: at,
+        });
+    }
+    let size = s[third];
+    if size < 128 {
+        return Extent::Refused(Fault {
+            number: LENGTH_FORM,
+            offset: at,
+        });
+    }
+    let start = at + 3;
+    let wide = size as usize;
+    within(at, start, wide, end)
+}
+
+// The extent where the length is 82 and two bytes.
+fn two_octets(s: &[u8], at: usize, end: usize) -> Extent
+    requires { ⌜ (at < end) × (end ≤ length (now s)) ⌝ }
+    ensures { λ r. ⌜ r ≡ twoOctets (now (s .entry)) at end ⌝ }
+{
+    let third = at + 2;
+    let fourth = at + 3;
+    if end <= fourth {
+        return Extent::Refused(Fault {
+            number: OVERRUN,
+            offset: at,
+        });
+    }
+    let high = s[third];
+    if high == 0 {
+        return Extent::Refused(Fault {
+            number: LENGTH_FORM,
+            offset: at,
+        });
+    }
+    let low = s[fourth];
+    let start = at + 4;
+    let wide_high = high as usize;
+    let wide_low = low as usize;
+    let size = wide_high * 256 + wide_low;
+    within(at, start, size, end)
+}
+
+// The body of the element at `at`, by its length.
+fn body_of(s: &[u8], at: usize, end: usize) -> Extent
+    requires { ⌜ (at < end) × (end ≤ length (now s)) ⌝ }
+    ensures { λ r. ⌜ r ≡ extentAt (now (s .entry)) at end ⌝ }
+{
+    let second = at + 1;
+    if end <= second {
+        return Extent::Refused(Fault {
+            number: OVERRUN,
+            offset: at,
+        });
+    }
+    let first = s[second];
+    if first < 128 {
+        let start = at + 2;
+        let size = first as usize;
+        return within(at, start, size, end);
+    }
+    if first == 129 {
+        return one_octet(s, at, end);
+    }
+    if first == 130 {
+        return two_octets(s, at, end);
+    }
+    Extent::Refused(Fault {
+        number: LENGTH_FORM,
+        offset: at,
+    })
+}
+
+impl Cursor {
+    // The whole of the bytes.
+    pub fn over(s: &[u8]) -> Cursor
+        ensures { λ r. ⌜ r ≡ wholeOf (now (s .entry)) ⌝ }
+    {
+        Cursor {
+            at: 0,
+            end: s.len(),
+        }
+    }
+
+    // The next byte, or 0, which is no tag, where none is left.
+    pub fn tag(self, s: &[u8]) -> u8
+        ensures { λ r. ⌜ r ≡ tagAt (now (s .entry)) self ⌝ }
+    {
+        let at = self.at;
+        let end = self.end;
+        if s.len() < end {
+            return 0;
+        }
+        if end <= at {
+            return 0;
+        }
+        s[at]
+    }
+
+    // A parent's body is at its end; what is left over is refused.
+    pub fn finish(self) -> Checked
+        ensures { λ r. ⌜ r ≡ finishAt self ⌝ }
+    {
+        let at = self.at;
+        let end = self.end;
+        if at < end {
+            return Checked::Refused(Fault {
+                number: LEFT_OVER,
+                offset: at,
+            });
+        }
+        Checked::Passed {
+            count: 0,
+            next: self,
+        }
+    }
+
+    // The next element, of any tag.
+    pub fn element(self, s: &[u8]) -> Element
+        ensures { λ r. ⌜ r ≡ elementAt (now (s .entry)) self ⌝ }
+    {
+        let at = self.at;
+        let end = self.end;
+        if s.len() < end {
+            return Element::Refused(Fault {
+                number: MISSING,
+                offset: end,
+            });
+        }
+        if end <= at {
+            return Element::Refused(Fault {
+                number: MISSING,
+                offset: end,
+            });
+        }
+        let tag = s[at];
+        if tag == 0 {
+            return Element::Refused(Fault {
+                number: TAG_FORM,
+                offset: at,
+            });
+        }
+        if tag % 32 == 31 {
+            return Element::Refused(Fault {
+                number: TAG_FORM,
+                offset: at,
+            });
+        }
+        match body_of(s, at, end) {
+            Extent::Refused(f) => Element::Refused(f),
+            Extent::Body(body) => {
+                let stop = body.end;
+                Element::Found {
+                    tag,
+                    body,
+                    next: Cursor { at: stop, end },
+                }
+            }
+        }
+    }
+
+    // The next element, with the tag that is due.
+    pub fn expect(self, s: &[u8], due: u8) -> Element
+        ensures { λ r. ⌜ r ≡ expectAt due (now (s .entry)) self ⌝ }
+    {
+        let at = self.at;
+        match self.element(s) {
+            Element::Refused(f) => Element::Refused(f),
+            Element::Found { tag, body, next } => {
+                if tag == due {
+                    return Element::Found { tag, body, next };
+                }
+                Element::Refused(Fault {
+                    number: OTHER_TAG,
+                    offset: at,
+                })
+            }
+        }
+    }
+
+    // The next element, an OCTET STRING.
+    pub fn octet_string(self, s: &[u8]) -> Element
+        ensures { λ r. ⌜ r ≡ expectAt 4 (now (s .entry)) self ⌝ }
+    {
+        self.expect(s, OCTET_STRING)
+    }
+}
