@@ -1,3 +1,7 @@
 -- The laws of `der`, and the rules that close most needs of its functions.
 pub mod Picks
 pub mod Octets
+pub mod Content
+pub mod Placed
+pub mod Many
+pub mod Opaque

@@ -3,27 +3,10 @@ use mathlib.Core.Path.{_≡_, refl, sym, ap, _∙_}
 use mathlib.Core.List.{List, [], _∷_, _++_, append-assoc, append-nil}
 use Prim.Native.Nat.{ℕ, zero, suc, _+_, _*_, _/_, _%_, _≤_, _<_}
 use native.Mathlib.Omega.{arith}
-use native.Mathlib.Decide.{decLt}
-use lib.Dec.{ltb}
 use lib.ListN.{length, getD, length-append, List·getD-append}
-use borrow.Author.Tests.{lt-ltb, le-ltb}
-use Rattle.der.specs.Choice.{pick}
 use Rattle.der.specs.Octets.{digitsFrom, digits, lengthOctets, tlv, integerOctets, numberFrom, number, IntegerRule}
 use Rattle.der.specs.Span.{Bytes}
-
--- a choice by an order that is known, and a proof by cases of an order
-pub pick-lt : {A : Type 0} (n m : ℕ) (x y : A) → n < m → pick (ltb n m) x y ≡ x
-pick-lt n m x y h = rw (lt-ltb n m h)
-
-pub pick-le : {A : Type 0} (n m : ℕ) (x y : A) → m ≤ n → pick (ltb n m) x y ≡ y
-pick-le n m x y h = rw (le-ltb n m h)
-
-pub either : {A : Type 0} (n m : ℕ) → (n < m → A) → (m ≤ n → A) → A
-either {A} n m f g = go (decLt n m)
-  where
-    go : Dec (n < m) → A
-    go (yes h) = f h
-    go (no h) = g (omega arith)
+use Rattle.der.proofs.Picks.{pick-lt, pick-le, either}
 
 -- any fuel above the number gives its digits
 enough : (f g n : ℕ) → n < f → n < g → digitsFrom f n ≡ digitsFrom g n

@@ -4,10 +4,11 @@ use mathlib.Core.Path.{_≡_, refl, ap, sym, _∙_}
 use mathlib.Core.Bool.{Bool, true, false}
 use Prim.Native.Nat.{ℕ, _<_, _≤_}
 use mir.Val.{Fits}
-use mir.Syntax.{w8, w64}
+use mir.Syntax.{w8, w32, w64}
 use native.Mathlib.Omega.{arith}
+use native.Mathlib.Decide.{decLt}
 use lib.Dec.{leb, ltb, eqb}
-use borrow.Author.Tests.{lt-ltb, le-ltb, le-leb, lt-leb, eq-eqb, ne-eqb}
+use borrow.Author.Tests.{lt-ltb, le-ltb, le-leb, lt-leb, eq-eqb, ne-eqb, ltb-true, ltb-false, leb-true, leb-false, eqb-true, eqb-false}
 use Rattle.der.specs.Choice.{pick}
 use Rattle.der.specs.Element.{onExtent, onElement}
 use Rattle.der.specs.Opaque.{onChecked}
@@ -26,6 +27,13 @@ module _ {A : Type 0} where
 
   pub at-false : (t : Bool) (r x y : A) → t ≡ false → r ≡ y → r ≡ pick t x y
   at-false t r x y h e = rw h e
+
+  -- a test that a callee made: u is what it gave
+  pub told-true : (t u : Bool) (r x y : A) → u ≡ t → u ≡ true → r ≡ x → r ≡ pick t x y
+  told-true t u r x y p q e = rw (sym p ∙ q) e
+
+  pub told-false : (t u : Bool) (r x y : A) → u ≡ t → u ≡ false → r ≡ y → r ≡ pick t x y
+  told-false t u r x y p q e = rw (sym p ∙ q) e
 
   pub at-lt : (a b : ℕ) (r x y : A) → a < b → r ≡ x → r ≡ pick (ltb a b) x y
   at-lt a b r x y h e = rw (lt-ltb a b h) e
@@ -73,6 +81,21 @@ module _ {A : Type 0} where
       → w ≡ v → w ≡ Passed m n → r ≡ good m n → r ≡ onChecked v bad good
   checked-passed v w m n r bad good p q e = rw (sym p ∙ q) e
 
+-- what holds of either side of a choice, each with its fact, holds of the choice
+module _ {A : Type 0} (P : A → Type 0) (x y : A) where
+  pub by-test : (t : Bool) → (t ≡ true → P x) → (t ≡ false → P y) → P (pick t x y)
+  by-test true f g = f refl
+  by-test false f g = g refl
+
+  pub by-lt : (a b : ℕ) → (a < b → P x) → (b ≤ a → P y) → P (pick (ltb a b) x y)
+  by-lt a b f g = by-test (ltb a b) (λ h. f (ltb-true a b h)) (λ h. g (ltb-false a b h))
+
+  pub by-le : (a b : ℕ) → (a ≤ b → P x) → (b < a → P y) → P (pick (leb a b) x y)
+  by-le a b f g = by-test (leb a b) (λ h. f (leb-true a b h)) (λ h. g (leb-false a b h))
+
+  pub by-eq : (a b : ℕ) → (a ≡ b → P x) → ((a ≡ b → ⊥) → P y) → P (pick (eqb a b) x y)
+  by-eq a b f g = by-test (eqb a b) (λ h. f (eqb-true a b h)) (λ h. g (eqb-false a b h))
+
 pub ruleset picks = (
   at-lt,
   at-not-lt,
@@ -89,6 +112,23 @@ pub ruleset picks = (
   same,
 )
 
--- a byte that is cast to a word
+-- a byte that is cast
 pub byte : {x : ℕ} → Fits w8 x → Fits w64 x
 byte h = omega arith
+
+pub narrow : {x : ℕ} → Fits w8 x → Fits w32 x
+narrow h = omega arith
+
+-- a choice by an order that is known, and a proof by cases of an order
+pub pick-lt : {A : Type 0} (n m : ℕ) (x y : A) → n < m → pick (ltb n m) x y ≡ x
+pick-lt n m x y h = rw (lt-ltb n m h)
+
+pub pick-le : {A : Type 0} (n m : ℕ) (x y : A) → m ≤ n → pick (ltb n m) x y ≡ y
+pick-le n m x y h = rw (le-ltb n m h)
+
+pub either : {A : Type 0} (n m : ℕ) → (n < m → A) → (m ≤ n → A) → A
+either {A} n m f g = go (decLt n m)
+  where
+    go : Dec (n < m) → A
+    go (yes h) = f h
+    go (no h) = g (omega arith)

@@ -1,7 +1,7 @@
 -- The bodies of OBJECT IDENTIFIER and INTEGER (scope, "One element").
 use mathlib.Core.Bool.{Bool, true, false}
 use mathlib.Core.List.{List, [], _∷_}
-use Prim.Native.Nat.{ℕ, _+_, _*_, _-_}
+use Prim.Native.Nat.{ℕ, _+_, _*_, _≤_, _<_}
 use lib.Dec.{leb, ltb, eqb}
 use lib.ListN.{length, getD}
 use lib.Seq.{slice}
@@ -53,6 +53,12 @@ integerBody s b =
 -- the number v with the digit at i behind it, where the body goes so far
 unfoldable pub andDigit : List ℕ → ℕ → ℕ → ℕ → ℕ
 andDigit s end i v = pick (ltb i end) (v * 256 + getD s i 0) v
+
+-- what is known of a body that `integerBody` takes, in a list that reaches so far
+pub record IntegerAt (s : List ℕ) (b : Cursor) : Type 0 where
+  pub inside : b .end ≤ length s
+  pub some : b .at < b .end
+  pub first : getD s (b .at) 0 < 128
 
 -- the number that a body of 1 to 4 bytes holds, most significant byte first
 unfoldable pub integerValue : List ℕ → Cursor → ℕ

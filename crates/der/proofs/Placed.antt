@@ -1,0 +1,153 @@
+-- Where an accepted element stands: its body behind its header and within its parent, and the header's bytes. Each fact is proved of the
+-- definition once, by cases on its answer.
+use mathlib.Core.Path.{_≡_, refl, sym, ap, _∙_}
+use mathlib.Core.List.{List, [], _∷_, _++_}
+use Prim.Native.Nat.{ℕ, zero, suc, _+_, _*_, _-_, _/_, _%_, _≤_, _<_}
+use native.Mathlib.Omega.{arith}
+use native.Mathlib.Numerals.{add-one, add-two, add-three}
+use lib.ListN.{length, getD, drop}
+use lib.Seq.{drop-cons}
+use Rattle.der.specs.Choice.{pick}
+use Rattle.der.specs.Element.{cursor, within, oneOctet, twoOctets, extentAt, elementAt, expectAt, onExtent, onElement}
+use Rattle.der.specs.Octets.{lengthOctets}
+use Rattle.der.specs.Span.{Bytes}
+use Rattle.der.specs.declared.Fault.{Fault}
+use Rattle.der.specs.declared.Cursor.{Cursor}
+use Rattle.der.specs.declared.Element.{Element}
+use Rattle.der.specs.declared.Element.the-variants.{Found}
+use Rattle.der.specs.declared.Extent.{Extent}
+use Rattle.der.specs.declared.Extent.the-variants.{Body}
+use Rattle.der.proofs.Picks.{by-lt, by-le, by-eq}
+use Rattle.der.proofs.Octets.{octets-short, octets-one, octets-two}
+
+pub byte-at : (s : List ℕ) → Bytes s → (i : ℕ) → getD s i 0 < 256
+byte-at [] b i = omega arith
+byte-at (x ∷ s) b zero = b .0
+byte-at (x ∷ s) b (suc i) = byte-at s (b .1) i
+
+-- the body b of the element at `at`, within a parent that ends at `end`
+pub record BodyOf (s : List ℕ) (at end : ℕ) (b : Cursor) : Type 0 where
+  pub past : at + 2 ≤ b .at
+  pub size : b .at ≤ b .end
+  pub within : b .end ≤ end
+  pub small : Bytes s → b .end < b .at + 65536
+  pub octets : Bytes s → drop (at + 1) s ≡ lengthOctets (b .end - b .at) ++ drop (b .at) s
+
+abbrev OfExtent : List ℕ → ℕ → ℕ → Extent → Type 0
+OfExtent s at end (Extent.Refused f) = Unit {0}
+OfExtent s at end (Body b) = BodyOf s at end b
+
+-- a body of `size` bytes from `start`, whose length octets stand before it
+within-of : (s : List ℕ) (at end start size : ℕ) → at + 2 ≤ start → (Bytes s → size < 65536)
+    → (Bytes s → drop (at + 1) s ≡ lengthOctets size ++ drop start s) → OfExtent s at end (within at start size end)
+unfolding within
+within-of s at end start size p q o =
+    by-lt (OfExtent s at end) _ _ end (start + size)
+    (λ h. tt)
+    (λ h.
+    let e : start + size - start ≡ size = omega arith in
+    record { past = p; size = omega arith; within = h; small = λ b. omega (arith, q b); octets = λ b. rw e (o b) })
+
+-- the bytes from an offset on, one by one
+one-more : (s : List ℕ) (i j : ℕ) → i < length s → i + 1 ≡ j → drop i s ≡ getD s i 0 ∷ drop j s
+one-more s i j h e =
+    let q : suc i ≡ j = omega arith in
+    drop-cons s i 0 h ∙ rw q
+
+-- each form of the length, in a parent that lies within the bytes
+module _ (s : List ℕ) (at end : ℕ) (inside : end ≤ length s) where
+  short-of : at + 1 < end → getD s (at + 1) 0 < 128 → OfExtent s at end (within at (at + 2) (getD s (at + 1) 0) end)
+  short-of h k =
+      within-of s at end (at + 2) (getD s (at + 1) 0) (omega arith) (λ b. omega arith)
+      (λ b. rw (octets-short (getD s (at + 1) 0) k, one-more s (at + 1) (at + 2) (omega arith) (omega arith)))
+
+  one-of : getD s (at + 1) 0 ≡ 129 → OfExtent s at end (oneOctet s at end)
+  unfolding oneOctet
+  one-of f =
+      by-le (OfExtent s at end) _ _ end (at + 2) (λ h. tt)
+      (λ h. by-lt (OfExtent s at end) _ _ (getD s (at + 2) 0) 128 (λ k. tt)
+      (λ k. within-of s at end (at + 3) (getD s (at + 2) 0) (omega arith) (λ b. omega (arith, byte-at s b (at + 2)))
+      (λ b. rw (octets-one (getD s (at + 2) 0) k (byte-at s b (at + 2)), one-more s (at + 1) (at + 2) (omega arith) (omega arith), one-more s (at + 2) (at + 3) (omega arith) (omega arith), f))))
+
+  two-of : getD s (at + 1) 0 ≡ 130 → OfExtent s at end (twoOctets s at end)
+  unfolding twoOctets
+  two-of f =
+      by-le (OfExtent s at end) _ _ end (at + 3) (λ h. tt)
+      (λ h. by-eq (OfExtent s at end) _ _ (getD s (at + 2) 0) 0 (λ k. tt)
+      (λ k. within-of s at end (at + 4) (getD s (at + 2) 0 * 256 + getD s (at + 3) 0) (omega arith) (λ b. omega (arith, byte-at s b (at + 2), byte-at s b (at + 3)))
+      (λ b.
+      let high : (getD s (at + 2) 0 * 256 + getD s (at + 3) 0) / 256 ≡ getD s (at + 2) 0 = omega (arith, byte-at s b (at + 3)) in
+      let low : (getD s (at + 2) 0 * 256 + getD s (at + 3) 0) % 256 ≡ getD s (at + 3) 0 = omega (arith, byte-at s b (at + 3)) in
+      rw (octets-two (getD s (at + 2) 0 * 256 + getD s (at + 3) 0) (omega arith) (omega (arith, byte-at s b (at + 2), byte-at s b (at + 3))), high, low, one-more s (at + 1) (at + 2) (omega arith) (omega arith), one-more s (at + 2) (at + 3) (omega arith) (omega arith), one-more s (at + 3) (at + 4) (omega arith) (omega arith), f))))
+
+  extent-of : OfExtent s at end (extentAt s at end)
+  unfolding extentAt
+  extent-of =
+      by-le (OfExtent s at end) _ _ end (at + 1) (λ h. tt)
+      (λ h. by-lt (OfExtent s at end) _ _ (getD s (at + 1) 0) 128 (short-of h)
+      (λ k. by-eq (OfExtent s at end) _ _ (getD s (at + 1) 0) 129 one-of
+      (λ l. by-eq (OfExtent s at end) _ _ (getD s (at + 1) 0) 130 two-of (λ m. tt))))
+
+-- an element found at a cursor: its tag is of a form that is taken, and its body stands behind its header, within its parent
+pub record Placed (s : List ℕ) (c : Cursor) (t : ℕ) (b n : Cursor) : Type 0 where
+  pub some : c .at < c .end
+  pub inside : c .end ≤ length s
+  pub tag : t ≡ getD s (c .at) 0
+  pub not-zero : t ≡ 0 → ⊥
+  pub low-bits : t % 32 ≡ 31 → ⊥
+  pub body : BodyOf s (c .at) (c .end) b
+  pub next : n ≡ cursor (b .end) (c .end)
+
+abbrev pub OfElement : List ℕ → Cursor → Element → Type 0
+OfElement s c (Element.Refused f) = Unit {0}
+OfElement s c (Found t b n) = Placed s c t b n
+
+-- what holds of a refusal and of a body holds of what is made of an extent
+by-extent : {A : Type 0} (P : A → Type 0) (Q : Extent → Type 0) (bad : Fault → A) (good : Cursor → A)
+    → ((f : Fault) → P (bad f)) → ((b : Cursor) → Q (Body b) → P (good b)) → (x : Extent) → Q x → P (onExtent x bad good)
+by-extent P Q bad good f g (Extent.Refused e) q = f e
+by-extent P Q bad good f g (Body b) q = g b q
+
+pub element-of : (s : List ℕ) (c : Cursor) → OfElement s c (elementAt s c)
+unfolding elementAt
+element-of s c =
+    by-lt (OfElement s c) _ _ (length s) (c .end) (λ h. tt)
+    (λ h. by-le (OfElement s c) _ _ (c .end) (c .at) (λ k. tt)
+    (λ k. by-eq (OfElement s c) _ _ (getD s (c .at) 0) 0 (λ l. tt)
+    (λ l. by-eq (OfElement s c) _ _ (getD s (c .at) 0 % 32) 31 (λ m. tt)
+    (λ m. by-extent (OfElement s c) (OfExtent s (c .at) (c .end)) _ _ (λ f. tt)
+    (λ b p. record { some = k; inside = h; tag = refl; not-zero = l; low-bits = m; body = p; next = refl })
+    (extentAt s (c .at) (c .end)) (extent-of s (c .at) (c .end) h)))))
+
+-- the facts of an element that was found
+pub found : (s : List ℕ) (c : Cursor) (w : Element) (t : ℕ) (b n : Cursor) → w ≡ elementAt s c → w ≡ Found t b n → Placed s c t b n
+found s c w t b n p q = rw (sym p ∙ q) at (element-of s c)
+
+-- what holds of a refusal and of an element that is found holds of what is made of them
+pub by-element : {A : Type 0} (P : A → Type 0) (Q : Element → Type 0) (bad : Fault → A) (good : ℕ → Cursor → Cursor → A)
+    → ((f : Fault) → P (bad f)) → ((t : ℕ) (b n : Cursor) → Q (Found t b n) → P (good t b n)) → (x : Element) → Q x → P (onElement x bad good)
+by-element P Q bad good f g (Element.Refused e) q = f e
+by-element P Q bad good f g (Found t b n) q = g t b n q
+
+abbrev OfExpected : ℕ → List ℕ → Cursor → Element → Type 0
+OfExpected due s c (Element.Refused f) = Unit {0}
+OfExpected due s c (Found t b n) = (t ≡ due) × Placed s c t b n
+
+expected-of : (due : ℕ) (s : List ℕ) (c : Cursor) → OfExpected due s c (expectAt due s c)
+unfolding expectAt
+expected-of due s c =
+    by-element (OfExpected due s c) (OfElement s c) _ _ (λ f. tt)
+    (λ t b n p. by-eq (OfExpected due s c) _ _ t due (λ h. (h, p)) (λ h. tt))
+    (elementAt s c) (element-of s c)
+
+-- the same of an element with the tag that is due
+pub expected : (due : ℕ) (s : List ℕ) (c : Cursor) (w : Element) (t : ℕ) (b n : Cursor)
+    → w ≡ expectAt due s c → w ≡ Found t b n → (t ≡ due) × Placed s c t b n
+expected due s c w t b n p q = rw (sym p ∙ q) at (expected-of due s c)
+
+-- a body that was found reaches no further than the bytes
+pub expected-inside : (due : ℕ) (s : List ℕ) (c : Cursor) (w : Element) (t : ℕ) (b n : Cursor)
+    → w ≡ expectAt due s c → w ≡ Found t b n → b .end ≤ length s
+expected-inside due s c w t b n p q =
+    let h = expected due s c w t b n p q in
+    omega (arith, h .1 .body .within, h .1 .inside)
