@@ -5,3 +5,6 @@ pub mod Content
 pub mod Placed
 pub mod Many
 pub mod Opaque
+pub mod Spans
+pub mod Header
+pub mod Values

@@ -7,6 +7,7 @@ use native.Mathlib.Omega.{arith}
 use native.Mathlib.Numerals.{add-one, add-two, add-three}
 use lib.ListN.{length, getD, drop}
 use lib.Seq.{drop-cons}
+use borrow.Author.Tests.{eq-eqb}
 use Rattle.der.specs.Choice.{pick}
 use Rattle.der.specs.Element.{cursor, within, oneOctet, twoOctets, extentAt, elementAt, expectAt, onExtent, onElement}
 use Rattle.der.specs.Octets.{lengthOctets}
@@ -129,25 +130,29 @@ pub by-element : {A : Type 0} (P : A → Type 0) (Q : Element → Type 0) (bad :
 by-element P Q bad good f g (Element.Refused e) q = f e
 by-element P Q bad good f g (Found t b n) q = g t b n q
 
+-- an element with the tag that is due is one that was found
 abbrev OfExpected : ℕ → List ℕ → Cursor → Element → Type 0
 OfExpected due s c (Element.Refused f) = Unit {0}
-OfExpected due s c (Found t b n) = (t ≡ due) × Placed s c t b n
+OfExpected due s c (Found t b n) = (t ≡ due) × (elementAt s c ≡ Found t b n)
 
 expected-of : (due : ℕ) (s : List ℕ) (c : Cursor) → OfExpected due s c (expectAt due s c)
 unfolding expectAt
 expected-of due s c =
-    by-element (OfExpected due s c) (OfElement s c) _ _ (λ f. tt)
+    by-element (OfExpected due s c) (λ x. elementAt s c ≡ x) _ _ (λ f. tt)
     (λ t b n p. by-eq (OfExpected due s c) _ _ t due (λ h. (h, p)) (λ h. tt))
-    (elementAt s c) (element-of s c)
+    (elementAt s c) refl
 
--- the same of an element with the tag that is due
 pub expected : (due : ℕ) (s : List ℕ) (c : Cursor) (w : Element) (t : ℕ) (b n : Cursor)
-    → w ≡ expectAt due s c → w ≡ Found t b n → (t ≡ due) × Placed s c t b n
+    → w ≡ expectAt due s c → w ≡ Found t b n → (t ≡ due) × (elementAt s c ≡ Found t b n)
 expected due s c w t b n p q = rw (sym p ∙ q) at (expected-of due s c)
+
+pub expect-is : (s : List ℕ) (c : Cursor) (t : ℕ) (b n : Cursor) → elementAt s c ≡ Found t b n → expectAt t s c ≡ Found t b n
+unfolding expectAt
+expect-is s c t b n e = rw (e, eq-eqb t t refl)
 
 -- a body that was found reaches no further than the bytes
 pub expected-inside : (due : ℕ) (s : List ℕ) (c : Cursor) (w : Element) (t : ℕ) (b n : Cursor)
     → w ≡ expectAt due s c → w ≡ Found t b n → b .end ≤ length s
 expected-inside due s c w t b n p q =
-    let h = expected due s c w t b n p q in
-    omega (arith, h .1 .body .within, h .1 .inside)
+    let h = found s c (elementAt s c) t b n refl (expected due s c w t b n p q .1) in
+    omega (arith, h .body .within, h .inside)

@@ -9,3 +9,4 @@ pub mod Opaque
 pub mod Octets
 pub mod Tree
 pub mod Span
+pub mod Follows

@@ -34,6 +34,11 @@ numberFrom v (d ∷ ds) = numberFrom (v * 256 + d) ds
 unfoldable pub number : List ℕ → ℕ
 number ds = numberFrom 0 ds
 
+-- "Tag: 00 and any byte whose low five bits are all ones are refused (2)."
+pub record TagForm (t : ℕ) : Type 0 where
+  pub not-zero : t ≡ 0 → ⊥
+  pub low-bits : t % 32 ≡ 31 → ⊥
+
 -- "INTEGER (02): 1 to 4 body bytes, minimal, not negative." (X.690, 8.3.2: the first nine bits are not all zero)
 pub record IntegerRule (body : List ℕ) : Type 0 where
   pub some : 1 ≤ length body

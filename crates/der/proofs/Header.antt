@@ -1,0 +1,109 @@
+-- A header is accepted exactly if the bytes are `tlv` of a tag and a body that ends within its parent.
+use mathlib.Core.Path.{_≡_, refl, sym, ap, _∙_}
+use mathlib.Core.List.{List, [], _∷_, _++_, append-assoc}
+use Prim.Native.Nat.{ℕ, zero, suc, _+_, _*_, _-_, _/_, _%_, _≤_, _<_}
+use native.Mathlib.Omega.{arith}
+use native.Mathlib.Numerals.{add-one}
+use lib.Dec.{leb, ltb, eqb}
+use lib.ListN.{length, getD, drop}
+use lib.Seq.{slice, drop-cons, length-slice}
+use borrow.Author.Tests.{lt-ltb, le-ltb, le-leb, lt-leb, eq-eqb, ne-eqb}
+use Rattle.der.specs.Choice.{pick}
+use Rattle.der.specs.Element.{cursor, within, oneOctet, twoOctets, extentAt, elementAt, expectAt, onExtent, onElement}
+use Rattle.der.specs.Content.{bytesOf}
+use Rattle.der.specs.Octets.{lengthOctets, tlv, TagForm}
+use Rattle.der.specs.Span.{Span, Bytes}
+use Rattle.der.specs.Follows.{Moved, HeaderIs}
+use Rattle.der.specs.declared.Cursor.{Cursor}
+use Rattle.der.specs.declared.Element.{Element}
+use Rattle.der.specs.declared.Element.the-variants.{Found}
+use Rattle.der.specs.declared.Extent.{Extent}
+use Rattle.der.specs.declared.Extent.the-variants.{Body}
+use Rattle.der.proofs.Picks.{either}
+use Rattle.der.proofs.Octets.{octets-short, octets-one, octets-two, length-tlv}
+use Rattle.der.proofs.Placed.{Placed, found}
+use Rattle.der.proofs.Spans.{span-one, span-of, span-join, span-split, span-at, span-slice, slice-span}
+
+-- the length octets that stand behind a tag are read as the body's extent
+module _ (s : List ℕ) (at end b n : ℕ) (inside : end ≤ length s) (fits : b + n ≤ end) where
+  within-is : (start size : ℕ) → start ≡ b → size ≡ n → within at start size end ≡ Body (cursor b (b + n))
+  unfolding within
+  within-is start size p q = rw (p, q, le-ltb end (b + n) fits)
+
+  -- the three forms, by what stands behind the tag
+  short-is : Span s (at + 1) b (n ∷ []) → n < 128 → extentAt s at end ≡ Body (cursor b (b + n))
+  unfolding extentAt
+  short-is p h =
+      let g : getD s (at + 1) 0 ≡ n = span-at s (at + 1) b 0 (at + 1) (n ∷ []) p (omega arith) (omega arith) in
+      rw (lt-leb end (at + 1) (omega (arith, p .size)), lt-ltb (getD s (at + 1) 0) 128 (omega arith)) (within-is (at + 2) (getD s (at + 1) 0) (omega (arith, p .size)) g)
+
+  one-is : Span s (at + 1) b (129 ∷ n ∷ []) → 128 ≤ n → extentAt s at end ≡ Body (cursor b (b + n))
+  unfolding extentAt oneOctet
+  one-is p h =
+      let f : getD s (at + 1) 0 ≡ 129 = span-at s (at + 1) b 0 (at + 1) (129 ∷ n ∷ []) p (omega arith) (omega arith) in
+      let g : getD s (at + 2) 0 ≡ n = span-at s (at + 1) b 1 (at + 2) (129 ∷ n ∷ []) p (omega arith) (omega arith) in
+      rw (f, lt-leb end (at + 1) (omega (arith, p .size)), lt-leb end (at + 2) (omega (arith, p .size)), le-ltb (getD s (at + 2) 0) 128 (omega arith))
+      (within-is (at + 3) (getD s (at + 2) 0) (omega (arith, p .size)) g)
+
+  two-is : Span s (at + 1) b (130 ∷ (n / 256) ∷ (n % 256) ∷ []) → 256 ≤ n → extentAt s at end ≡ Body (cursor b (b + n))
+  unfolding extentAt twoOctets
+  two-is p h =
+      let f : getD s (at + 1) 0 ≡ 130 = span-at s (at + 1) b 0 (at + 1) (130 ∷ (n / 256) ∷ (n % 256) ∷ []) p (omega arith) (omega arith) in
+      let g : getD s (at + 2) 0 ≡ n / 256 = span-at s (at + 1) b 1 (at + 2) (130 ∷ (n / 256) ∷ (n % 256) ∷ []) p (omega arith) (omega arith) in
+      let i : getD s (at + 3) 0 ≡ n % 256 = span-at s (at + 1) b 2 (at + 3) (130 ∷ (n / 256) ∷ (n % 256) ∷ []) p (omega arith) (omega arith) in
+      rw (f, lt-leb end (at + 1) (omega (arith, p .size)), lt-leb end (at + 3) (omega (arith, p .size)), ne-eqb (getD s (at + 2) 0) 0 (λ z. omega arith))
+      (within-is (at + 4) (getD s (at + 2) 0 * 256 + getD s (at + 3) 0) (omega (arith, p .size)) (omega arith))
+
+  extent-is : Span s (at + 1) b (lengthOctets n) → n < 65536 → extentAt s at end ≡ Body (cursor b (b + n))
+  extent-is p h =
+      either n 128
+      (λ k. short-is (rw (octets-short n k) at p) k)
+      (λ k. either n 256 (λ l. one-is (rw (octets-one n k l) at p) k) (λ l. two-is (rw (octets-two n l h) at p) l))
+
+element-is : (s : List ℕ) (at end t : ℕ) (b : Cursor) → end ≤ length s → at < end → getD s at 0 ≡ t → TagForm t
+    → extentAt s at end ≡ Body b → elementAt s (cursor at end) ≡ Found t b (cursor (b .end) end)
+unfolding elementAt
+element-is s at end t b i l g form x =
+    rw (g, le-ltb (length s) end i, lt-leb end at l, ne-eqb t 0 (form .not-zero), ne-eqb (t % 32) 31 (form .low-bits), x)
+
+-- what is written as `tlv` is found: k is told where the body begins
+pub header-then : {P : Type 0} (s : List ℕ) (at e end t : ℕ) (body : List ℕ) → TagForm t → length body < 65536
+    → Span s at e (tlv t body) → e ≤ end → end ≤ length s
+    → ((b : ℕ) → elementAt s (cursor at end) ≡ Found t (cursor b e) (cursor e end) → Span s b e body → P) → P
+unfolding tlv
+header-then s at e end t body form small p h i k =
+    span-split s at e (t ∷ []) (lengthOctets (length body) ++ body) p
+    (λ a q r.
+    span-split s a e (lengthOctets (length body)) body r
+    (λ b o c.
+    let z : at + 1 ≡ a = q .size in
+    let g : getD s at 0 ≡ t = span-at s at a 0 at (t ∷ []) q (omega arith) (omega arith) in
+    let x : extentAt s at end ≡ Body (cursor b e) =
+            rw (← (c .size)) (extent-is s at end b (length body) i (omega (arith, c .size)) (rw (← z) at o) small) in
+    k b (element-is s at end t (cursor b e) i (omega (arith, o .size, c .size)) g form x) c))
+
+-- what is found is written as `tlv`, in a list of bytes
+pub header-sound : (s : List ℕ) (c : Cursor) (t : ℕ) (b n : Cursor) → Bytes s → elementAt s c ≡ Found t b n → HeaderIs s c t b n
+unfolding tlv
+header-sound s c t b n bs e =
+    let p = found s c (elementAt s c) t b n refl e in
+    let inside : b .end ≤ length s = omega (arith, p .body .within, p .inside) in
+    let body = span-slice s (b .at) (b .end) (p .body .size) inside in
+    let size : length (bytesOf s b) ≡ b .end - b .at = length-slice (b .at) (b .end) s inside in
+    let octets : drop (c .at + 1) s ≡ lengthOctets (length (bytesOf s b)) ++ drop (b .at) s = rw size (p .body .octets bs) in
+    let tag : Span s (c .at) (c .at + 1) (t ∷ []) = rw (p .tag) (span-one s (c .at) (omega (arith, p .some, p .inside))) in
+    let length-of = span-of s (c .at + 1) (b .at) (lengthOctets (length (bytesOf s b))) octets (omega (arith, p .body .past)) (omega (arith, p .body .size)) in
+    record {
+      form = record { not-zero = p .not-zero; low-bits = p .low-bits };
+      small = omega (arith, size, p .body .small bs, p .body .size);
+      body = body;
+      whole = span-join s _ _ _ _ _ tag (span-join s _ _ _ _ _ length-of body);
+      moved = record { within = p .body .within; inside = p .inside; next = p .next };
+    }
+
+pub header-complete : (s : List ℕ) (c : Cursor) (t : ℕ) (b n : Cursor) → HeaderIs s c t b n → elementAt s c ≡ Found t b n
+header-complete s c t b n h =
+    header-then s (c .at) (b .end) (c .end) t (bytesOf s b) (h .form) (h .small) (h .whole) (h .moved .within) (h .moved .inside)
+    (λ a e p.
+    let z : a ≡ b .at = omega (arith, p .size, h .body .size) in
+    e ∙ rw (z, h .moved .next))
