@@ -22,7 +22,7 @@ use Rattle.der.specs.declared.Extent.the-variants.{Body}
 use Rattle.der.proofs.Picks.{either}
 use Rattle.der.proofs.Octets.{octets-short, octets-one, octets-two, length-tlv}
 use Rattle.der.proofs.Placed.{Placed, found}
-use Rattle.der.proofs.Spans.{span-one, span-of, span-join, span-split, span-at, span-slice, slice-span}
+use Rattle.der.proofs.Spans.{span-one, span-of, span-join, span-split, span-at, span-slice, span-to}
 
 -- the length octets that stand behind a tag are read as the body's extent
 module _ (s : List ℕ) (at end b n : ℕ) (inside : end ≤ length s) (fits : b + n ≤ end) where
@@ -107,3 +107,10 @@ header-complete s c t b n h =
     (λ a e p.
     let z : a ≡ b .at = omega (arith, p .size, h .body .size) in
     e ∙ rw (z, h .moved .next))
+
+-- the cursor past an element stands at its body's end
+pub header-next : (s : List ℕ) (c : Cursor) (t : ℕ) (b n : Cursor) → HeaderIs s c t b n
+    → Span s (c .at) (n .at) (tlv t (bytesOf s b)) × Moved s c (n .at) n
+header-next s c t b n h =
+    let stop : b .end ≡ n .at = rw (h .moved .next) in
+    (span-to s (c .at) (b .end) (n .at) (tlv t (bytesOf s b)) stop (h .whole), rw stop at (h .moved))

@@ -8,3 +8,5 @@ pub mod Opaque
 pub mod Spans
 pub mod Header
 pub mod Values
+pub mod Trees
+pub mod Grammar

@@ -44,11 +44,11 @@ module _ {A S : Type 0} (on : A → (S → ℕ → A) → A) (done : S → ℕ �
       go zero k e = absurd (omega arith)
       go (suc f) k e = record { fuel = f; enough = omega arith; rest = e ∙ many-more f st at h }
 
-  -- What holds at the end, and passes from what follows a step to the step, holds of the whole loop.
-  pub many-holds : (P : A → Type 0) (I : S → ℕ → Type 0)
-      → ((st : S) (at : ℕ) → end ≤ at → I st at → P (done st at))
-      → ((st : S) (at : ℕ) → at < end → I st at → (k : S → ℕ → A) → ((st′ : S) (at′ : ℕ) → at < at′ → I st′ at′ → P (k st′ at′)) → P (on (step st at) k))
-      → (fuel : ℕ) (st : S) (at : ℕ) → end ≤ at + fuel → I st at → P (many on done step fuel end st at)
+  -- What holds at the end, and passes from what follows a step to the step, holds of the whole loop; I is what each turn keeps.
+  pub many-holds : (P : S → ℕ → A → Type 0) (I : S → ℕ → Type 0)
+      → ((st : S) (at : ℕ) → end ≤ at → I st at → P st at (done st at))
+      → ((st : S) (at : ℕ) → at < end → I st at → (k : S → ℕ → A) → ((st′ : S) (at′ : ℕ) → at < at′ → I st′ at′ → P st′ at′ (k st′ at′)) → P st at (on (step st at) k))
+      → (fuel : ℕ) (st : S) (at : ℕ) → end ≤ at + fuel → I st at → P st at (many on done step fuel end st at)
   many-holds P I ends steps zero st at h i = rw (many-end zero st at (omega arith)) (ends st at (omega arith) i)
   many-holds P I ends steps (suc f) st at h i =
       either at end

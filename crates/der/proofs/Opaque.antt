@@ -64,7 +64,7 @@ by-step P check end m at k Q f g q = go (check (cursor at end)) q
 run-of : (s : List ℕ) (check : Cursor → Checked) → ((c : Cursor) → OfOpaque s c (check c)) → (c : Cursor) → OfRun c (run check c)
 unfolding run
 run-of s check each c =
-    many-holds goOn (atEnd (c .end)) (counted check (c .end)) (c .end) (OfRun c)
+    many-holds goOn (atEnd (c .end)) (counted check (c .end)) (c .end) (λ m at. OfRun c)
     (λ m at. (c .at + 2 * m ≤ at) × (c .at ≤ c .end → at ≤ c .end))
     (λ m at h i. record { long = i .0; stop = λ l. omega (arith, i .1 l); end = refl })
     (λ m at h i k go.

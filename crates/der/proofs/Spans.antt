@@ -45,6 +45,10 @@ module _ (s : List ℕ) where
   pub span-same : (a b : ℕ) (x y : List ℕ) → Span s a b x → Span s a b y → x ≡ y
   span-same a b x y p q = append-same x y (drop b s) (drop b s) (omega (arith, p .size, q .size)) (sym (p .bytes) ∙ q .bytes) .0
 
+  -- the same bytes up to an end that is written otherwise
+  pub span-to : (a b c : ℕ) (x : List ℕ) → b ≡ c → Span s a b x → Span s a c x
+  span-to a b c x e p = rw e at p
+
   -- the bytes of a range, as a list
   pub span-slice : (a b : ℕ) → a ≤ b → b ≤ length s → Span s a b (slice a b s)
   span-slice a b h k =
