@@ -9,7 +9,8 @@ use lib.ListN.{length, getD, drop}
 use lib.Seq.{slice, drop-cons, length-slice}
 use borrow.Author.Tests.{lt-ltb, le-ltb, le-leb, lt-leb, eq-eqb, ne-eqb}
 use Rattle.der.specs.Choice.{pick}
-use Rattle.der.specs.Element.{cursor, within, oneOctet, twoOctets, extentAt, elementAt, expectAt, onExtent, onElement}
+use Rattle.der.specs.Element.{cursor, fault, tagAt, finishAt, within, oneOctet, twoOctets, extentAt, elementAt, expectAt, onExtent, onElement}
+use Rattle.der.specs.Numbers.{leftOver}
 use Rattle.der.specs.Content.{bytesOf}
 use Rattle.der.specs.Octets.{lengthOctets, tlv, TagForm}
 use Rattle.der.specs.Span.{Span, Bytes}
@@ -17,6 +18,8 @@ use Rattle.der.specs.Follows.{Moved, HeaderIs}
 use Rattle.der.specs.declared.Cursor.{Cursor}
 use Rattle.der.specs.declared.Element.{Element}
 use Rattle.der.specs.declared.Element.the-variants.{Found}
+use Rattle.der.specs.declared.Checked.{Checked}
+use Rattle.der.specs.declared.Checked.the-variants.{Passed}
 use Rattle.der.specs.declared.Extent.{Extent}
 use Rattle.der.specs.declared.Extent.the-variants.{Body}
 use Rattle.der.proofs.Picks.{either}
@@ -114,3 +117,26 @@ pub header-next : (s : List ℕ) (c : Cursor) (t : ℕ) (b n : Cursor) → Heade
 header-next s c t b n h =
     let stop : b .end ≡ n .at = rw (h .moved .next) in
     (span-to s (c .at) (b .end) (n .at) (tlv t (bytesOf s b)) stop (h .whole), rw stop at (h .moved))
+
+-- what is left in a parent, and the next byte
+pub finish-done : (c : Cursor) → c .end ≤ c .at → finishAt c ≡ Passed 0 c
+unfolding finishAt
+finish-done c h = rw (le-ltb (c .at) (c .end) h)
+
+pub finish-left : (c : Cursor) → c .at < c .end → finishAt c ≡ Checked.Refused (fault leftOver (c .at))
+unfolding finishAt
+finish-left c h = rw (lt-ltb (c .at) (c .end) h)
+
+pub finish-sound : (c : Cursor) → finishAt c ≡ Passed 0 c → c .end ≤ c .at
+finish-sound c e =
+    either (c .at) (c .end)
+    (λ h. let z = finish-left c h in let y : Checked.Refused (fault leftOver (c .at)) ≡ Passed 0 c = cc in let x : _≡_ {A = ℕ} 0 1 = cc in absurd (omega arith))
+    (λ h. h)
+
+pub tag-left : (s : List ℕ) (c : Cursor) → c .at < c .end → c .end ≤ length s → tagAt s c ≡ getD s (c .at) 0
+unfolding tagAt
+tag-left s c h i = rw (le-ltb (length s) (c .end) i, lt-leb (c .end) (c .at) h)
+
+pub tag-none : (s : List ℕ) (c : Cursor) → c .end ≤ c .at → tagAt s c ≡ 0
+unfolding tagAt
+tag-none s c h = either (length s) (c .end) (λ k. rw (lt-ltb (length s) (c .end) k)) (λ k. rw (le-ltb (length s) (c .end) k, le-leb (c .end) (c .at) h))

@@ -10,3 +10,4 @@ pub mod Header
 pub mod Values
 pub mod Trees
 pub mod Grammar
+pub mod Laws
