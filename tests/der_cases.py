@@ -1,0 +1,48 @@
+#!/usr/bin/env python3
+"""Writes crates/der_cases/stdin and stdout from the cases of tests/der_cases.txt, whose answers are written there by hand.
+
+    tests/der_cases.py            # writes both files
+    tests/der_cases.py --check    # says whether they are what the cases give
+"""
+import pathlib
+import sys
+
+ROOT = pathlib.Path(__file__).resolve().parent.parent
+
+
+def octets(words):
+    out = bytearray()
+    for word in words:
+        value, _, times = word.partition("*")
+        out += bytes([int(value, 16)]) * int(times or 1)
+    return bytes(out)
+
+
+def frame(line):
+    call, answer = line.split("=", 1)
+    letter, argument, at, end, *words = call.split()
+    data = octets(words)
+    end = len(data) if end == "." else int(end)
+    numbers = b"".join(n.to_bytes(2, "big") for n in (int(at), end, len(data)))
+    return letter.encode() + bytes([int(argument, 16)]) + numbers + data, answer.strip() + "\n"
+
+
+def main():
+    lines = (ROOT / "tests/der_cases.txt").read_text().splitlines()
+    cases = [frame(x) for x in lines if x.strip() and not x.startswith("#")]
+    made = {
+        "stdin": b"".join(c[0] for c in cases),
+        "stdout": "".join(c[1] for c in cases).encode(),
+    }
+    differs = 0
+    for name, data in made.items():
+        path = ROOT / "crates/der_cases" / name
+        if "--check" in sys.argv:
+            differs += path.read_bytes() != data
+        else:
+            path.write_bytes(data)
+    print(f"{len(cases)} cases, {len(made['stdin'])} bytes" + (", differs" if differs else ""))
+    return 1 if differs or len(made["stdin"]) > 65536 else 0
+
+
+sys.exit(main())
