@@ -12,7 +12,7 @@ use lib.Dec.{leb, ltb, eqb}
 use lib.ListN.{length, getD, take, length-take, drop-of-length-le}
 use lib.Seq.{slice, slice-cons, length-slice, getD-take, getD-drop}
 use borrow.Author.Tests.{ltb-true, ltb-false, leb-true, leb-false, eqb-true, eqb-false, lt-ltb, le-ltb, le-leb, lt-leb, eq-eqb, ne-eqb}
-use Rattle.der.specs.Choice.{pick}
+use Rattle.der.specs.Choice.{if_then_else_}
 use Rattle.der.specs.Content.{breaks, parts, identifierBody, bytesOf, integerBody, andDigit, integerValue, IntegerAt}
 use Rattle.der.specs.Octets.{number, numberFrom, IntegerRule, IdentifierRule}
 use Rattle.der.specs.declared.Cursor.{Cursor}
@@ -21,19 +21,15 @@ use Rattle.der.specs.declared.Cursor.{Cursor}
 no-false : {A : Type 0} → false ≡ true → A
 no-false e = let z : _≡_ {A = ℕ} 0 1 = cc in absurd (omega arith)
 
-both : (t v : Bool) → pick t false v ≡ true → (t ≡ false) × (v ≡ true)
+both : (t v : Bool) → (if t then false else v) ≡ true → (t ≡ false) × (v ≡ true)
 both true v e = no-false e
 both false v e = (refl, e)
 
-both-true : (t v : Bool) → pick t v false ≡ true → (t ≡ true) × (v ≡ true)
-both-true true v e = (refl, e)
-both-true false v e = no-false e
-
-either : (t v : Bool) → pick t true v ≡ true → t ≡ false → v ≡ true
+either : (t v : Bool) → (if t then true else v) ≡ true → t ≡ false → v ≡ true
 either true v e f = no-false (sym f)
 either false v e f = e
 
-if-so : (t v : Bool) → pick t v true ≡ true → t ≡ true → v ≡ true
+if-so : (t v : Bool) → (if t then v else true) ≡ true → t ≡ true → v ≡ true
 if-so true v e f = e
 if-so false v e f = no-false f
 
@@ -114,26 +110,26 @@ unfolding integerBody
 held-of s b e =
     let p = both (leb (b .end) (b .at)) _ e in
     let q = both (ltb (b .at + 4) (b .end)) _ (p .1) in
-    let r = both-true (ltb (getD s (b .at) 0) 128) _ (q .1) in
+    let r = both (leb 128 (getD s (b .at) 0)) _ (q .1) in
     record {
       some = leb-false _ _ (p .0);
       four = ltb-false _ _ (q .0);
-      positive = ltb-true _ _ (r .0);
+      positive = leb-false _ _ (r .0);
       minimal = λ k z. leb-true _ _ (if-so _ _ (either _ _ (r .1) (lt-leb _ _ k)) (eq-eqb _ _ z));
     }
 
-minimal-of : (x y : ℕ) (t : Bool) → eqb x 0 ≡ t → (x ≡ 0 → 128 ≤ y) → pick t (leb 128 y) true ≡ true
+minimal-of : (x y : ℕ) (t : Bool) → eqb x 0 ≡ t → (x ≡ 0 → 128 ≤ y) → (if t then leb 128 y else true) ≡ true
 minimal-of x y true e h = le-leb _ _ (h (eqb-true _ _ e))
 minimal-of x y false e h = refl
 
 rest-of : (s : List ℕ) (a e : ℕ) (t : Bool) → leb e (a + 1) ≡ t → Held s a e
-    → pick t true (pick (eqb (getD s a 0) 0) (leb 128 (getD s (a + 1) 0)) true) ≡ true
+    → (if t then true else (if eqb (getD s a 0) 0 then leb 128 (getD s (a + 1) 0) else true)) ≡ true
 rest-of s a e true q r = refl
 rest-of s a e false q r = minimal-of _ _ _ refl (r .minimal (leb-false _ _ q))
 
 of-held : (s : List ℕ) (b : Cursor) → Held s (b .at) (b .end) → integerBody s b ≡ true
 unfolding integerBody
-of-held s b r = rw (lt-leb _ _ (r .some), le-ltb _ _ (r .four), lt-ltb _ _ (r .positive)) (rest-of s (b .at) (b .end) _ refl r)
+of-held s b r = rw (lt-leb _ _ (r .some), le-ltb _ _ (r .four), lt-leb _ _ (r .positive)) (rest-of s (b .at) (b .end) _ refl r)
 
 -- A digit more, and the number of a body of at most four bytes.
 module _ (s : List ℕ) (e : ℕ) (inside : e ≤ length s) where
@@ -142,7 +138,7 @@ module _ (s : List ℕ) (e : ℕ) (inside : e ≤ length s) where
   digit-more a v h = rw (add-one, slice-cons a e s 0)
 
   and-digit : (a v : ℕ) (t : Bool) → ltb a e ≡ t
-      → numberFrom v (slice a e s) ≡ numberFrom (pick t (v * 256 + getD s a 0) v) (slice (a + 1) e s)
+      → numberFrom v (slice a e s) ≡ numberFrom (if t then v * 256 + getD s a 0 else v) (slice (a + 1) e s)
   and-digit a v true q = digit-more a v (ltb-true _ _ q)
   and-digit a v false q = let h : e ≤ a = ltb-false _ _ q in rw (slice-past s a e h, slice-past s (a + 1) e (omega arith))
 
@@ -196,7 +192,7 @@ module _ (s : List ℕ) (b : Cursor) (inside : b .end ≤ length s) where
   integer-value-of r = value-of (held-of-rule r)
 
 -- A digit more is 256 times as much at most; the first one is below 128.
-below : (x v k : ℕ) (t : Bool) → v < k → x < 256 → pick t (v * 256 + x) v < k * 256
+below : (x v k : ℕ) (t : Bool) → v < k → x < 256 → (if t then v * 256 + x else v) < k * 256
 below x v k true h g = omega arith
 below x v k false h g = omega arith
 

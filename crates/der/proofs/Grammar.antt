@@ -1,29 +1,25 @@
 -- The opaque check accepts exactly the encodings of trees of as many levels as it is given, and counts their elements.
-use mathlib.Core.Path.{_≡_, refl, sym, ap, _∙_}
-use mathlib.Core.List.{List, [], _∷_, _++_}
-use Prim.Native.Nat.{ℕ, zero, suc, _+_, _*_, _-_, _/_, _%_, _≤_, _<_, max}
+use mathlib.Core.Path.{_≡_, refl, sym, _∙_}
+use mathlib.Core.List.{List}
+use Prim.Native.Nat.{ℕ, zero, suc, _+_, _-_, _/_, _%_, _≤_, _<_}
 use native.Mathlib.Omega.{arith}
-use lib.Dec.{eqb}
-use lib.ListN.{length, length-append}
+use lib.ListN.{length}
 use borrow.Author.Tests.{eq-eqb, ne-eqb}
-use Rattle.der.specs.Choice.{pick}
-use Rattle.der.specs.Element.{cursor, elementAt, onElement}
+use Rattle.der.specs.Element.{cursor, elementAt}
 use Rattle.der.specs.Content.{bytesOf}
 use Rattle.der.specs.Many.{many}
-use Rattle.der.specs.Opaque.{onChecked, counted, goOn, atEnd, run, opaqueAt, elementsAt}
+use Rattle.der.specs.Opaque.{counted, goOn, atEnd, run, opaqueAt, elementsAt}
 use Rattle.der.specs.Span.{Span, Bytes}
 use Rattle.der.specs.Tree.{Tree, primitive, constructed, Trees, none, more, encode, encodes, elements, elementsIn, depth, deepest, Formed, AllFormed}
-use Rattle.der.specs.Follows.{Moved, HeaderIs, OpaqueIs, RunIs}
-use Rattle.der.specs.declared.Fault.{Fault}
+use Rattle.der.specs.Follows.{OpaqueIs, RunIs}
 use Rattle.der.specs.declared.Cursor.{Cursor}
-use Rattle.der.specs.declared.Element.{Element}
 use Rattle.der.specs.declared.Element.the-variants.{Found}
 use Rattle.der.specs.declared.Checked.{Checked}
 use Rattle.der.specs.declared.Checked.the-variants.{Passed}
-use Rattle.der.proofs.Picks.{by-eq}
+use Rattle.der.proofs.Choices.{by-eq}
 use Rattle.der.proofs.Placed.{by-element}
 use Rattle.der.proofs.Many.{many-holds, many-end, going-on}
-use Rattle.der.proofs.Opaque.{by-checked, by-step, opaqueStep, opaque-step}
+use Rattle.der.proofs.Opaque.{by-checked, by-step, opaque-step}
 use Rattle.der.proofs.Spans.{span-empty, span-join, span-split, slice-span}
 use Rattle.der.proofs.Header.{header-then, header-sound, header-next}
 use Rattle.der.proofs.Trees.{tree-long, tree-some}

@@ -1,30 +1,25 @@
 -- A header is accepted exactly if the bytes are `tlv` of a tag and a body that ends within its parent.
-use mathlib.Core.Path.{_≡_, refl, sym, ap, _∙_}
-use mathlib.Core.List.{List, [], _∷_, _++_, append-assoc}
-use Prim.Native.Nat.{ℕ, zero, suc, _+_, _*_, _-_, _/_, _%_, _≤_, _<_}
+use mathlib.Core.Path.{_≡_, refl, _∙_}
+use mathlib.Core.List.{List, [], _∷_, _++_}
+use Prim.Native.Nat.{ℕ, _+_, _*_, _-_, _/_, _%_, _≤_, _<_}
 use native.Mathlib.Omega.{arith}
-use native.Mathlib.Numerals.{add-one}
-use lib.Dec.{leb, ltb, eqb}
 use lib.ListN.{length, getD, drop}
-use lib.Seq.{slice, drop-cons, length-slice}
-use borrow.Author.Tests.{lt-ltb, le-ltb, le-leb, lt-leb, eq-eqb, ne-eqb}
-use Rattle.der.specs.Choice.{pick}
-use Rattle.der.specs.Element.{cursor, fault, tagAt, finishAt, within, oneOctet, twoOctets, extentAt, elementAt, expectAt, onExtent, onElement}
+use lib.Seq.{length-slice}
+use borrow.Author.Tests.{lt-ltb, le-ltb, lt-leb, ne-eqb}
+use Rattle.der.specs.Element.{cursor, fault, tagAt, finishAt, within, oneOctet, twoOctets, extentAt, elementAt}
 use Rattle.der.specs.Numbers.{leftOver}
 use Rattle.der.specs.Content.{bytesOf}
 use Rattle.der.specs.Octets.{lengthOctets, tlv, TagForm}
 use Rattle.der.specs.Span.{Span, Bytes}
 use Rattle.der.specs.Follows.{Moved, HeaderIs}
 use Rattle.der.specs.declared.Cursor.{Cursor}
-use Rattle.der.specs.declared.Element.{Element}
 use Rattle.der.specs.declared.Element.the-variants.{Found}
 use Rattle.der.specs.declared.Checked.{Checked}
 use Rattle.der.specs.declared.Checked.the-variants.{Passed}
-use Rattle.der.specs.declared.Extent.{Extent}
 use Rattle.der.specs.declared.Extent.the-variants.{Body}
-use Rattle.der.proofs.Picks.{either}
-use Rattle.der.proofs.Octets.{octets-short, octets-one, octets-two, length-tlv}
-use Rattle.der.proofs.Placed.{Placed, found}
+use Rattle.der.proofs.Choices.{either}
+use Rattle.der.proofs.Octets.{octets-short, octets-one, octets-two}
+use Rattle.der.proofs.Placed.{found}
 use Rattle.der.proofs.Spans.{span-one, span-of, span-join, span-split, span-at, span-slice, span-to}
 
 -- the length octets that stand behind a tag are read as the body's extent
@@ -82,7 +77,7 @@ header-then s at e end t body form small p h i k =
     let z : at + 1 ≡ a = q .size in
     let g : getD s at 0 ≡ t = span-at s at a 0 at (t ∷ []) q (omega arith) (omega arith) in
     let x : extentAt s at end ≡ Body (cursor b e) =
-            rw (← (c .size)) (extent-is s at end b (length body) i (omega (arith, c .size)) (rw (← z) at o) small) in
+    rw (← (c .size)) (extent-is s at end b (length body) i (omega (arith, c .size)) (rw (← z) at o) small) in
     k b (element-is s at end t (cursor b e) i (omega (arith, o .size, c .size)) g form x) c))
 
 -- what is found is written as `tlv`, in a list of bytes
@@ -135,8 +130,9 @@ finish-sound c e =
 
 pub tag-left : (s : List ℕ) (c : Cursor) → c .at < c .end → c .end ≤ length s → tagAt s c ≡ getD s (c .at) 0
 unfolding tagAt
-tag-left s c h i = rw (le-ltb (length s) (c .end) i, lt-leb (c .end) (c .at) h)
+tag-left s c h i = rw (le-ltb (length s) (c .end) i, lt-ltb (c .at) (c .end) h)
 
 pub tag-none : (s : List ℕ) (c : Cursor) → c .end ≤ c .at → tagAt s c ≡ 0
 unfolding tagAt
-tag-none s c h = either (length s) (c .end) (λ k. rw (lt-ltb (length s) (c .end) k)) (λ k. rw (le-ltb (length s) (c .end) k, le-leb (c .end) (c .at) h))
+tag-none s c h =
+    either (length s) (c .end) (λ k. rw (lt-ltb (length s) (c .end) k)) (λ k. rw (le-ltb (length s) (c .end) k, le-ltb (c .at) (c .end) h))

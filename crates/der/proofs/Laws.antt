@@ -12,7 +12,7 @@ use Rattle.der.specs.Content.{identifierBody, identifierAt, integerAt}
 use Rattle.der.specs.Opaque.{opaqueAt, elementsAt}
 use Rattle.der.specs.Octets.{lengthOctets, tlv, number, integerOctets, IdentifierRule, IntegerRule}
 use Rattle.der.specs.Span.{Bytes}
-use Rattle.der.specs.Tree.{Tree, Trees, encode, encodes, elements, elementsIn, Formed, AllFormed, siblings}
+use Rattle.der.specs.Tree.{Tree, Trees, encode, encodes, Formed, AllFormed, siblings}
 use Rattle.der.specs.Follows.{HeaderIs, IdentifierIs, IntegerIs, OpaqueIs, RunIs}
 use Rattle.der.specs.declared.Cursor.{Cursor}
 use Rattle.der.specs.declared.Element.the-variants.{Found}

@@ -1,5 +1,5 @@
 -- The laws of `der`, and the rules that close most needs of its functions.
-pub mod Picks
+pub mod Choices
 pub mod Octets
 pub mod Content
 pub mod Placed

@@ -4,7 +4,7 @@ use Prim.Native.Nat.{ℕ, zero, suc, _+_, _-_, _≤_, _<_}
 use native.Mathlib.Omega.{arith}
 use borrow.Author.Tests.{lt-ltb, le-ltb}
 use Rattle.der.specs.Many.{many}
-use Rattle.der.proofs.Picks.{either}
+use Rattle.der.proofs.Choices.{either}
 
 module _ {A S : Type 0} (on : A → (S → ℕ → A) → A) (done : S → ℕ → A) (step : S → ℕ → A) (end : ℕ) where
   -- at the end

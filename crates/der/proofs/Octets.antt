@@ -6,7 +6,7 @@ use native.Mathlib.Omega.{arith}
 use lib.ListN.{length, getD, length-append, List·getD-append}
 use Rattle.der.specs.Octets.{digitsFrom, digits, lengthOctets, tlv, integerOctets, numberFrom, number, IntegerRule}
 use Rattle.der.specs.Span.{Bytes}
-use Rattle.der.proofs.Picks.{pick-lt, pick-le, either}
+use Rattle.der.proofs.Choices.{chosen-lt, chosen-le, either}
 
 -- any fuel above the number gives its digits
 enough : (f g n : ℕ) → n < f → n < g → digitsFrom f n ≡ digitsFrom g n
@@ -15,16 +15,16 @@ enough zero g n h k = absurd (omega arith)
 enough (suc f) zero n h k = absurd (omega arith)
 enough (suc f) (suc g) n h k =
     either n 256
-    (λ l. pick-lt n 256 _ _ l ∙ sym (pick-lt n 256 _ _ l))
-    (λ l. pick-le n 256 _ _ l ∙ ap (λ (d : List ℕ). d ++ (n % 256 ∷ [])) (enough f g (n / 256) (omega arith) (omega arith)) ∙ sym (pick-le n 256 _ _ l))
+    (λ l. chosen-lt n 256 _ _ l ∙ sym (chosen-lt n 256 _ _ l))
+    (λ l. chosen-le n 256 _ _ l ∙ ap (λ (d : List ℕ). d ++ (n % 256 ∷ [])) (enough f g (n / 256) (omega arith) (omega arith)) ∙ sym (chosen-le n 256 _ _ l))
 
 pub digits-small : (n : ℕ) → n < 256 → digits n ≡ n ∷ []
 unfolding digits digitsFrom
-digits-small n h = pick-lt n 256 _ _ h
+digits-small n h = chosen-lt n 256 _ _ h
 
 pub digits-more : (n : ℕ) → 256 ≤ n → digits n ≡ digits (n / 256) ++ (n % 256 ∷ [])
 unfolding digits digitsFrom
-digits-more n h = pick-le n 256 _ _ h ∙ ap (λ (d : List ℕ). d ++ (n % 256 ∷ [])) (enough n (suc (n / 256)) (n / 256) (omega arith) (omega arith))
+digits-more n h = chosen-le n 256 _ _ h ∙ ap (λ (d : List ℕ). d ++ (n % 256 ∷ [])) (enough n (suc (n / 256)) (n / 256) (omega arith) (omega arith))
 
 -- what holds of one digit, and of more digits if of all but the last, holds of all digits
 pub digits-induction : (P : ℕ → List ℕ → Type 0) → ((n : ℕ) → n < 256 → P n (n ∷ [])) → ((n : ℕ) → 256 ≤ n → P (n / 256) (digits (n / 256)) → P n (digits (n / 256) ++ (n % 256 ∷ []))) → (n : ℕ) → P n (digits n)
@@ -91,11 +91,11 @@ digits-number d ds h b =
 -- length octets: the three short forms, and that they stand for one number alone
 pub octets-short : (n : ℕ) → n < 128 → lengthOctets n ≡ n ∷ []
 unfolding lengthOctets
-octets-short n h = pick-lt n 128 _ _ h
+octets-short n h = chosen-lt n 128 _ _ h
 
 octets-long : (n : ℕ) → 128 ≤ n → lengthOctets n ≡ (128 + length (digits n)) ∷ digits n
 unfolding lengthOctets
-octets-long n h = pick-le n 128 _ _ h
+octets-long n h = chosen-le n 128 _ _ h
 
 pub octets-one : (n : ℕ) → 128 ≤ n → n < 256 → lengthOctets n ≡ 129 ∷ n ∷ []
 octets-one n h k = rw (octets-long n h, digits-small n k)
@@ -153,11 +153,11 @@ tlv-bytes t a h k b = (h, bytes-append (lengthOctets (length a)) a (octets-bytes
 -- the contents of an INTEGER: the digits, behind a zero if the first is 128 or more
 integer-plain : (n : ℕ) → getD (digits n) 0 0 < 128 → integerOctets n ≡ digits n
 unfolding integerOctets
-integer-plain n h = pick-lt (getD (digits n) 0 0) 128 _ _ h
+integer-plain n h = chosen-lt (getD (digits n) 0 0) 128 _ _ h
 
 integer-padded : (n : ℕ) → 128 ≤ getD (digits n) 0 0 → integerOctets n ≡ 0 ∷ digits n
 unfolding integerOctets
-integer-padded n h = pick-le (getD (digits n) 0 0) 128 _ _ h
+integer-padded n h = chosen-le (getD (digits n) 0 0) 128 _ _ h
 
 number-zero : (ds : List ℕ) → number (0 ∷ ds) ≡ number ds
 unfolding number numberFrom

@@ -1,17 +1,15 @@
 -- The laws of the opaque check that the code leans on: how far it goes, how many elements it counts, and its loop over siblings.
-use mathlib.Core.Path.{_≡_, refl, sym, ap, _∙_}
+use mathlib.Core.Path.{_≡_, refl, sym, _∙_}
 use mathlib.Core.List.{List}
 use Prim.Native.Nat.{ℕ, zero, suc, _+_, _*_, _-_, _/_, _%_, _^_, _≤_, _<_}
 use native.Mathlib.Omega.{arith}
-use native.Mathlib.Numerals.{add-one}
 use lib.Dec.{eqb, eqb·suc-zero}
 use lib.ListN.{length}
 use mir.Val.{Fits}
 use mir.Syntax.{w64}
-use Rattle.der.specs.Choice.{pick}
+use Rattle.der.specs.Choice.{if_then_else_}
 use Rattle.der.specs.Element.{cursor, fault, elementAt, onElement}
 use Rattle.der.specs.Numbers.{tooMany}
-use Rattle.der.specs.Many.{many}
 use Rattle.der.specs.Opaque.{onChecked, counted, goOn, atEnd, run, opaqueAt, elementsAt}
 use Rattle.der.specs.declared.Fault.{Fault}
 use Rattle.der.specs.declared.Cursor.{Cursor}
@@ -19,9 +17,9 @@ use Rattle.der.specs.declared.Element.{Element}
 use Rattle.der.specs.declared.Element.the-variants.{Found}
 use Rattle.der.specs.declared.Checked.{Checked}
 use Rattle.der.specs.declared.Checked.the-variants.{Passed}
-use Rattle.der.proofs.Picks.{by-eq}
-use Rattle.der.proofs.Placed.{Placed, OfElement, element-of, by-element, found}
-use Rattle.der.proofs.Many.{many-holds, Going, Stepped, going-start, going-on, going-end}
+use Rattle.der.proofs.Choices.{by-eq}
+use Rattle.der.proofs.Placed.{OfElement, element-of, by-element, found}
+use Rattle.der.proofs.Many.{many-holds, Going, going-start, going-on, going-end}
 
 -- one element checked: m elements from c on, up to n
 pub record Went (s : List ℕ) (c : Cursor) (m : ℕ) (n : Cursor) : Type 0 where
@@ -101,9 +99,9 @@ opaqueStep l s c =
     onElement (elementAt s c)
     Checked.Refused
     (λ t b n.
-    pick (eqb l 0)
-    (Checked.Refused (fault tooMany (c .at)))
-    (pick (eqb (t / 32 % 2) 0) (Passed 1 n) (onChecked (elementsAt (l - 1) s b) Checked.Refused (λ m e. Passed (m + 1) n))))
+    if eqb l 0 then Checked.Refused (fault tooMany (c .at)) else
+    if eqb (t / 32 % 2) 0 then Passed 1 n else
+    onChecked (elementsAt (l - 1) s b) Checked.Refused (λ m e. Passed (m + 1) n))
 
 pub opaque-step : (l : ℕ) (s : List ℕ) (c : Cursor) (r : Checked) → r ≡ opaqueStep l s c → r ≡ opaqueAt l s c
 unfolding opaqueAt elementsAt

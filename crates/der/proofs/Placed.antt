@@ -1,14 +1,12 @@
 -- Where an accepted element stands: its body behind its header and within its parent, and the header's bytes. Each fact is proved of the
 -- definition once, by cases on its answer.
-use mathlib.Core.Path.{_≡_, refl, sym, ap, _∙_}
+use mathlib.Core.Path.{_≡_, refl, sym, _∙_}
 use mathlib.Core.List.{List, [], _∷_, _++_}
 use Prim.Native.Nat.{ℕ, zero, suc, _+_, _*_, _-_, _/_, _%_, _≤_, _<_}
 use native.Mathlib.Omega.{arith}
-use native.Mathlib.Numerals.{add-one, add-two, add-three}
 use lib.ListN.{length, getD, drop}
 use lib.Seq.{drop-cons}
 use borrow.Author.Tests.{eq-eqb}
-use Rattle.der.specs.Choice.{pick}
 use Rattle.der.specs.Element.{cursor, within, oneOctet, twoOctets, extentAt, elementAt, expectAt, onExtent, onElement}
 use Rattle.der.specs.Octets.{lengthOctets}
 use Rattle.der.specs.Span.{Bytes}
@@ -18,7 +16,7 @@ use Rattle.der.specs.declared.Element.{Element}
 use Rattle.der.specs.declared.Element.the-variants.{Found}
 use Rattle.der.specs.declared.Extent.{Extent}
 use Rattle.der.specs.declared.Extent.the-variants.{Body}
-use Rattle.der.proofs.Picks.{by-lt, by-le, by-eq}
+use Rattle.der.proofs.Choices.{by-lt, by-le, by-eq}
 use Rattle.der.proofs.Octets.{octets-short, octets-one, octets-two}
 
 pub byte-at : (s : List ℕ) → Bytes s → (i : ℕ) → getD s i 0 < 256

@@ -37,7 +37,7 @@ module _ (s : List ℕ) where
   span-split a c x y p k =
       let z : a + (length x + length y) ≡ c = rw (← length-append x y) (p .size) in
       let e : drop (a + length x) s ≡ y ++ drop c s =
-              rw (← drop-drop) (ap (drop (length x)) (p .bytes ∙ append-assoc x y (drop c s)) ∙ drop-append-seam x (y ++ drop c s)) in
+      rw (← drop-drop) (ap (drop (length x)) (p .bytes ∙ append-assoc x y (drop c s)) ∙ drop-append-seam x (y ++ drop c s)) in
       k (a + length x)
       (record { bytes = p .bytes ∙ append-assoc x y (drop c s) ∙ ap (λ (l : List ℕ). x ++ l) (sym e); size = refl; inside = omega (arith, p .inside) })
       (record { bytes = e; size = omega arith; inside = p .inside })

@@ -1,22 +1,21 @@
 -- Identifiers and integers at a cursor: accepted exactly if the bytes are an element whose body keeps the rule.
-use mathlib.Core.Bool.{Bool, true, false}
+use mathlib.Core.Bool.{true}
 use mathlib.Core.Path.{_≡_, refl, sym, ap, _∙_}
 use mathlib.Core.List.{List}
-use Prim.Native.Nat.{ℕ, _≤_, _<_, _%_}
+use Prim.Native.Nat.{ℕ, _≤_, _<_}
 use native.Mathlib.Omega.{arith}
 use lib.ListN.{length}
-use Rattle.der.specs.Choice.{pick}
-use Rattle.der.specs.Element.{cursor, elementAt, expectAt, onElement}
+use Rattle.der.specs.Element.{cursor, elementAt, expectAt}
 use Rattle.der.specs.Content.{bytesOf, identifierBody, identifierAt, integerBody, integerValue, integerAt}
 use Rattle.der.specs.Octets.{tlv, number, integerOctets, TagForm, IdentifierRule, IntegerRule}
 use Rattle.der.specs.Span.{Span, Bytes}
-use Rattle.der.specs.Follows.{Moved, HeaderIs, IdentifierIs, IntegerIs}
+use Rattle.der.specs.Follows.{IdentifierIs, IntegerIs}
 use Rattle.der.specs.declared.Cursor.{Cursor}
 use Rattle.der.specs.declared.Element.{Element}
 use Rattle.der.specs.declared.Element.the-variants.{Found}
 use Rattle.der.specs.declared.Integer.{Integer}
 use Rattle.der.specs.declared.Integer.the-variants.{Value}
-use Rattle.der.proofs.Picks.{by-test}
+use Rattle.der.proofs.Choices.{by-test}
 use Rattle.der.proofs.Placed.{by-element, expected, expect-is}
 use Rattle.der.proofs.Octets.{integer-octets, integer-below, integer-number, integer-rule}
 use Rattle.der.proofs.Content.{identifier-rule, identifier-body, integer-rule-of, integer-body-of, integer-value-of}

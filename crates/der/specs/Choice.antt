@@ -1,6 +1,7 @@
 -- A choice between two values by a test.
 use mathlib.Core.Bool.{Bool, true, false}
 
-abbrev pub pick : {A : Type 0} → Bool → A → A → A
-pick true a b = a
-pick false a b = b
+infixr 2 if_then_else_
+abbrev pub if_then_else_ : {A : Type 0} → Bool → A → A → A
+if true then a else b = a
+if false then a else b = b

@@ -5,10 +5,9 @@ use Prim.Native.Nat.{ℕ, _+_, _*_, _≤_, _<_}
 use lib.Dec.{leb, ltb, eqb}
 use lib.ListN.{length, getD}
 use lib.Seq.{slice}
-use Rattle.der.specs.Choice.{pick}
+use Rattle.der.specs.Choice.{if_then_else_}
 use Rattle.der.specs.Numbers.{content}
-use Rattle.der.specs.Element.{cursor, fault, expectAt, onElement}
-use Rattle.der.specs.declared.Fault.{Fault}
+use Rattle.der.specs.Element.{fault, expectAt, onElement}
 use Rattle.der.specs.declared.Cursor.{Cursor}
 use Rattle.der.specs.declared.Element.{Element}
 use Rattle.der.specs.declared.Element.the-variants.{Found}
@@ -17,12 +16,12 @@ use Rattle.der.specs.declared.Integer.the-variants.{Value}
 
 -- "no part beginning with byte 80 hex": `begins` says that a part begins with b
 abbrev pub breaks : Bool → ℕ → Bool
-breaks begins b = pick begins (eqb b 128) false
+breaks begins b = if begins then eqb b 128 else false
 
 -- The bytes from one of a part on: none of them breaks, and the last ends a part, "last byte below 80 hex".
 unfoldable pub parts : Bool → List ℕ → Bool
 parts begins [] = begins
-parts begins (b ∷ bs) = pick (breaks begins b) false (parts (ltb b 128) bs)
+parts begins (b ∷ bs) = if breaks begins b then false else parts (ltb b 128) bs
 
 -- "OBJECT IDENTIFIER (06): body not empty, last byte below 80 hex, no part beginning with byte 80 hex."
 unfoldable pub identifierBody : List ℕ → Bool
@@ -37,22 +36,21 @@ unfoldable pub identifierAt : List ℕ → Cursor → Element
 identifierAt s c =
     onElement (expectAt 6 s c)
     Element.Refused
-    (λ t b n. pick (identifierBody (bytesOf s b)) (Found t b n) (Element.Refused (fault content (c .at))))
+    (λ t b n. if identifierBody (bytesOf s b) then Found t b n else Element.Refused (fault content (c .at)))
 
 -- "INTEGER (02): 1 to 4 body bytes, minimal, not negative."
 unfoldable pub integerBody : List ℕ → Cursor → Bool
 integerBody s b =
-    pick (leb (b .end) (b .at))
-    false
-    (pick (ltb (b .at + 4) (b .end))
-    false
-    (pick (ltb (getD s (b .at) 0) 128)
-    (pick (leb (b .end) (b .at + 1)) true (pick (eqb (getD s (b .at) 0) 0) (leb 128 (getD s (b .at + 1) 0)) true))
-    false))
+    if leb (b .end) (b .at) then false else
+    if ltb (b .at + 4) (b .end) then false else
+    if leb 128 (getD s (b .at) 0) then false else
+    if leb (b .end) (b .at + 1) then true else
+    if eqb (getD s (b .at) 0) 0 then leb 128 (getD s (b .at + 1) 0) else
+    true
 
 -- the number v with the digit at i behind it, where the body goes so far
 unfoldable pub andDigit : List ℕ → ℕ → ℕ → ℕ → ℕ
-andDigit s end i v = pick (ltb i end) (v * 256 + getD s i 0) v
+andDigit s end i v = if ltb i end then v * 256 + getD s i 0 else v
 
 -- what is known of a body that `integerBody` takes, in a list that reaches so far
 pub record IntegerAt (s : List ℕ) (b : Cursor) : Type 0 where
@@ -69,4 +67,4 @@ unfoldable pub integerAt : List ℕ → Cursor → Integer
 integerAt s c =
     onElement (expectAt 2 s c)
     Integer.Refused
-    (λ t b n. pick (integerBody s b) (Value (integerValue s b) n) (Integer.Refused (fault content (c .at))))
+    (λ t b n. if integerBody s b then Value (integerValue s b) n else Integer.Refused (fault content (c .at)))

@@ -3,7 +3,7 @@ use mathlib.Core.List.{List}
 use Prim.Native.Nat.{ℕ, _+_, _*_, _%_}
 use lib.Dec.{leb, ltb, eqb}
 use lib.ListN.{length, getD}
-use Rattle.der.specs.Choice.{pick}
+use Rattle.der.specs.Choice.{if_then_else_}
 use Rattle.der.specs.Numbers.{missing, overrun, tagForm, lengthForm, otherTag, leftOver}
 use Rattle.der.specs.declared.Fault.{Fault}
 use Rattle.der.specs.declared.Cursor.{Cursor}
@@ -26,45 +26,44 @@ wholeOf s = cursor 0 (length s)
 
 -- The next byte; 0, which is no tag, where no byte is left: a cursor that ends past the bytes, or before its own position, has none left.
 unfoldable pub tagAt : List ℕ → Cursor → ℕ
-tagAt s c = pick (ltb (length s) (c .end)) 0 (pick (leb (c .end) (c .at)) 0 (getD s (c .at) 0))
+tagAt s c =
+    if ltb (length s) (c .end) then 0 else
+    if ltb (c .at) (c .end) then getD s (c .at) 0 else
+    0
 
 -- "bytes left over in a parent after its last element" (6)
 unfoldable pub finishAt : Cursor → Checked
-finishAt c = pick (ltb (c .at) (c .end)) (Checked.Refused (fault leftOver (c .at))) (Checked.Passed 0 c)
+finishAt c = if ltb (c .at) (c .end) then Checked.Refused (fault leftOver (c .at)) else Checked.Passed 0 c
 
 -- "The body must end within its parent (1)." The place is the offset of the element's tag.
 unfoldable pub within : ℕ → ℕ → ℕ → ℕ → Extent
 within at start size end =
-    pick (ltb end (start + size)) (Extent.Refused (fault overrun at)) (Body (cursor start (start + size)))
+    if ltb end (start + size) then Extent.Refused (fault overrun at) else
+    Body (cursor start (start + size))
 
 -- "81 with 80..FF"; a header with a byte missing is 1
 unfoldable pub oneOctet : List ℕ → ℕ → ℕ → Extent
 oneOctet s at end =
-    pick (leb end (at + 2))
-    (Extent.Refused (fault overrun at))
-    (pick (ltb (getD s (at + 2) 0) 128)
-    (Extent.Refused (fault lengthForm at))
-    (within at (at + 3) (getD s (at + 2) 0) end))
+    if leb end (at + 2) then Extent.Refused (fault overrun at) else
+    if ltb (getD s (at + 2) 0) 128 then Extent.Refused (fault lengthForm at) else
+    within at (at + 3) (getD s (at + 2) 0) end
 
 -- "82 with 0100..FFFF"; a header with a byte missing is 1
 unfoldable pub twoOctets : List ℕ → ℕ → ℕ → Extent
 twoOctets s at end =
-    pick (leb end (at + 3))
-    (Extent.Refused (fault overrun at))
-    (pick (eqb (getD s (at + 2) 0) 0)
-    (Extent.Refused (fault lengthForm at))
-    (within at (at + 4) (getD s (at + 2) 0 * 256 + getD s (at + 3) 0) end))
+    if leb end (at + 3) then Extent.Refused (fault overrun at) else
+    if eqb (getD s (at + 2) 0) 0 then Extent.Refused (fault lengthForm at) else
+    within at (at + 4) (getD s (at + 2) 0 * 256 + getD s (at + 3) 0) end
 
--- "Length: 00..7F; 81 with 80..FF; 82 with 0100..FFFF. Any other form is refused (3): 80, a length that a shorter form could give, 83 and above."
+-- "Length: 00..7F; 81 with 80..FF; 82 with 0100..FFFF. Any other form is refused (3): 80, a length that a shorter form could give, 83 and
+-- above." A first length byte that is refused is refused at once, also where it is the last byte.
 unfoldable pub extentAt : List ℕ → ℕ → ℕ → Extent
 extentAt s at end =
-    pick (leb end (at + 1))
-    (Extent.Refused (fault overrun at))
-    (pick (ltb (getD s (at + 1) 0) 128)
-    (within at (at + 2) (getD s (at + 1) 0) end)
-    (pick (eqb (getD s (at + 1) 0) 129)
-    (oneOctet s at end)
-    (pick (eqb (getD s (at + 1) 0) 130) (twoOctets s at end) (Extent.Refused (fault lengthForm at)))))
+    if leb end (at + 1) then Extent.Refused (fault overrun at) else
+    if ltb (getD s (at + 1) 0) 128 then within at (at + 2) (getD s (at + 1) 0) end else
+    if eqb (getD s (at + 1) 0) 129 then oneOctet s at end else
+    if eqb (getD s (at + 1) 0) 130 then twoOctets s at end else
+    Extent.Refused (fault lengthForm at)
 
 abbrev pub onExtent : {A : Type 0} → Extent → (Fault → A) → (Cursor → A) → A
 onExtent (Extent.Refused f) bad good = bad f
@@ -74,15 +73,11 @@ onExtent (Body b) bad good = good b
 -- Where no byte is left, 1 at the parent's end.
 unfoldable pub elementAt : List ℕ → Cursor → Element
 elementAt s c =
-    pick (ltb (length s) (c .end))
-    (Element.Refused (fault missing (c .end)))
-    (pick (leb (c .end) (c .at))
-    (Element.Refused (fault missing (c .end)))
-    (pick (eqb (getD s (c .at) 0) 0)
-    (Element.Refused (fault tagForm (c .at)))
-    (pick (eqb (getD s (c .at) 0 % 32) 31)
-    (Element.Refused (fault tagForm (c .at)))
-    (onExtent (extentAt s (c .at) (c .end)) Element.Refused (λ b. Found (getD s (c .at) 0) b (cursor (b .end) (c .end)))))))
+    if ltb (length s) (c .end) then Element.Refused (fault missing (c .end)) else
+    if leb (c .end) (c .at) then Element.Refused (fault missing (c .end)) else
+    if eqb (getD s (c .at) 0) 0 then Element.Refused (fault tagForm (c .at)) else
+    if eqb (getD s (c .at) 0 % 32) 31 then Element.Refused (fault tagForm (c .at)) else
+    onExtent (extentAt s (c .at) (c .end)) Element.Refused (λ b. Found (getD s (c .at) 0) b (cursor (b .end) (c .end)))
 
 abbrev pub onElement : {A : Type 0} → Element → (Fault → A) → (ℕ → Cursor → Cursor → A) → A
 onElement (Element.Refused f) bad good = bad f
@@ -93,4 +88,4 @@ unfoldable pub expectAt : ℕ → List ℕ → Cursor → Element
 expectAt due s c =
     onElement (elementAt s c)
     Element.Refused
-    (λ t b n. pick (eqb t due) (Found t b n) (Element.Refused (fault otherTag (c .at))))
+    (λ t b n. if eqb t due then Found t b n else Element.Refused (fault otherTag (c .at)))

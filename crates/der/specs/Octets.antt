@@ -4,19 +4,19 @@ use mathlib.Core.List.{List, [], _∷_, _++_}
 use Prim.Native.Nat.{ℕ, zero, suc, _+_, _-_, _*_, _/_, _%_, _≤_, _<_}
 use lib.Dec.{ltb}
 use lib.ListN.{length, getD}
-use Rattle.der.specs.Choice.{pick}
+use Rattle.der.specs.Choice.{if_then_else_}
 
 -- the digits of n to the base 256, most significant first, with no leading zero but for n = 0; the first argument bounds their number
 unfoldable pub digitsFrom : ℕ → ℕ → List ℕ
 digitsFrom zero n = []
-digitsFrom (suc fuel) n = let high = digitsFrom fuel (n / 256) in pick (ltb n 256) (n ∷ []) (high ++ (n % 256 ∷ []))
+digitsFrom (suc fuel) n = let high = digitsFrom fuel (n / 256) in if ltb n 256 then n ∷ [] else high ++ (n % 256 ∷ [])
 
 unfoldable pub digits : ℕ → List ℕ
 digits n = digitsFrom (suc n) n
 
 -- X.690, 8.1.3.4 and 8.1.3.5 in the shortest form (10.1): one octet below 128, else the number of octets and 128, and the octets
 unfoldable pub lengthOctets : ℕ → List ℕ
-lengthOctets n = pick (ltb n 128) (n ∷ []) ((128 + length (digits n)) ∷ digits n)
+lengthOctets n = if ltb n 128 then n ∷ [] else (128 + length (digits n)) ∷ digits n
 
 -- X.690, 8.1.1: identifier octet, length octets, contents octets
 unfoldable pub tlv : ℕ → List ℕ → List ℕ
@@ -24,7 +24,7 @@ tlv t body = t ∷ (lengthOctets (length body) ++ body)
 
 -- X.690, 8.3: the contents of the INTEGER n, in the fewest octets whose first bit is 0
 unfoldable pub integerOctets : ℕ → List ℕ
-integerOctets n = pick (ltb (getD (digits n) 0 0) 128) (digits n) (0 ∷ digits n)
+integerOctets n = if ltb (getD (digits n) 0 0) 128 then digits n else 0 ∷ digits n
 
 -- the number that digits to the base 256 stand for, after those of v
 unfoldable pub numberFrom : ℕ → List ℕ → ℕ

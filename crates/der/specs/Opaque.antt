@@ -2,7 +2,7 @@
 use mathlib.Core.List.{List}
 use Prim.Native.Nat.{ℕ, zero, suc, _+_, _-_, _/_, _%_}
 use lib.Dec.{eqb}
-use Rattle.der.specs.Choice.{pick}
+use Rattle.der.specs.Choice.{if_then_else_}
 use Rattle.der.specs.Numbers.{tooMany}
 use Rattle.der.specs.Element.{cursor, fault, elementAt, onElement}
 use Rattle.der.specs.Many.{many}
@@ -37,7 +37,8 @@ opaqueAt (suc l) s c =
     onElement (elementAt s c)
     Checked.Refused
     (λ t b n.
-    pick (eqb (t / 32 % 2) 0) (Passed 1 n) (onChecked (run (opaqueAt l s) b) Checked.Refused (λ m e. Passed (m + 1) n)))
+    if eqb (t / 32 % 2) 0 then Passed 1 n else
+    onChecked (run (opaqueAt l s) b) Checked.Refused (λ m e. Passed (m + 1) n))
 
 -- a body of zero or more opaque elements, each of l levels at most
 unfoldable pub elementsAt : ℕ → List ℕ → Cursor → Checked

@@ -218,17 +218,17 @@ fn is_integer(s: &[u8], body: Cursor) -> bool
         return false;
     }
     let first = s[at];
-    if first < 128 {
-        let second = at + 1;
-        if end <= second {
-            return true;
-        }
-        if first == 0 {
-            return 128 <= s[second];
-        }
+    if 128 <= first {
+        return false;
+    }
+    let second = at + 1;
+    if end <= second {
         return true;
     }
-    false
+    if first == 0 {
+        return 128 <= s[second];
+    }
+    true
 }
 
 // The number with the byte at `i` behind it, where the body goes so far.
@@ -279,22 +279,22 @@ impl Cursor {
         if s.len() < end {
             return 0;
         }
-        if end <= at {
-            return 0;
+        if at < end {
+            return s[at];
         }
-        s[at]
+        0
     }
 
     // A parent's body is at its end; what is left over is refused.
     pub fn finish(self) -> Checked
         ensures { λ r. ⌜ r ≡ finishAt self ⌝ }
     {
-        let at = self.at;
+        let left = self.at;
         let end = self.end;
-        if at < end {
+        if left < end {
             return Checked::Refused(Fault {
                 number: LEFT_OVER,
-                offset: at,
+                offset: left,
             });
         }
         Checked::Passed {

@@ -4,7 +4,7 @@ use native.Mathlib.Omega.{arith}
 use borrow.Author.Needs.{needs}
 use Rattle.der.specs.Element.{cursor}
 use Rattle.der.specs.Opaque.{run, elementsAt}
-use Rattle.der.proofs.Picks.{picks}
+use Rattle.der.proofs.Choices.{choices}
 use Rattle.der.proofs.Opaque.{Running, running-start, running-end, running-refused, running-on, step-falls, step-long, step-fits, run-fits, opaque-step}
 use borrow.Fn.Kinds.{In}
 use borrow.Fn.PlainCycle.{Measures, is, falls, and}
@@ -89,10 +89,10 @@ opaque-enum-known-tag : (t : ℕ) → opaque-lts.Need-enum-known-tag (in-opaque 
 opaque-enum-known-tag t c = search needs
 
 opaque-returns : (t : ℕ) → opaque-lts.Need-returns (in-opaque t) (opaque-at t) opaque.Post
-opaque-returns t c = search (opaque-step, picks) depth 14
+opaque-returns t c = search (opaque-step, choices) depth 14
 
 opaque-returns-2 : (t : ℕ) → opaque-lts.Need-returns-2 (in-opaque t) (opaque-at t) opaque.Post
-opaque-returns-2 t c = search (opaque-step, picks) depth 14
+opaque-returns-2 t c = search (opaque-step, choices) depth 14
 
 opaque-sub-below : (t : ℕ) → opaque-lts.Need-sub-below (in-opaque t) (opaque-at t) opaque.Post
 opaque-sub-below t c = omega arith
@@ -110,13 +110,13 @@ opaque-add-more : (t : ℕ) → opaque-lts.Need-add-more (in-opaque t) (opaque-a
 opaque-add-more t c = search run-fits
 
 opaque-returns-3 : (t : ℕ) → opaque-lts.Need-returns-3 (in-opaque t) (opaque-at t) opaque.Post
-opaque-returns-3 t c = search (opaque-step, picks) depth 14
+opaque-returns-3 t c = search (opaque-step, choices) depth 14
 
 opaque-returns-4 : (t : ℕ) → opaque-lts.Need-returns-4 (in-opaque t) (opaque-at t) opaque.Post
-opaque-returns-4 t c = search (opaque-step, picks) depth 14
+opaque-returns-4 t c = search (opaque-step, choices) depth 14
 
 opaque-returns-5 : (t : ℕ) → opaque-lts.Need-returns-5 (in-opaque t) (opaque-at t) opaque.Post
-opaque-returns-5 t c = search (opaque-step, picks) depth 14
+opaque-returns-5 t c = search (opaque-step, choices) depth 14
 
 pub +elements+opaque-spec : {M : Type 1} → statement M
 +elements+opaque-spec =

@@ -1,57 +1,45 @@
-use Rattle.der.proofs.Picks.{picks}
+-- The tag and then the body are judged as the definition tests them.
+use Rattle.der.proofs.Choices.{choices}
 use Rattle.der.specs.Element.{elementAt}
 use borrow.Author.Needs.{needs}
 use Rattle.der.proofs.Cursor.element.Statement.{statement}
 use Rattle.der.proofs.Cursor.element.Tie as tie
-use Rattle.der.proofs.Cursor.element.Reads as reads
-use Rattle.der.proofs.Cursor.element.Lts as lts
-use Rattle.der.proofs.body_of.Reads as body-of-reads
 
--- src/lib.rt:221:13
 returns : tie.Need-returns
 unfolding elementAt
-returns c = search picks depth 14
+returns c = search choices depth 14
 
--- src/lib.rt:227:13
 returns-2 : tie.Need-returns-2
 unfolding elementAt
-returns-2 c = search picks depth 14
+returns-2 c = search choices depth 14
 
--- src/lib.rt:232:19
 shared-slice-read-tag : tie.Need-shared-slice-read-tag
 shared-slice-read-tag c = search needs
 
--- src/lib.rt:234:13
 returns-3 : tie.Need-returns-3
 unfolding elementAt
-returns-3 c = search picks depth 14
+returns-3 c = search choices depth 14
 
--- src/lib.rt:240:13
 returns-4 : tie.Need-returns-4
 unfolding elementAt
-returns-4 c = search picks depth 14
+returns-4 c = search choices depth 14
 
--- src/lib.rt:245:15
 body-of-requires : tie.Need-body-of-requires
 body-of-requires c κs = search needs
 
--- src/lib.rt:246:29
 enum-known-f : tie.Need-enum-known-f
 enum-known-f c = search needs
 
--- src/lib.rt:247:26
 enum-known-body : tie.Need-enum-known-body
 enum-known-body c = search needs
 
--- src/lib.rt:215:5
 returns-5 : tie.Need-returns-5
 unfolding elementAt
-returns-5 c = search picks depth 14
+returns-5 c = search choices depth 14
 
--- src/lib.rt:215:5
 returns-6 : tie.Need-returns-6
 unfolding elementAt
-returns-6 c = search picks depth 14
+returns-6 c = search choices depth 14
 
 pub element-spec : {M : Type 1} → statement M
 element-spec =

@@ -1,6 +1,6 @@
 -- Rules by which `search` follows a definition's tests as the code's own tests decided them. Each proves that an answer r is what a
 -- choice gives, from the fact that the code learnt and from what the chosen side gives.
-use mathlib.Core.Path.{_≡_, refl, ap, sym, _∙_}
+use mathlib.Core.Path.{_≡_, refl, sym, _∙_}
 use mathlib.Core.Bool.{Bool, true, false}
 use Prim.Native.Nat.{ℕ, _<_, _≤_}
 use mir.Val.{Fits}
@@ -9,7 +9,7 @@ use native.Mathlib.Omega.{arith}
 use native.Mathlib.Decide.{decLt}
 use lib.Dec.{leb, ltb, eqb}
 use borrow.Author.Tests.{lt-ltb, le-ltb, le-leb, lt-leb, eq-eqb, ne-eqb, ltb-true, ltb-false, leb-true, leb-false, eqb-true, eqb-false}
-use Rattle.der.specs.Choice.{pick}
+use Rattle.der.specs.Choice.{if_then_else_}
 use Rattle.der.specs.Element.{onExtent, onElement}
 use Rattle.der.specs.Opaque.{onChecked}
 use Rattle.der.specs.declared.Fault.{Fault}
@@ -22,35 +22,35 @@ use Rattle.der.specs.declared.Extent.{Extent}
 use Rattle.der.specs.declared.Extent.the-variants.{Body}
 
 module _ {A : Type 0} where
-  pub at-true : (t : Bool) (r x y : A) → t ≡ true → r ≡ x → r ≡ pick t x y
+  pub at-true : (t : Bool) (r x y : A) → t ≡ true → r ≡ x → r ≡ (if t then x else y)
   at-true t r x y h e = rw h e
 
-  pub at-false : (t : Bool) (r x y : A) → t ≡ false → r ≡ y → r ≡ pick t x y
+  pub at-false : (t : Bool) (r x y : A) → t ≡ false → r ≡ y → r ≡ (if t then x else y)
   at-false t r x y h e = rw h e
 
   -- a test that a callee made: u is what it gave
-  pub told-true : (t u : Bool) (r x y : A) → u ≡ t → u ≡ true → r ≡ x → r ≡ pick t x y
+  pub told-true : (t u : Bool) (r x y : A) → u ≡ t → u ≡ true → r ≡ x → r ≡ (if t then x else y)
   told-true t u r x y p q e = rw (sym p ∙ q) e
 
-  pub told-false : (t u : Bool) (r x y : A) → u ≡ t → u ≡ false → r ≡ y → r ≡ pick t x y
+  pub told-false : (t u : Bool) (r x y : A) → u ≡ t → u ≡ false → r ≡ y → r ≡ (if t then x else y)
   told-false t u r x y p q e = rw (sym p ∙ q) e
 
-  pub at-lt : (a b : ℕ) (r x y : A) → a < b → r ≡ x → r ≡ pick (ltb a b) x y
+  pub at-lt : (a b : ℕ) (r x y : A) → a < b → r ≡ x → r ≡ (if ltb a b then x else y)
   at-lt a b r x y h e = rw (lt-ltb a b h) e
 
-  pub at-not-lt : (a b : ℕ) (r x y : A) → b ≤ a → r ≡ y → r ≡ pick (ltb a b) x y
+  pub at-not-lt : (a b : ℕ) (r x y : A) → b ≤ a → r ≡ y → r ≡ (if ltb a b then x else y)
   at-not-lt a b r x y h e = rw (le-ltb a b h) e
 
-  pub at-le : (a b : ℕ) (r x y : A) → a ≤ b → r ≡ x → r ≡ pick (leb a b) x y
+  pub at-le : (a b : ℕ) (r x y : A) → a ≤ b → r ≡ x → r ≡ (if leb a b then x else y)
   at-le a b r x y h e = rw (le-leb a b h) e
 
-  pub at-not-le : (a b : ℕ) (r x y : A) → b < a → r ≡ y → r ≡ pick (leb a b) x y
+  pub at-not-le : (a b : ℕ) (r x y : A) → b < a → r ≡ y → r ≡ (if leb a b then x else y)
   at-not-le a b r x y h e = rw (lt-leb a b h) e
 
-  pub at-eq : (a b : ℕ) (r x y : A) → a ≡ b → r ≡ x → r ≡ pick (eqb a b) x y
+  pub at-eq : (a b : ℕ) (r x y : A) → a ≡ b → r ≡ x → r ≡ (if eqb a b then x else y)
   at-eq a b r x y h e = rw (eq-eqb a b h) e
 
-  pub at-ne : (a b : ℕ) (r x y : A) → (a ≡ b → ⊥) → r ≡ y → r ≡ pick (eqb a b) x y
+  pub at-ne : (a b : ℕ) (r x y : A) → (a ≡ b → ⊥) → r ≡ y → r ≡ (if eqb a b then x else y)
   at-ne a b r x y h e = rw (ne-eqb a b h) e
 
   pub same : (x : A) → x ≡ x
@@ -83,20 +83,20 @@ module _ {A : Type 0} where
 
 -- what holds of either side of a choice, each with its fact, holds of the choice
 module _ {A : Type 0} (P : A → Type 0) (x y : A) where
-  pub by-test : (t : Bool) → (t ≡ true → P x) → (t ≡ false → P y) → P (pick t x y)
+  pub by-test : (t : Bool) → (t ≡ true → P x) → (t ≡ false → P y) → P (if t then x else y)
   by-test true f g = f refl
   by-test false f g = g refl
 
-  pub by-lt : (a b : ℕ) → (a < b → P x) → (b ≤ a → P y) → P (pick (ltb a b) x y)
+  pub by-lt : (a b : ℕ) → (a < b → P x) → (b ≤ a → P y) → P (if ltb a b then x else y)
   by-lt a b f g = by-test (ltb a b) (λ h. f (ltb-true a b h)) (λ h. g (ltb-false a b h))
 
-  pub by-le : (a b : ℕ) → (a ≤ b → P x) → (b < a → P y) → P (pick (leb a b) x y)
+  pub by-le : (a b : ℕ) → (a ≤ b → P x) → (b < a → P y) → P (if leb a b then x else y)
   by-le a b f g = by-test (leb a b) (λ h. f (leb-true a b h)) (λ h. g (leb-false a b h))
 
-  pub by-eq : (a b : ℕ) → (a ≡ b → P x) → ((a ≡ b → ⊥) → P y) → P (pick (eqb a b) x y)
+  pub by-eq : (a b : ℕ) → (a ≡ b → P x) → ((a ≡ b → ⊥) → P y) → P (if eqb a b then x else y)
   by-eq a b f g = by-test (eqb a b) (λ h. f (eqb-true a b h)) (λ h. g (eqb-false a b h))
 
-pub ruleset picks = (
+pub ruleset choices = (
   at-lt,
   at-not-lt,
   at-le,
@@ -120,11 +120,11 @@ pub narrow : {x : ℕ} → Fits w8 x → Fits w32 x
 narrow h = omega arith
 
 -- a choice by an order that is known, and a proof by cases of an order
-pub pick-lt : {A : Type 0} (n m : ℕ) (x y : A) → n < m → pick (ltb n m) x y ≡ x
-pick-lt n m x y h = rw (lt-ltb n m h)
+pub chosen-lt : {A : Type 0} (n m : ℕ) (x y : A) → n < m → (if ltb n m then x else y) ≡ x
+chosen-lt n m x y h = rw (lt-ltb n m h)
 
-pub pick-le : {A : Type 0} (n m : ℕ) (x y : A) → m ≤ n → pick (ltb n m) x y ≡ y
-pick-le n m x y h = rw (le-ltb n m h)
+pub chosen-le : {A : Type 0} (n m : ℕ) (x y : A) → m ≤ n → (if ltb n m then x else y) ≡ y
+chosen-le n m x y h = rw (le-ltb n m h)
 
 pub either : {A : Type 0} (n m : ℕ) → (n < m → A) → (m ≤ n → A) → A
 either {A} n m f g = go (decLt n m)
