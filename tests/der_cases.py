@@ -1,5 +1,6 @@
 #!/usr/bin/env python3
-"""Writes crates/der_cases/stdin and stdout from the cases of tests/der_cases.txt, whose answers are written there by hand.
+"""Writes crates/der_cases/stdin and stdout from two lists of cases: tests/der_cases.txt, whose answers are written by hand, and
+tests/der_generated.txt, whose answers are the model's (tests/der_model.py).
 
     tests/der_cases.py            # writes both files
     tests/der_cases.py --check    # says whether they are what the cases give
@@ -28,7 +29,7 @@ def frame(line):
 
 
 def main():
-    lines = (ROOT / "tests/der_cases.txt").read_text().splitlines()
+    lines = [x for name in ("der_cases.txt", "der_generated.txt") for x in (ROOT / "tests" / name).read_text().splitlines()]
     cases = [frame(x) for x in lines if x.strip() and not x.startswith("#")]
     made = {
         "stdin": b"".join(c[0] for c in cases),

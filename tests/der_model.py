@@ -14,9 +14,7 @@ import subprocess
 import sys
 
 ROOT = pathlib.Path(__file__).resolve().parent.parent
-PROGRAM = ROOT / "target/bin/der_cases"
 BATCH = 65535  # bytes at most that the program is given at once
-
 
 # -- the model
 
@@ -30,8 +28,8 @@ def need(holds, number, place):
 def byte_left(data, at, end):
     return at < end <= len(data)
 
-def element(data, at, end):
-    """Tag and range of the body of the element at `at` in a parent that ends at `end`."""
+def element(data, at, end, due=None):
+    """Tag and range of the body of the element at `at` in a parent that ends at `end`; `due` is the tag due, if any."""
     need(byte_left(data, at, end), 1, end)
     tag = data[at]
     need(tag != 0x00 and tag & 0x1F != 0x1F, 2, at)
@@ -44,15 +42,11 @@ def element(data, at, end):
     size = int.from_bytes(data[at + 2:body], "big") if more else first
     need(size >= (0, 0x80, 0x100)[more], 3, at)  # no shorter form could give it
     need(body + size <= end, 1, at)
+    need(due is None or tag == due, 4, at)
     return tag, body, body + size
 
-def element_due(data, at, end, due):
-    tag, body, past = element(data, at, end)
-    need(tag == due, 4, at)
-    return tag, body, past
-
 def identifier(data, at, end):
-    tag, body, past = element_due(data, at, end, 0x06)
+    tag, body, past = element(data, at, end, 0x06)
     need(body < past and data[past - 1] < 0x80, 5, at)
     for k in range(body, past):
         begins_part = k == body or data[k - 1] < 0x80
@@ -61,7 +55,7 @@ def identifier(data, at, end):
 
 def integer(data, at, end):
     """The value of the INTEGER at `at` and the place past it."""
-    _, body, past = element_due(data, at, end, 0x02)
+    _, body, past = element(data, at, end, 0x02)
     octets = data[body:past]
     need(1 <= len(octets) <= 4, 5, at)
     need(octets[0] < 0x80, 5, at)  # not negative
@@ -83,44 +77,39 @@ def run(data, at, end, levels):
         count += more
     return count, at
 
-def accepted(letter, argument, at, end, data):
-    """The line of a call that isn't refused."""
-    if letter == "w":
-        return f"cursor 0..{len(data)}"
-    if letter == "t":
-        return f"tag {data[at] if byte_left(data, at, end) else 0:02x}"
-    if letter == "f":
-        need(at >= end, 6, at)
-        return f"passed 0, next {at}..{end}"
-    if letter == "n":
-        value, past = integer(data, at, end)
-        return f"value {value}, next {past}..{end}"
-    if letter in "or":
-        count, past = (opaque if letter == "o" else run)(data, at, end, argument)
-        return f"passed {count}, next {past}..{end}"
-    if letter in "ds":
-        tag, body, past = element_due(data, at, end, argument if letter == "d" else 0x04)
-    else:
-        tag, body, past = {"e": element, "i": identifier}[letter](data, at, end)
-    return f"found {tag:02x}, body {body}..{past}, next {past}..{end}"
-
 def answer(letter, argument, at, end, data) -> str:
     try:
-        return accepted(letter, argument, at, end, data)
+        if letter == "w":
+            return f"cursor 0..{len(data)}"
+        if letter == "t":
+            return f"tag {data[at] if byte_left(data, at, end) else 0:02x}"
+        if letter == "f":
+            need(at >= end, 6, at)
+            return f"passed 0, next {at}..{end}"
+        if letter == "n":
+            value, past = integer(data, at, end)
+            return f"value {value}, next {past}..{end}"
+        if letter in "or":
+            count, past = (opaque if letter == "o" else run)(data, at, end, argument)
+            return f"passed {count}, next {past}..{end}"
+        if letter == "i":
+            tag, body, past = identifier(data, at, end)
+        else:
+            tag, body, past = element(data, at, end, {"e": None, "d": argument, "s": 0x04}[letter])
+        return f"found {tag:02x}, body {body}..{past}, next {past}..{end}"
     except Refused as fault:
         return "refused {} at {}".format(*fault.args)
-
 
 # -- random cases
 
 def mixed(rng, count, often):
     return bytes(rng.choice(often + [rng.randrange(256)]) for _ in range(count))
 
-def wrapped(tag, body, rng=None):
-    """An element; given a source of chance, a few have a length in a form that isn't allowed."""
+def wrapped(rng, tag, body, faults=0.03):
+    """An element; a few have a length in a form that isn't allowed."""
     two = len(body).to_bytes(2, "big")
     length = two[1:] if len(body) < 0x80 else b"\x81" + two[1:] if len(body) < 0x100 else b"\x82" + two
-    if rng and rng.random() < 0.03:
+    if rng.random() < faults:
         length = rng.choice([b"\x80", b"\x81" + two[1:], b"\x82" + two, b"\x83\x00" + two])
     return bytes([tag]) + length + body
 
@@ -129,19 +118,18 @@ def leaf(rng, tag):
         body = mixed(rng, rng.choice([0, 1, 1, 2, 2, 3, 3, 4, 4, 5]), [0x00, 0x01, 0x7F, 0x80])
     elif tag == 0x06:
         body = mixed(rng, rng.randrange(9), [0x2A, 0x01, 0x7F, 0x80, 0x86, 0xF7])
-        if rng.random() < 0.7:
-            body += bytes([rng.randrange(128)])
+        body += bytes([rng.randrange(128)] * rng.choice([0, 1, 1]))
     elif rng.random() < 0.15:  # its length, or that of what stands around it, is near a change of form
-        body = mixed(rng, rng.choice([124, 252]) + rng.randrange(8), [])
+        return wrapped(rng, tag, mixed(rng, rng.choice([124, 252]) + rng.randrange(8), []), 0.2)
     else:
         body = mixed(rng, rng.randrange(5), [0x00, 0x1F, 0x80])
-    return wrapped(tag, body, rng)
+    return wrapped(rng, tag, body)
 
 def tree(rng, depth):
     if depth == 0 or rng.random() < 0.4:
         return leaf(rng, rng.choice([0x01, 0x02, 0x04, 0x05, 0x06, 0x80, 0x9E, 0xC1]))
     body = b"".join(tree(rng, depth - 1) for _ in range(rng.randrange(4)))
-    return wrapped(rng.choice([0x20, 0x24, 0x30, 0x31, 0xA0, 0xBE, 0xE1]), body, rng)
+    return wrapped(rng, rng.choice([0x20, 0x24, 0x30, 0x31, 0xA0, 0xBE, 0xE1]), body)
 
 def content(rng, letter):
     chance = rng.random()
@@ -149,22 +137,19 @@ def content(rng, letter):
         return mixed(rng, rng.randrange(24), [0x00, 0x02, 0x04, 0x06, 0x1F, 0x30, 0x80, 0x81, 0x82])
     if chance < 0.102:  # near the largest lengths
         size = rng.choice([4096, 32768, 65515]) + rng.randrange(-6, 7)
-        return wrapped(rng.choice([0x04, 0x30]), (b"\x05\x00" * size)[:size])
+        return wrapped(rng, rng.choice([0x04, 0x30]), (b"\x05\x00" * size)[:size])
     if letter in "sin" and chance < 0.9:
         return leaf(rng, {"s": 0x04, "i": 0x06, "n": 0x02}[letter])
-    if chance < 0.35:  # one inside the other, to around the last level
-        made = tree(rng, 1)
-        for _ in range(rng.randrange(19)):
-            made = wrapped(rng.choice([0x30, 0xA0]), made)
-        return made
-    return b"".join(tree(rng, 3) for _ in range(rng.choice([1, 1, 2, 3])))
+    made = b"".join(tree(rng, 3) for _ in range(rng.choice([1, 1, 2, 3])))
+    for _ in range(rng.randrange(19) if chance < 0.35 else 0):  # one inside the other, to around the last level
+        made = wrapped(rng, rng.choice([0x30, 0xA0]), made, 0)
+    return made
 
 def damaged(rng, data):
     k = rng.randrange(len(data) + 1)
     one = mixed(rng, 1, [0x00, 0x05, 0x1F, 0x7F, 0x80, 0x81, 0x82, 0xFF])
     flipped = bytes(b ^ 1 << rng.randrange(8) for b in data[k:k + 1])
-    return rng.choice([data[:k], data[:k] + one + data[k:], data[:k] + data[k + 1:],
-                       data[:k] + one + data[k + 1:], data[:k] + flipped + data[k + 1:]])
+    return data[:k] + rng.choice([b"", data[k + 1:], one + data[k:], one + data[k + 1:], flipped + data[k + 1:]])
 
 def random_case(rng):
     letter = rng.choice("teeddddssssiiiiinnnnnoooooorrrrrrffw")
@@ -173,9 +158,8 @@ def random_case(rng):
         inner = damaged(rng, inner)
     before, after = (mixed(rng, rng.choice([0, 0, 0, 0, 1, 2, 5]), [0x05, 0x00]) for _ in range(2))
     data = (before + inner + after)[:BATCH - 8]
-    size = len(data)
+    size, chance = len(data), rng.random()
     at, end = len(before), min(len(before + inner), size)
-    chance = rng.random()
     if chance < 0.5:
         at, end = 0, size
     elif chance < 0.6:
@@ -188,94 +172,78 @@ def random_case(rng):
         argument = data[at]
     return letter, argument, at, end, data
 
-
 # -- the three uses
-
-def read_case(line):
-    call, due = line.split("=", 1)
-    letter, argument, at, end, *words = call.split()
-    parts = (word.partition("*") for word in words)
-    data = b"".join(bytes([int(value, 16)]) * int(times or 1) for value, _, times in parts)
-    return (letter, int(argument, 16), int(at), len(data) if end == "." else int(end), data), due.strip()
-
-def written_case(letter, argument, at, end, data):
-    words = [letter, f"{argument:02X}", str(at), "." if end == len(data) else str(end)]
-    return " ".join(words + [f"{b:02X}" for b in data] + ["=", answer(letter, argument, at, end, data)])
 
 def frame(letter, argument, at, end, data):
     return letter.encode() + bytes([argument]) + b"".join(n.to_bytes(2, "big") for n in (at, end, len(data))) + data
 
+def written(letter, argument, at, end, data):
+    """The case without its answer, as a line of tests/der_cases.txt has it."""
+    return " ".join([letter, f"{argument:02X}", str(at), "." if end == len(data) else str(end)] + [f"{b:02X}" for b in data])
+
 def kind(line):
-    words = line.split()
-    return " ".join(words[:2]) if words[0] == "refused" else words[0]
+    return line.split(" at ")[0] if line.startswith("refused") else line.split()[0]
 
 def check_cases():
-    lines = (ROOT / "tests/der_cases.txt").read_text().splitlines()
-    lines = [x for x in lines if x.strip() and not x.startswith("#")]
-    differing = [x for x in lines if answer(*read_case(x)[0]) != read_case(x)[1]]
-    for line in differing:
-        print(f"differs: {line}\n  model: {answer(*read_case(line)[0])}")
-    print(f"{len(lines) - len(differing)} of {len(lines)} lines agree")
-    return len(differing)
-
-def compare(batch, seed, kinds):
-    done = subprocess.run([PROGRAM], input=b"".join(frame(*case) for case in batch), capture_output=True)
-    given = done.stdout.decode("latin-1").splitlines()
-    differing = int(done.returncode != 0 or len(given) != len(batch))
-    if differing:
-        print(f"seed {seed}: {len(batch)} frames, {len(given)} lines, exit code {done.returncode}")
-    for case, line in itertools.zip_longest(batch, given[:len(batch)]):
-        due = answer(*case)
-        kinds[kind(due)] += 1
-        if line != due:
+    lines = [x for x in (ROOT / "tests/der_cases.txt").read_text().splitlines() if x.strip() and not x.startswith("#")]
+    differing = 0
+    for line in lines:
+        call, due = line.split("=", 1)
+        letter, argument, at, end, *words = call.split()
+        parts = (word.partition("*") for word in words)
+        data = b"".join(bytes([int(value, 16)]) * int(times or 1) for value, _, times in parts)
+        given = answer(letter, int(argument, 16), int(at), len(data) if end == "." else int(end), data)
+        if given != due.strip():
             differing += 1
-            print(f"seed {seed}: frame {frame(*case).hex()}\n  program: {line}\n  model:   {due}")
+            print(f"differs: {line}\n  model: {given}")
+    print(f"{len(lines) - differing} of {len(lines)} lines agree")
     return differing
 
-def check_random(count, seed):
-    rng = random.Random(seed)
-    batch, size, kinds, differing = [], 0, collections.Counter(), 0
-    for case in (random_case(rng) for _ in range(count)):
-        if size + len(frame(*case)) > BATCH:
-            differing += compare(batch, seed, kinds)
-            batch, size = [], 0
-        batch.append(case)
-        size += len(frame(*case))
-    differing += compare(batch, seed, kinds)
+def check_random(count, rng, seed):
+    kinds, differing, cases = collections.Counter(), 0, collections.deque(random_case(rng) for _ in range(count))
+    while cases:
+        batch, size = [], 0
+        while cases and size + 8 + len(cases[0][4]) <= BATCH:
+            batch.append(cases.popleft())
+            size += 8 + len(batch[-1][4])
+        frames = b"".join(frame(*case) for case in batch)
+        done = subprocess.run([ROOT / "target/bin/der_cases"], input=frames, capture_output=True)
+        given = done.stdout.decode("latin-1").splitlines()
+        if done.returncode != 0 or len(given) != len(batch):
+            differing += 1
+            print(f"seed {seed}: {len(batch)} frames, {len(given)} lines, exit code {done.returncode}")
+        for case, line in itertools.zip_longest(batch, given[:len(batch)]):
+            due = answer(*case)
+            kinds[kind(due)] += 1
+            if line != due:
+                differing += 1
+                print(f"seed {seed}: frame {frame(*case).hex()}\n  program: {line}\n  model:   {due}")
     print("\n".join(f"{times:7} {name}" for name, times in sorted(kinds.items())))
     print(f"{count} frames, seed {seed}: {differing} differences")
     return differing
 
-def store(count, seed):
+def store(count, rng):
     """Cases sorted into groups by what they show, then taken from the groups in turn."""
-    rng = random.Random(seed)
     groups = collections.defaultdict(dict)
     for case in (random_case(rng) for _ in range(60 * count + 3000)):
         line = answer(*case)
-        number, place = line.replace(",", "").split()[1], line.split()[-1]
-        group = f"{case[0]} {kind(line)}"
-        if kind(line) in ("refused 1", "refused 2", "refused 3", "refused 4") and int(place) in case[2:4]:
-            group = f"first header, {number}"  # one group for all calls
-        elif kind(line) == "passed":
-            group += f" {min(int(number), 2)}"
-        elif line == "tag 00":
-            group += " 00"
+        words = line.replace(",", "").split()
+        group = f"{case[0]} {kind(line)}" + (" none" if line == "tag 00" else "")
+        group += f" {min(int(words[1]), 2)}" if words[0] == "passed" else ""
+        if words[0] == "refused" and words[1] in "1234" and int(words[3]) in case[2:4]:
+            group = f"first header {words[1]}"  # one group for all calls
         if len(case[4]) <= 40:
-            groups[group][written_case(*case)] = None
+            groups[group][f"{written(*case)} = {line}"] = None
     turns = itertools.zip_longest(*(groups[name] for name in sorted(groups)))
     lines = [line for turn in turns for line in turn if line][:count]
     print("\n".join(sorted(lines, key=lambda line: "tedsinorfw".index(line[0]))))
-    return 0
-
-def main():
-    options = argparse.ArgumentParser()
-    options.add_argument("--random", type=int, metavar="N")
-    options.add_argument("--store", type=int, metavar="N")
-    options.add_argument("--seed", type=int, default=1, metavar="S")
-    chosen = options.parse_args()
-    if chosen.store:
-        return store(chosen.store, chosen.seed)
-    return 1 if (check_random(chosen.random, chosen.seed) if chosen.random else check_cases()) else 0
 
 if __name__ == "__main__":
-    sys.exit(main())
+    options = argparse.ArgumentParser()
+    for name in ("--random", "--store", "--seed"):
+        options.add_argument(name, type=int, default=0)
+    chosen = options.parse_args()
+    rng = random.Random(chosen.seed)
+    if chosen.store:
+        sys.exit(store(chosen.store, rng))
+    sys.exit(1 if (check_random(chosen.random, rng, chosen.seed) if chosen.random else check_cases()) else 0)

@@ -11,6 +11,7 @@ use lib.Dec.{leb, ltb, eqb}
 use borrow.Author.Tests.{lt-ltb, le-ltb, le-leb, lt-leb, eq-eqb, ne-eqb, ltb-true, ltb-false, leb-true, leb-false, eqb-true, eqb-false}
 use Rattle.der.specs.Choice.{if_then_else_}
 use Rattle.der.specs.Element.{onExtent, onElement}
+use Rattle.der.specs.Content.{onInteger}
 use Rattle.der.specs.Opaque.{onChecked}
 use Rattle.der.specs.declared.Fault.{Fault}
 use Rattle.der.specs.declared.Cursor.{Cursor}
@@ -18,6 +19,8 @@ use Rattle.der.specs.declared.Element.{Element}
 use Rattle.der.specs.declared.Element.the-variants.{Found}
 use Rattle.der.specs.declared.Checked.{Checked}
 use Rattle.der.specs.declared.Checked.the-variants.{Passed}
+use Rattle.der.specs.declared.Integer.{Integer}
+use Rattle.der.specs.declared.Integer.the-variants.{Value}
 use Rattle.der.specs.declared.Extent.{Extent}
 use Rattle.der.specs.declared.Extent.the-variants.{Body}
 
@@ -81,6 +84,14 @@ module _ {A : Type 0} where
       → w ≡ v → w ≡ Passed m n → r ≡ good m n → r ≡ onChecked v bad good
   checked-passed v w m n r bad good p q e = rw (sym p ∙ q) e
 
+  pub integer-refused : (v w : Integer) (f : Fault) (r : A) (bad : Fault → A) (good : ℕ → Cursor → A)
+      → w ≡ v → w ≡ Integer.Refused f → r ≡ bad f → r ≡ onInteger v bad good
+  integer-refused v w f r bad good p q e = rw (sym p ∙ q) e
+
+  pub integer-value : (v w : Integer) (x : ℕ) (n : Cursor) (r : A) (bad : Fault → A) (good : ℕ → Cursor → A)
+      → w ≡ v → w ≡ Value x n → r ≡ good x n → r ≡ onInteger v bad good
+  integer-value v w x n r bad good p q e = rw (sym p ∙ q) e
+
 -- what holds of either side of a choice, each with its fact, holds of the choice
 module _ {A : Type 0} (P : A → Type 0) (x y : A) where
   pub by-test : (t : Bool) → (t ≡ true → P x) → (t ≡ false → P y) → P (if t then x else y)
@@ -109,6 +120,8 @@ pub ruleset choices = (
   element-found,
   checked-refused,
   checked-passed,
+  integer-refused,
+  integer-value,
   same,
 )
 

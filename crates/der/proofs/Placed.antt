@@ -60,32 +60,30 @@ module _ (s : List ℕ) (at end : ℕ) (inside : end ≤ length s) where
       within-of s at end (at + 2) (getD s (at + 1) 0) (omega arith) (λ b. omega arith)
       (λ b. rw (octets-short (getD s (at + 1) 0) k, one-more s (at + 1) (at + 2) (omega arith) (omega arith)))
 
-  one-of : getD s (at + 1) 0 ≡ 129 → OfExtent s at end (oneOctet s at end)
-  unfolding oneOctet
-  one-of f =
-      by-le (OfExtent s at end) _ _ end (at + 2) (λ h. tt)
-      (λ h. by-lt (OfExtent s at end) _ _ (getD s (at + 2) 0) 128 (λ k. tt)
-      (λ k. within-of s at end (at + 3) (getD s (at + 2) 0) (omega arith) (λ b. omega (arith, byte-at s b (at + 2)))
-      (λ b. rw (octets-one (getD s (at + 2) 0) k (byte-at s b (at + 2)), one-more s (at + 1) (at + 2) (omega arith) (omega arith), one-more s (at + 2) (at + 3) (omega arith) (omega arith), f))))
+  one-of : getD s (at + 1) 0 ≡ 129 → at + 2 < end → 128 ≤ getD s (at + 2) 0 → OfExtent s at end (within at (at + 3) (getD s (at + 2) 0) end)
+  one-of f h k =
+      within-of s at end (at + 3) (getD s (at + 2) 0) (omega arith) (λ b. omega (arith, byte-at s b (at + 2)))
+      (λ b. rw (octets-one (getD s (at + 2) 0) k (byte-at s b (at + 2)), one-more s (at + 1) (at + 2) (omega arith) (omega arith), one-more s (at + 2) (at + 3) (omega arith) (omega arith), f))
 
-  two-of : getD s (at + 1) 0 ≡ 130 → OfExtent s at end (twoOctets s at end)
-  unfolding twoOctets
-  two-of f =
-      by-le (OfExtent s at end) _ _ end (at + 3) (λ h. tt)
-      (λ h. by-eq (OfExtent s at end) _ _ (getD s (at + 2) 0) 0 (λ k. tt)
-      (λ k. within-of s at end (at + 4) (getD s (at + 2) 0 * 256 + getD s (at + 3) 0) (omega arith) (λ b. omega (arith, byte-at s b (at + 2), byte-at s b (at + 3)))
+  two-of : getD s (at + 1) 0 ≡ 130 → at + 3 < end → (getD s (at + 2) 0 ≡ 0 → ⊥)
+      → OfExtent s at end (within at (at + 4) (getD s (at + 2) 0 * 256 + getD s (at + 3) 0) end)
+  two-of f h k =
+      within-of s at end (at + 4) (getD s (at + 2) 0 * 256 + getD s (at + 3) 0) (omega arith) (λ b. omega (arith, byte-at s b (at + 2), byte-at s b (at + 3)))
       (λ b.
       let high : (getD s (at + 2) 0 * 256 + getD s (at + 3) 0) / 256 ≡ getD s (at + 2) 0 = omega (arith, byte-at s b (at + 3)) in
       let low : (getD s (at + 2) 0 * 256 + getD s (at + 3) 0) % 256 ≡ getD s (at + 3) 0 = omega (arith, byte-at s b (at + 3)) in
-      rw (octets-two (getD s (at + 2) 0 * 256 + getD s (at + 3) 0) (omega arith) (omega (arith, byte-at s b (at + 2), byte-at s b (at + 3))), high, low, one-more s (at + 1) (at + 2) (omega arith) (omega arith), one-more s (at + 2) (at + 3) (omega arith) (omega arith), one-more s (at + 3) (at + 4) (omega arith) (omega arith), f))))
+      rw (octets-two (getD s (at + 2) 0 * 256 + getD s (at + 3) 0) (omega arith) (omega (arith, byte-at s b (at + 2), byte-at s b (at + 3))), high, low, one-more s (at + 1) (at + 2) (omega arith) (omega arith), one-more s (at + 2) (at + 3) (omega arith) (omega arith), one-more s (at + 3) (at + 4) (omega arith) (omega arith), f))
 
   extent-of : OfExtent s at end (extentAt s at end)
-  unfolding extentAt
+  unfolding extentAt oneOctet twoOctets
   extent-of =
-      by-le (OfExtent s at end) _ _ end (at + 1) (λ h. tt)
-      (λ h. by-lt (OfExtent s at end) _ _ (getD s (at + 1) 0) 128 (short-of h)
-      (λ k. by-eq (OfExtent s at end) _ _ (getD s (at + 1) 0) 129 one-of
-      (λ l. by-eq (OfExtent s at end) _ _ (getD s (at + 1) 0) 130 two-of (λ m. tt))))
+      by-le (OfExtent s at end) _ _ _ _ (λ h. tt)
+      (λ h. by-lt (OfExtent s at end) _ _ _ _ (short-of h)
+      (λ k. by-eq (OfExtent s at end) _ _ _ _
+      (λ f. by-le (OfExtent s at end) _ _ _ _ (λ i. tt) (λ i. by-lt (OfExtent s at end) _ _ _ _ (λ j. tt) (one-of f i)))
+      (λ l. by-eq (OfExtent s at end) _ _ _ _
+      (λ f. by-le (OfExtent s at end) _ _ _ _ (λ i. tt) (λ i. by-eq (OfExtent s at end) _ _ _ _ (λ j. tt) (two-of f i)))
+      (λ m. tt))))
 
 -- an element found at a cursor: its tag is of a form that is taken, and its body stands behind its header, within its parent
 pub record Placed (s : List ℕ) (c : Cursor) (t : ℕ) (b n : Cursor) : Type 0 where
@@ -107,16 +105,20 @@ by-extent : {A : Type 0} (P : A → Type 0) (Q : Extent → Type 0) (bad : Fault
 by-extent P Q bad good f g (Extent.Refused e) q = f e
 by-extent P Q bad good f g (Body b) q = g b q
 
+placed-of : (s : List ℕ) (c : Cursor) → c .end ≤ length s → c .at < c .end → (getD s (c .at) 0 ≡ 0 → ⊥) → (getD s (c .at) 0 % 32 ≡ 31 → ⊥)
+    → OfElement s c (onExtent (extentAt s (c .at) (c .end)) Element.Refused (λ b. Found (getD s (c .at) 0) b (cursor (b .end) (c .end))))
+placed-of s c h k l m =
+    by-extent (OfElement s c) (OfExtent s (c .at) (c .end)) _ _ (λ f. tt)
+    (λ b p. record { some = k; inside = h; tag = refl; not-zero = l; low-bits = m; body = p; next = refl })
+    (extentAt s (c .at) (c .end)) (extent-of s (c .at) (c .end) h)
+
 pub element-of : (s : List ℕ) (c : Cursor) → OfElement s c (elementAt s c)
 unfolding elementAt
 element-of s c =
-    by-lt (OfElement s c) _ _ (length s) (c .end) (λ h. tt)
-    (λ h. by-le (OfElement s c) _ _ (c .end) (c .at) (λ k. tt)
-    (λ k. by-eq (OfElement s c) _ _ (getD s (c .at) 0) 0 (λ l. tt)
-    (λ l. by-eq (OfElement s c) _ _ (getD s (c .at) 0 % 32) 31 (λ m. tt)
-    (λ m. by-extent (OfElement s c) (OfExtent s (c .at) (c .end)) _ _ (λ f. tt)
-    (λ b p. record { some = k; inside = h; tag = refl; not-zero = l; low-bits = m; body = p; next = refl })
-    (extentAt s (c .at) (c .end)) (extent-of s (c .at) (c .end) h)))))
+    by-lt (OfElement s c) _ _ _ _ (λ h. tt)
+    (λ h. by-le (OfElement s c) _ _ _ _ (λ k. tt)
+    (λ k. by-eq (OfElement s c) _ _ _ _ (λ l. tt)
+    (λ l. by-eq (OfElement s c) _ _ _ _ (λ m. tt) (placed-of s c h k l))))
 
 -- the facts of an element that was found
 pub found : (s : List ℕ) (c : Cursor) (w : Element) (t : ℕ) (b n : Cursor) → w ≡ elementAt s c → w ≡ Found t b n → Placed s c t b n

@@ -8,6 +8,7 @@ use lib.Seq.{slice}
 use Rattle.der.specs.Choice.{if_then_else_}
 use Rattle.der.specs.Numbers.{content}
 use Rattle.der.specs.Element.{fault, expectAt, onElement}
+use Rattle.der.specs.declared.Fault.{Fault}
 use Rattle.der.specs.declared.Cursor.{Cursor}
 use Rattle.der.specs.declared.Element.{Element}
 use Rattle.der.specs.declared.Element.the-variants.{Found}
@@ -68,3 +69,7 @@ integerAt s c =
     onElement (expectAt 2 s c)
     Integer.Refused
     (λ t b n. if integerBody s b then Value (integerValue s b) n else Integer.Refused (fault content (c .at)))
+
+abbrev pub onInteger : {A : Type 0} → Integer → (Fault → A) → (ℕ → Cursor → A) → A
+onInteger (Integer.Refused f) bad good = bad f
+onInteger (Value v n) bad good = good v n
