@@ -12,6 +12,7 @@ use lib.Dec.{leb, ltb, eqb}
 use lib.ListN.{length, getD, take, length-take, drop-of-length-le}
 use lib.Seq.{slice, slice-cons, length-slice, getD-take, getD-drop}
 use borrow.Author.Tests.{ltb-true, ltb-false, leb-true, leb-false, eqb-true, eqb-false, lt-ltb, le-ltb, le-leb, lt-leb, eq-eqb, ne-eqb}
+use Rattle.der.specs.Numbers.{integerBound}
 use Rattle.der.specs.Choice.{if_then_else_}
 use Rattle.der.specs.Content.{breaks, parts, identifierBody, bytesOf, integerBody, andDigit, integerValue, IntegerAt}
 use Rattle.der.specs.Octets.{number, numberFrom, IntegerRule, IdentifierRule}
@@ -201,7 +202,7 @@ unfolding andDigit
 andDigit-below s end i v k h g = below (getD s i 0) v k (ltb i end) h g
 
 pub integer-value-below : (s : List ℕ) (b : Cursor) → getD s (b .at) 0 < 128 → ((i : ℕ) → getD s i 0 < 256)
-    → integerValue s b < 2147483648
+    → integerValue s b < integerBound
 unfolding integerValue
 integer-value-below s b h g =
     let more : (i v k : ℕ) → v < k → andDigit s (b .end) i v < k * 256 = λ i v k l. andDigit-below s (b .end) i v k l (g i) in

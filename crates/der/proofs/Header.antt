@@ -7,7 +7,7 @@ use lib.ListN.{length, getD, drop}
 use lib.Seq.{length-slice}
 use borrow.Author.Tests.{lt-ltb, le-ltb, lt-leb, ne-eqb}
 use Rattle.der.specs.Element.{cursor, fault, tagAt, finishAt, within, oneOctet, twoOctets, extentAt, elementAt}
-use Rattle.der.specs.Numbers.{leftOver}
+use Rattle.der.specs.Numbers.{leftOver, lengthBound}
 use Rattle.der.specs.Content.{bytesOf}
 use Rattle.der.specs.Octets.{lengthOctets, tlv, TagForm}
 use Rattle.der.specs.Span.{Span, Bytes}
@@ -52,7 +52,7 @@ module _ (s : List ℕ) (at end b n : ℕ) (inside : end ≤ length s) (fits : b
       rw (f, lt-leb end (at + 1) (omega (arith, p .size)), lt-leb end (at + 3) (omega (arith, p .size)), ne-eqb (getD s (at + 2) 0) 0 (λ z. omega arith))
       (within-is (at + 4) (getD s (at + 2) 0 * 256 + getD s (at + 3) 0) (omega (arith, p .size)) (omega arith))
 
-  extent-is : Span s (at + 1) b (lengthOctets n) → n < 65536 → extentAt s at end ≡ Body (cursor b (b + n))
+  extent-is : Span s (at + 1) b (lengthOctets n) → n < lengthBound → extentAt s at end ≡ Body (cursor b (b + n))
   extent-is p h =
       either n 128
       (λ k. short-is (rw (octets-short n k) at p) k)
@@ -65,7 +65,7 @@ element-is s at end t b i l g form x =
     rw (g, le-ltb (length s) end i, lt-leb end at l, ne-eqb t 0 (form .not-zero), ne-eqb (t % 32) 31 (form .low-bits), x)
 
 -- what is written as `tlv` is found: k is told where the body begins
-pub header-then : {P : Type 0} (s : List ℕ) (at e end t : ℕ) (body : List ℕ) → TagForm t → length body < 65536
+pub header-then : {P : Type 0} (s : List ℕ) (at e end t : ℕ) (body : List ℕ) → TagForm t → length body < lengthBound
     → Span s at e (tlv t body) → e ≤ end → end ≤ length s
     → ((b : ℕ) → elementAt s (cursor at end) ≡ Found t (cursor b e) (cursor e end) → Span s b e body → P) → P
 unfolding tlv

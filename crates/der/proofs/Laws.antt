@@ -7,7 +7,7 @@ use mathlib.Core.List.{List, [], _∷_, _++_}
 use Prim.Native.Nat.{ℕ, _+_, _*_, _/_, _%_, _≤_, _<_}
 use lib.ListN.{length, getD}
 use Rattle.der.specs.Element.{tagAt, finishAt, elementAt, expectAt, fault}
-use Rattle.der.specs.Numbers.{leftOver}
+use Rattle.der.specs.Numbers.{leftOver, lengthBound, integerBound}
 use Rattle.der.specs.Content.{identifierBody, identifierAt, integerAt}
 use Rattle.der.specs.Opaque.{opaqueAt, elementsAt}
 use Rattle.der.specs.Octets.{lengthOctets, tlv, number, integerOctets, IdentifierRule, IntegerRule}
@@ -52,7 +52,7 @@ octets-short = octets.octets-short
 pub octets-one : (n : ℕ) → 128 ≤ n → n < 256 → lengthOctets n ≡ 129 ∷ n ∷ []
 octets-one = octets.octets-one
 
-pub octets-two : (n : ℕ) → 256 ≤ n → n < 65536 → lengthOctets n ≡ 130 ∷ (n / 256) ∷ (n % 256) ∷ []
+pub octets-two : (n : ℕ) → 256 ≤ n → n < lengthBound → lengthOctets n ≡ 130 ∷ (n / 256) ∷ (n % 256) ∷ []
 octets-two = octets.octets-two
 
 -- ---- identifiers and integers
@@ -68,10 +68,10 @@ pub integer-iff : (s : List ℕ) (c : Cursor) (v : ℕ) (n : Cursor) → Bytes s
 integer-iff s c v n bytes = (values.integer-sound s c v n bytes, values.integer-complete s c v n)
 
 -- The octets of a number below 2^31 keep the rule and give the number back; a body that keeps the rule is the octets of its number.
-pub octets-of-integer : (v : ℕ) → v < 2147483648 → IntegerRule (integerOctets v) × (number (integerOctets v) ≡ v)
+pub octets-of-integer : (v : ℕ) → v < integerBound → IntegerRule (integerOctets v) × (number (integerOctets v) ≡ v)
 octets-of-integer v h = (octets.integer-rule v h, octets.integer-number v)
 
-pub integer-of-octets : (body : List ℕ) → Bytes body → IntegerRule body → (integerOctets (number body) ≡ body) × (number body < 2147483648)
+pub integer-of-octets : (body : List ℕ) → Bytes body → IntegerRule body → (integerOctets (number body) ≡ body) × (number body < integerBound)
 integer-of-octets body b r = (octets.integer-octets body b r, octets.integer-below body b r)
 
 -- ---- opaque elements

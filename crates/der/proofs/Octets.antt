@@ -4,6 +4,7 @@ use mathlib.Core.List.{List, [], _∷_, _++_, append-assoc, append-nil}
 use Prim.Native.Nat.{ℕ, zero, suc, _+_, _*_, _/_, _%_, _≤_, _<_}
 use native.Mathlib.Omega.{arith}
 use lib.ListN.{length, getD, length-append, List·getD-append}
+use Rattle.der.specs.Numbers.{lengthBound, integerBound}
 use Rattle.der.specs.Octets.{digitsFrom, digits, lengthOctets, tlv, integerOctets, numberFrom, number, IntegerRule}
 use Rattle.der.specs.Span.{Bytes}
 use Rattle.der.proofs.Choices.{chosen-lt, chosen-le, either}
@@ -100,7 +101,7 @@ octets-long n h = chosen-le n 128 _ _ h
 pub octets-one : (n : ℕ) → 128 ≤ n → n < 256 → lengthOctets n ≡ 129 ∷ n ∷ []
 octets-one n h k = rw (octets-long n h, digits-small n k)
 
-pub octets-two : (n : ℕ) → 256 ≤ n → n < 65536 → lengthOctets n ≡ 130 ∷ (n / 256) ∷ (n % 256) ∷ []
+pub octets-two : (n : ℕ) → 256 ≤ n → n < lengthBound → lengthOctets n ≡ 130 ∷ (n / 256) ∷ (n % 256) ∷ []
 octets-two n h k = rw (octets-long n (omega arith), digits-more n h, digits-small (n / 256) (omega arith))
 
 pub octets-some : (n : ℕ) → 1 ≤ length (lengthOctets n)
@@ -140,13 +141,13 @@ length-tlv t a = simp length-append (omega arith)
 pub tlv-long : (t : ℕ) (a : List ℕ) → 2 + length a ≤ length (tlv t a)
 tlv-long t a = omega (arith, length-tlv t a, octets-some (length a))
 
-octets-bytes : (n : ℕ) → n < 65536 → Bytes (lengthOctets n)
+octets-bytes : (n : ℕ) → n < lengthBound → Bytes (lengthOctets n)
 octets-bytes n h =
     either n 128
     (λ k. rw (octets-short n k) (omega arith, tt))
     (λ k. either n 256 (λ l. rw (octets-one n k l) (omega arith, (omega arith, tt))) (λ l. rw (octets-two n l h) (omega arith, (omega arith, (omega arith, tt)))))
 
-pub tlv-bytes : (t : ℕ) (a : List ℕ) → t < 256 → length a < 65536 → Bytes a → Bytes (tlv t a)
+pub tlv-bytes : (t : ℕ) (a : List ℕ) → t < 256 → length a < lengthBound → Bytes a → Bytes (tlv t a)
 unfolding tlv
 tlv-bytes t a h k b = (h, bytes-append (lengthOctets (length a)) a (octets-bytes (length a) k) b)
 
@@ -175,7 +176,7 @@ integer-number n =
     (λ h. rw (integer-padded n h, number-zero) (number-digits n))
 
 -- digits without a leading zero, of a number below 2^31: at most four, and at most three if the first is 128 or more
-few : (l : List ℕ) → number l < 2147483648 → (1 < length l → getD l 0 0 ≡ 0 → ⊥) → (length l ≤ 4) × (128 ≤ getD l 0 0 → length l ≤ 3)
+few : (l : List ℕ) → number l < integerBound → (1 < length l → getD l 0 0 ≡ 0 → ⊥) → (length l ≤ 4) × (128 ≤ getD l 0 0 → length l ≤ 3)
 unfolding number numberFrom
 few [] h k = omega arith
 few (a ∷ []) h k = omega arith
@@ -187,7 +188,7 @@ few (a ∷ b ∷ c ∷ d ∷ e ∷ l) h k = absurd (omega (arith, number-grows (
 digits-first : (n : ℕ) → 1 < length (digits n) → getD (digits n) 0 0 ≡ 0 → ⊥
 digits-first n h e = either n 1 (λ k. omega (arith, ap length (digits-small n (omega arith)))) (λ k. digits-lead n k e)
 
-pub integer-rule : (n : ℕ) → n < 2147483648 → IntegerRule (integerOctets n)
+pub integer-rule : (n : ℕ) → n < integerBound → IntegerRule (integerOctets n)
 integer-rule n h =
     let f = few (digits n) (rw (number-digits n) h) (digits-first n) in
     either (getD (digits n) 0 0) 128
@@ -207,7 +208,7 @@ integer-octets (suc a ∷ l) b r =
     let e = digits-number (suc a) l (omega arith) b in
     integer-plain (number (suc a ∷ l)) (rw e (r .positive)) ∙ e
 
-pub integer-below : (body : List ℕ) → Bytes body → IntegerRule body → number body < 2147483648
+pub integer-below : (body : List ℕ) → Bytes body → IntegerRule body → number body < integerBound
 unfolding number numberFrom
 integer-below [] b r = omega arith
 integer-below (a ∷ []) b r = omega arith

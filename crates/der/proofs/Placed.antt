@@ -7,6 +7,7 @@ use native.Mathlib.Omega.{arith}
 use lib.ListN.{length, getD, drop}
 use lib.Seq.{drop-cons}
 use borrow.Author.Tests.{eq-eqb}
+use Rattle.der.specs.Numbers.{lengthBound}
 use Rattle.der.specs.Element.{cursor, within, oneOctet, twoOctets, extentAt, elementAt, expectAt, onExtent, onElement}
 use Rattle.der.specs.Octets.{lengthOctets}
 use Rattle.der.specs.Span.{Bytes}
@@ -29,7 +30,7 @@ pub record BodyOf (s : List ℕ) (at end : ℕ) (b : Cursor) : Type 0 where
   pub past : at + 2 ≤ b .at
   pub size : b .at ≤ b .end
   pub within : b .end ≤ end
-  pub small : Bytes s → b .end < b .at + 65536
+  pub small : Bytes s → b .end < b .at + lengthBound
   pub octets : Bytes s → drop (at + 1) s ≡ lengthOctets (b .end - b .at) ++ drop (b .at) s
 
 abbrev OfExtent : List ℕ → ℕ → ℕ → Extent → Type 0
@@ -37,7 +38,7 @@ OfExtent s at end (Extent.Refused f) = Unit {0}
 OfExtent s at end (Body b) = BodyOf s at end b
 
 -- a body of `size` bytes from `start`, whose length octets stand before it
-within-of : (s : List ℕ) (at end start size : ℕ) → at + 2 ≤ start → (Bytes s → size < 65536)
+within-of : (s : List ℕ) (at end start size : ℕ) → at + 2 ≤ start → (Bytes s → size < lengthBound)
     → (Bytes s → drop (at + 1) s ≡ lengthOctets size ++ drop start s) → OfExtent s at end (within at start size end)
 unfolding within
 within-of s at end start size p q o =

@@ -5,6 +5,7 @@ use mathlib.Core.List.{List}
 use Prim.Native.Nat.{ℕ, _≤_, _<_}
 use native.Mathlib.Omega.{arith}
 use lib.ListN.{length}
+use Rattle.der.specs.Numbers.{lengthBound, integerBound, identifierTag, integerTag}
 use Rattle.der.specs.Element.{cursor, elementAt, expectAt}
 use Rattle.der.specs.Content.{bytesOf, identifierBody, identifierAt, integerBody, integerValue, integerAt}
 use Rattle.der.specs.Octets.{tlv, number, integerOctets, TagForm, IdentifierRule, IntegerRule}
@@ -23,63 +24,63 @@ use Rattle.der.proofs.Spans.{slice-span, bytes-take, bytes-drop}
 use Rattle.der.proofs.Header.{header-then, header-sound, header-complete}
 
 -- a tag that is written out is of a form that is taken
-pub identifier-form : TagForm 6
+pub identifier-form : TagForm identifierTag
 identifier-form = record { not-zero = λ e. omega arith; low-bits = λ e. omega arith }
 
-pub integer-form : TagForm 2
+pub integer-form : TagForm integerTag
 integer-form = record { not-zero = λ e. omega arith; low-bits = λ e. omega arith }
 
 -- identifiers
 abbrev OfIdentifier : List ℕ → Cursor → Element → Type 0
 OfIdentifier s c (Element.Refused f) = Unit {0}
-OfIdentifier s c (Found t b n) = (expectAt 6 s c ≡ Found t b n) × (identifierBody (bytesOf s b) ≡ true)
+OfIdentifier s c (Found t b n) = (expectAt identifierTag s c ≡ Found t b n) × (identifierBody (bytesOf s b) ≡ true)
 
 identifier-of : (s : List ℕ) (c : Cursor) → OfIdentifier s c (identifierAt s c)
 unfolding identifierAt
 identifier-of s c =
-    by-element (OfIdentifier s c) (λ x. expectAt 6 s c ≡ x) _ _ (λ f. tt)
+    by-element (OfIdentifier s c) (λ x. expectAt identifierTag s c ≡ x) _ _ (λ f. tt)
     (λ t b n p. by-test (OfIdentifier s c) _ _ (identifierBody (bytesOf s b)) (λ h. (p, h)) (λ h. tt))
-    (expectAt 6 s c) refl
+    (expectAt identifierTag s c) refl
 
 pub identifier-sound : (s : List ℕ) (c : Cursor) (t : ℕ) (b n : Cursor) → Bytes s → identifierAt s c ≡ Found t b n → IdentifierIs s c t b n
 identifier-sound s c t b n bs e =
     let p = rw e at (identifier-of s c) in
-    let q = expected 6 s c (expectAt 6 s c) t b n refl (p .0) in
+    let q = expected identifierTag s c (expectAt identifierTag s c) t b n refl (p .0) in
     record { tag = q .0; header = header-sound s c t b n bs (q .1); rule = identifier-rule (bytesOf s b) (p .1) }
 
-identifier-is : (s : List ℕ) (c b n : Cursor) → elementAt s c ≡ Found 6 b n → IdentifierRule (bytesOf s b) → identifierAt s c ≡ Found 6 b n
+identifier-is : (s : List ℕ) (c b n : Cursor) → elementAt s c ≡ Found identifierTag b n → IdentifierRule (bytesOf s b) → identifierAt s c ≡ Found identifierTag b n
 unfolding identifierAt
-identifier-is s c b n e r = rw (expect-is s c 6 b n e, identifier-body (bytesOf s b) r)
+identifier-is s c b n e r = rw (expect-is s c identifierTag b n e, identifier-body (bytesOf s b) r)
 
 pub identifier-complete : (s : List ℕ) (c : Cursor) (t : ℕ) (b n : Cursor) → IdentifierIs s c t b n → identifierAt s c ≡ Found t b n
 identifier-complete s c t b n h =
     rw (h .tag) (identifier-is s c b n (rw (h .tag) at (header-complete s c t b n (h .header))) (h .rule))
 
 -- an identifier that is written is found: k is told where its body begins
-pub identifier-then : {P : Type 0} (s : List ℕ) (at e end : ℕ) (body : List ℕ) → IdentifierRule body → length body < 65536
-    → Span s at e (tlv 6 body) → e ≤ end → end ≤ length s
-    → ((b : ℕ) → identifierAt s (cursor at end) ≡ Found 6 (cursor b e) (cursor e end) → Span s b e body → P) → P
+pub identifier-then : {P : Type 0} (s : List ℕ) (at e end : ℕ) (body : List ℕ) → IdentifierRule body → length body < lengthBound
+    → Span s at e (tlv identifierTag body) → e ≤ end → end ≤ length s
+    → ((b : ℕ) → identifierAt s (cursor at end) ≡ Found identifierTag (cursor b e) (cursor e end) → Span s b e body → P) → P
 identifier-then s at e end body r small p h i k =
-    header-then s at e end 6 body identifier-form small p h i
+    header-then s at e end identifierTag body identifier-form small p h i
     (λ b f q. k b (identifier-is s (cursor at end) (cursor b e) (cursor e end) f (rw (slice-span s b e body q) r)) q)
 
 -- integers
 abbrev OfInteger : List ℕ → Cursor → Integer → Type 0
 OfInteger s c (Integer.Refused f) = Unit {0}
-OfInteger s c (Value v n) = (t : ℕ) × (b : Cursor) × (expectAt 2 s c ≡ Found t b n) × (integerBody s b ≡ true) × (v ≡ integerValue s b)
+OfInteger s c (Value v n) = (t : ℕ) × (b : Cursor) × (expectAt integerTag s c ≡ Found t b n) × (integerBody s b ≡ true) × (v ≡ integerValue s b)
 
 integer-of : (s : List ℕ) (c : Cursor) → OfInteger s c (integerAt s c)
 unfolding integerAt
 integer-of s c =
-    by-element (OfInteger s c) (λ x. expectAt 2 s c ≡ x) _ _ (λ f. tt)
+    by-element (OfInteger s c) (λ x. expectAt integerTag s c ≡ x) _ _ (λ f. tt)
     (λ t b n p. by-test (OfInteger s c) _ _ (integerBody s b) (λ h. (t, b, p, h, refl)) (λ h. tt))
-    (expectAt 2 s c) refl
+    (expectAt integerTag s c) refl
 
 pub integer-sound : (s : List ℕ) (c : Cursor) (v : ℕ) (n : Cursor) → Bytes s → integerAt s c ≡ Value v n → IntegerIs s c v n
 integer-sound s c v n bs e =
     let p = rw e at (integer-of s c) in
     let b = p .1 in
-    let q = expected 2 s c (expectAt 2 s c) (p .0) b n refl (p .2) in
+    let q = expected integerTag s c (expectAt integerTag s c) (p .0) b n refl (p .2) in
     let d = header-sound s c (p .0) b n bs (q .1) in
     let r = integer-rule-of s b (d .body .inside) (p .3) in
     let bytes : Bytes (bytesOf s b) = bytes-drop _ (b .at) (bytes-take s (b .end) bs) in
@@ -92,16 +93,16 @@ integer-sound s c v n bs e =
       moved = rw stop at (d .moved);
     }
 
-integer-is : (s : List ℕ) (c b n : Cursor) → elementAt s c ≡ Found 2 b n → b .end ≤ length s → IntegerRule (bytesOf s b)
+integer-is : (s : List ℕ) (c b n : Cursor) → elementAt s c ≡ Found integerTag b n → b .end ≤ length s → IntegerRule (bytesOf s b)
     → integerAt s c ≡ Value (number (bytesOf s b)) n
 unfolding integerAt
-integer-is s c b n e i r = rw (expect-is s c 2 b n e, integer-body-of s b i r, integer-value-of s b i r)
+integer-is s c b n e i r = rw (expect-is s c integerTag b n e, integer-body-of s b i r, integer-value-of s b i r)
 
 -- an INTEGER that is written is read
-pub integer-then : (s : List ℕ) (at e end v : ℕ) → v < 2147483648 → Span s at e (tlv 2 (integerOctets v)) → e ≤ end → end ≤ length s
+pub integer-then : (s : List ℕ) (at e end v : ℕ) → v < integerBound → Span s at e (tlv integerTag (integerOctets v)) → e ≤ end → end ≤ length s
     → integerAt s (cursor at end) ≡ Value v (cursor e end)
 integer-then s at e end v small p h i =
-    header-then s at e end 2 (integerOctets v) integer-form (omega (arith, integer-rule v small .four)) p h i
+    header-then s at e end integerTag (integerOctets v) integer-form (omega (arith, integer-rule v small .four)) p h i
     (λ b f q.
     let r : bytesOf s (cursor b e) ≡ integerOctets v = slice-span s b e (integerOctets v) q in
     integer-is s (cursor at end) (cursor b e) (cursor e end) f (q .inside) (rw r (integer-rule v small)) ∙ rw (r, integer-number v))

@@ -6,7 +6,7 @@ use lib.Dec.{leb, ltb, eqb}
 use lib.ListN.{length, getD}
 use lib.Seq.{slice}
 use Rattle.der.specs.Choice.{if_then_else_}
-use Rattle.der.specs.Numbers.{content}
+use Rattle.der.specs.Numbers.{content, identifierTag, integerTag}
 use Rattle.der.specs.Element.{fault, expectAt, onElement}
 use Rattle.der.specs.declared.Fault.{Fault}
 use Rattle.der.specs.declared.Cursor.{Cursor}
@@ -35,7 +35,7 @@ bytesOf s b = slice (b .at) (b .end) s
 
 unfoldable pub identifierAt : List ℕ → Cursor → Element
 identifierAt s c =
-    onElement (expectAt 6 s c)
+    onElement (expectAt identifierTag s c)
     Element.Refused
     (λ t b n. if identifierBody (bytesOf s b) then Found t b n else Element.Refused (fault content (c .at)))
 
@@ -66,7 +66,7 @@ integerValue s b =
 
 unfoldable pub integerAt : List ℕ → Cursor → Integer
 integerAt s c =
-    onElement (expectAt 2 s c)
+    onElement (expectAt integerTag s c)
     Integer.Refused
     (λ t b n. if integerBody s b then Value (integerValue s b) n else Integer.Refused (fault content (c .at)))
 

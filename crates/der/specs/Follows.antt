@@ -3,6 +3,7 @@ use mathlib.Core.Path.{_≡_}
 use mathlib.Core.List.{List}
 use Prim.Native.Nat.{ℕ, _≤_, _<_}
 use lib.ListN.{length}
+use Rattle.der.specs.Numbers.{lengthBound, integerBound, identifierTag, integerTag}
 use Rattle.der.specs.Element.{cursor}
 use Rattle.der.specs.Content.{bytesOf}
 use Rattle.der.specs.Octets.{tlv, integerOctets, TagForm, IdentifierRule}
@@ -19,21 +20,21 @@ pub record Moved (s : List ℕ) (c : Cursor) (stop : ℕ) (n : Cursor) : Type 0 
 -- an element stands at c: its tag t, its body b, and the cursor n past it
 pub record HeaderIs (s : List ℕ) (c : Cursor) (t : ℕ) (b n : Cursor) : Type 0 where
   pub form : TagForm t
-  pub small : length (bytesOf s b) < 65536
+  pub small : length (bytesOf s b) < lengthBound
   pub body : Span s (b .at) (b .end) (bytesOf s b)
   pub whole : Span s (c .at) (b .end) (tlv t (bytesOf s b))
   pub moved : Moved s c (b .end) n
 
 -- an identifier stands at c
 pub record IdentifierIs (s : List ℕ) (c : Cursor) (t : ℕ) (b n : Cursor) : Type 0 where
-  pub tag : t ≡ 6
+  pub tag : t ≡ identifierTag
   pub header : HeaderIs s c t b n
   pub rule : IdentifierRule (bytesOf s b)
 
 -- the INTEGER v stands at c
 pub record IntegerIs (s : List ℕ) (c : Cursor) (v : ℕ) (n : Cursor) : Type 0 where
-  pub small : v < 2147483648
-  pub whole : Span s (c .at) (n .at) (tlv 2 (integerOctets v))
+  pub small : v < integerBound
+  pub whole : Span s (c .at) (n .at) (tlv integerTag (integerOctets v))
   pub moved : Moved s c (n .at) n
 
 -- a tree of l levels at most stands at c: m elements

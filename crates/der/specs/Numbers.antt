@@ -1,4 +1,4 @@
--- The numbers of the refusals that reading an element gives (scope, "Numbers given back").
+-- The numbers that the definitions name: refusals (scope, "Numbers given back"), tags and bounds (scope, "One element").
 use Prim.Native.Nat.{ℕ}
 
 -- an element is due and its parent has no byte left
@@ -32,3 +32,25 @@ leftOver = 6
 -- a level too many
 abbrev pub tooMany : ℕ
 tooMany = 8
+
+-- the tags of INTEGER, OCTET STRING and OBJECT IDENTIFIER
+abbrev pub integerTag : ℕ
+integerTag = 2
+
+abbrev pub octetStringTag : ℕ
+octetStringTag = 4
+
+abbrev pub identifierTag : ℕ
+identifierTag = 6
+
+-- "82 with 0100..FFFF": a length below this has a form that is read
+abbrev pub lengthBound : ℕ
+lengthBound = 65536
+
+-- "1 to 4 body bytes, minimal, not negative": the numbers below 2^31
+abbrev pub integerBound : ℕ
+integerBound = 2147483648
+
+-- "16 levels at most"
+abbrev pub opaqueLevels : ℕ
+opaqueLevels = 16

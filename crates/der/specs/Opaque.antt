@@ -43,7 +43,3 @@ opaqueAt (suc l) s c =
 -- a body of zero or more opaque elements, each of l levels at most
 unfoldable pub elementsAt : ℕ → List ℕ → Cursor → Checked
 elementsAt l s c = run (opaqueAt l s) c
-
--- "16 levels at most"
-abbrev pub opaqueLevels : ℕ
-opaqueLevels = 16

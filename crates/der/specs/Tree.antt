@@ -3,6 +3,7 @@ use mathlib.Core.Path.{_≡_}
 use mathlib.Core.List.{List, [], _++_}
 use Prim.Native.Nat.{ℕ, suc, _+_, _/_, _%_, _<_, max}
 use lib.ListN.{length}
+use Rattle.der.specs.Numbers.{lengthBound}
 use Rattle.der.specs.Octets.{tlv, TagForm}
 
 mutual
@@ -47,8 +48,8 @@ unfoldable mutual
 -- each tag is of a form that is taken and says which kind of element it is; each length is of a form that is taken
 unfoldable mutual
   pub Formed : Tree → Type 0
-  Formed (primitive t body) = TagForm t × (t / 32 % 2 ≡ 0) × (length body < 65536)
-  Formed (constructed t xs) = TagForm t × (t / 32 % 2 ≡ 1) × (length (encodes xs) < 65536) × AllFormed xs
+  Formed (primitive t body) = TagForm t × (t / 32 % 2 ≡ 0) × (length body < lengthBound)
+  Formed (constructed t xs) = TagForm t × (t / 32 % 2 ≡ 1) × (length (encodes xs) < lengthBound) × AllFormed xs
 
   pub AllFormed : Trees → Type 0
   AllFormed none = Unit {0}

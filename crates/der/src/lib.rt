@@ -4,6 +4,7 @@ ghost use mathlib.Core.Path.{_≡_};
 ghost use Prim.Native.Nat.{_+_, _^_, _<_, _≤_};
 ghost use lib.ListN.{length};
 ghost use lib.Seq.{slice};
+ghost use Rattle.der.specs.Numbers.{octetStringTag};
 ghost use Rattle.der.specs.Element.{wholeOf, tagAt, finishAt, within, oneOctet, twoOctets, extentAt, elementAt, expectAt};
 ghost use Rattle.der.specs.Content.{breaks, identifierBody, identifierAt, integerBody, andDigit, integerValue, integerAt, IntegerAt};
 ghost use Rattle.der.specs.Opaque.{opaqueAt, elementsAt};
@@ -368,7 +369,7 @@ impl Cursor {
 
     // The next element, an OCTET STRING.
     pub fn octet_string(self, s: &[u8]) -> Element
-        ensures { λ r. ⌜ r ≡ expectAt 4 (now (s .entry)) self ⌝ }
+        ensures { λ r. ⌜ r ≡ expectAt octetStringTag (now (s .entry)) self ⌝ }
     {
         self.expect(s, OCTET_STRING)
     }
