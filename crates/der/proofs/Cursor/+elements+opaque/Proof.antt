@@ -70,7 +70,7 @@ elements-add-sum : (t : ℕ) → elements-lts.Need-add-sum (in-elements t) (elem
 elements-add-sum t c = search step-fits
 
 elements-loop-less : (t : ℕ) → elements-lts.Need-loop-less (in-elements t) (elements-at t) elements.Post elements-Inv-loop elements-μ-loop
-elements-loop-less t c = search step-falls
+elements-loop-less t c = search (step-falls, needs)
 
 elements-loop-again : (t : ℕ) → elements-lts.Need-loop-again (in-elements t) (elements-at t) elements.Post elements-Inv-loop elements-μ-loop
 elements-loop-again t c = (search running-on, search step-long)
