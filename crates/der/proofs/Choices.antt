@@ -3,8 +3,6 @@
 use mathlib.Core.Path.{_≡_, refl, sym, _∙_}
 use mathlib.Core.Bool.{Bool, true, false}
 use Prim.Native.Nat.{ℕ, _<_, _≤_}
-use mir.Val.{Fits}
-use mir.Syntax.{w8, w32, w64}
 use native.Mathlib.Omega.{arith}
 use native.Mathlib.Decide.{decLt}
 use lib.Dec.{leb, ltb, eqb}
@@ -25,13 +23,7 @@ use Rattle.der.specs.declared.Extent.{Extent}
 use Rattle.der.specs.declared.Extent.the-variants.{Body}
 
 module _ {A : Type 0} where
-  pub at-true : (t : Bool) (r x y : A) → t ≡ true → r ≡ x → r ≡ (if t then x else y)
-  at-true t r x y h e = rw h e
-
-  pub at-false : (t : Bool) (r x y : A) → t ≡ false → r ≡ y → r ≡ (if t then x else y)
-  at-false t r x y h e = rw h e
-
-  -- a test that a callee made: u is what it gave
+  -- a test that is a bool: u is what the code learnt of it, its own or what a callee gave
   pub told-true : (t u : Bool) (r x y : A) → u ≡ t → u ≡ true → r ≡ x → r ≡ (if t then x else y)
   told-true t u r x y p q e = rw (sym p ∙ q) e
 
@@ -124,13 +116,6 @@ pub ruleset choices = (
   integer-value,
   same,
 )
-
--- a byte that is cast
-pub byte : {x : ℕ} → Fits w8 x → Fits w64 x
-byte h = omega arith
-
-pub narrow : {x : ℕ} → Fits w8 x → Fits w32 x
-narrow h = omega arith
 
 -- a choice by an order that is known, and a proof by cases of an order
 pub chosen-lt : {A : Type 0} (n m : ℕ) (x y : A) → n < m → (if ltb n m then x else y) ≡ x

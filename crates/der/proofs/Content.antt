@@ -12,7 +12,6 @@ use lib.Dec.{leb, ltb, eqb}
 use lib.ListN.{length, getD, take, length-take, drop-of-length-le}
 use lib.Seq.{slice, slice-cons, length-slice, getD-take, getD-drop}
 use borrow.Author.Tests.{ltb-true, ltb-false, leb-true, leb-false, eqb-true, eqb-false, lt-ltb, le-ltb, le-leb, lt-leb, eq-eqb, ne-eqb}
-use Rattle.der.specs.Numbers.{integerBound}
 use Rattle.der.specs.Choice.{if_then_else_}
 use Rattle.der.specs.Content.{breaks, parts, identifierBody, bytesOf, integerBody, andDigit, integerValue, IntegerAt}
 use Rattle.der.specs.Octets.{number, numberFrom, IntegerRule, IdentifierRule}
@@ -93,8 +92,8 @@ identifier-body (b ∷ bs) r =
     rw (ne-eqb b 128 (r .first)) (parts-of b bs t)
 
 -- The bytes of a slice.
-pub getD-slice : (s : List ℕ) (a e i : ℕ) → e ≤ length s → a + i < e → getD (slice a e s) i 0 ≡ getD s (a + i) 0
-getD-slice s a e i h k = rw (getD-drop, getD-take)
+getD-slice : (s : List ℕ) (a e i : ℕ) → a + i < e → getD (slice a e s) i 0 ≡ getD s (a + i) 0
+getD-slice s a e i h = rw (getD-drop, getD-take)
 
 slice-past : (s : List ℕ) (a e : ℕ) → e ≤ a → slice a e s ≡ []
 slice-past s a e h = drop-of-length-le (take e s) {i = a} (simp length-take (omega arith))
@@ -153,10 +152,10 @@ module _ (s : List ℕ) (b : Cursor) (inside : b .end ≤ length s) where
   size = length-slice (b .at) (b .end) s inside
 
   first-byte : b .at < b .end → getD (bytesOf s b) 0 0 ≡ getD s (b .at) 0
-  first-byte h = getD-slice s (b .at) (b .end) 0 inside (omega arith) ∙ rw add-zero
+  first-byte h = getD-slice s (b .at) (b .end) 0 (omega arith) ∙ rw add-zero
 
   second-byte : b .at + 1 < b .end → getD (bytesOf s b) 1 0 ≡ getD s (b .at + 1) 0
-  second-byte h = getD-slice s (b .at) (b .end) 1 inside h
+  second-byte h = getD-slice s (b .at) (b .end) 1 h
 
   rule-of-held : Held s (b .at) (b .end) → IntegerRule (bytesOf s b)
   rule-of-held r = record {
@@ -192,7 +191,7 @@ module _ (s : List ℕ) (b : Cursor) (inside : b .end ≤ length s) where
   pub integer-value-of : IntegerRule (bytesOf s b) → integerValue s b ≡ number (bytesOf s b)
   integer-value-of r = value-of (held-of-rule r)
 
--- A digit more is 256 times as much at most; the first one is below 128.
+-- A digit more is 256 times as much at most.
 below : (x v k : ℕ) (t : Bool) → v < k → x < 256 → (if t then v * 256 + x else v) < k * 256
 below x v k true h g = omega arith
 below x v k false h g = omega arith
@@ -200,13 +199,6 @@ below x v k false h g = omega arith
 pub andDigit-below : (s : List ℕ) (end i v k : ℕ) → v < k → getD s i 0 < 256 → andDigit s end i v < k * 256
 unfolding andDigit
 andDigit-below s end i v k h g = below (getD s i 0) v k (ltb i end) h g
-
-pub integer-value-below : (s : List ℕ) (b : Cursor) → getD s (b .at) 0 < 128 → ((i : ℕ) → getD s i 0 < 256)
-    → integerValue s b < integerBound
-unfolding integerValue
-integer-value-below s b h g =
-    let more : (i v k : ℕ) → v < k → andDigit s (b .end) i v < k * 256 = λ i v k l. andDigit-below s (b .end) i v k l (g i) in
-    more (b .at + 3) _ 8388608 (more (b .at + 2) _ 32768 (more (b .at + 1) _ 128 h))
 
 -- the same of a digit that the code read and the number that it made
 pub andDigit-next : (s : List ℕ) (end i v k r : ℕ) → r ≡ andDigit s end i v → v < k → Fits w8 (getD s i 0) → r < k * 256

@@ -1,13 +1,15 @@
 -- A header is accepted exactly if the bytes are `tlv` of a tag and a body that ends within its parent.
+use mathlib.Core.Bool.{false}
 use mathlib.Core.Path.{_≡_, refl, _∙_}
 use mathlib.Core.List.{List, [], _∷_, _++_}
 use Prim.Native.Nat.{ℕ, _+_, _*_, _-_, _/_, _%_, _≤_, _<_}
 use native.Mathlib.Omega.{arith}
+use lib.Dec.{eqb}
 use lib.ListN.{length, getD, drop}
 use lib.Seq.{length-slice}
-use borrow.Author.Tests.{lt-ltb, le-ltb, lt-leb, ne-eqb}
+use borrow.Author.Tests.{lt-ltb, le-ltb, lt-leb, ne-eqb, eqb-false}
 use Rattle.der.specs.Element.{cursor, fault, tagAt, finishAt, within, oneOctet, twoOctets, extentAt, elementAt}
-use Rattle.der.specs.Numbers.{leftOver, lengthBound}
+use Rattle.der.specs.Numbers.{leftOver, noTag, lengthBound}
 use Rattle.der.specs.Content.{bytesOf}
 use Rattle.der.specs.Octets.{lengthOctets, tlv, TagForm}
 use Rattle.der.specs.Span.{Span, Bytes}
@@ -19,8 +21,12 @@ use Rattle.der.specs.declared.Checked.the-variants.{Passed}
 use Rattle.der.specs.declared.Extent.the-variants.{Body}
 use Rattle.der.proofs.Choices.{either}
 use Rattle.der.proofs.Octets.{octets-short, octets-one, octets-two}
-use Rattle.der.proofs.Placed.{found}
+use Rattle.der.proofs.Placed.{found, left-is, left-none}
 use Rattle.der.proofs.Spans.{span-one, span-of, span-join, span-split, span-at, span-slice, span-to}
+
+-- a tag that is written out is of a form that is taken: both tests compute
+pub tag-form : (t : ℕ) → eqb t 0 ≡ false → eqb (t % 32) 31 ≡ false → TagForm t
+tag-form t p q = record { not-zero = eqb-false t 0 p; low-bits = eqb-false (t % 32) 31 q }
 
 -- the length octets that stand behind a tag are read as the body's extent
 module _ (s : List ℕ) (at end b n : ℕ) (inside : end ≤ length s) (fits : b + n ≤ end) where
@@ -62,7 +68,7 @@ element-is : (s : List ℕ) (at end t : ℕ) (b : Cursor) → end ≤ length s �
     → extentAt s at end ≡ Body b → elementAt s (cursor at end) ≡ Found t b (cursor (b .end) end)
 unfolding elementAt
 element-is s at end t b i l g form x =
-    rw (g, le-ltb (length s) end i, lt-leb end at l, ne-eqb t 0 (form .not-zero), ne-eqb (t % 32) 31 (form .low-bits), x)
+    rw (left-is s (cursor at end) l i, g, ne-eqb t 0 (form .not-zero), ne-eqb (t % 32) 31 (form .low-bits), x)
 
 -- what is written as `tlv` is found: k is told where the body begins
 pub header-then : {P : Type 0} (s : List ℕ) (at e end t : ℕ) (body : List ℕ) → TagForm t → length body < lengthBound
@@ -130,9 +136,8 @@ finish-sound c e =
 
 pub tag-left : (s : List ℕ) (c : Cursor) → c .at < c .end → c .end ≤ length s → tagAt s c ≡ getD s (c .at) 0
 unfolding tagAt
-tag-left s c h i = rw (le-ltb (length s) (c .end) i, lt-ltb (c .at) (c .end) h)
+tag-left s c h i = rw (left-is s c h i)
 
-pub tag-none : (s : List ℕ) (c : Cursor) → c .end ≤ c .at → tagAt s c ≡ 0
+pub tag-none : (s : List ℕ) (c : Cursor) → c .end ≤ c .at → tagAt s c ≡ noTag
 unfolding tagAt
-tag-none s c h =
-    either (length s) (c .end) (λ k. rw (lt-ltb (length s) (c .end) k)) (λ k. rw (le-ltb (length s) (c .end) k, le-ltb (c .at) (c .end) h))
+tag-none s c h = rw (left-none s c h)

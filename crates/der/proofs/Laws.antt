@@ -7,7 +7,7 @@ use mathlib.Core.List.{List, [], _∷_, _++_}
 use Prim.Native.Nat.{ℕ, _+_, _*_, _/_, _%_, _≤_, _<_}
 use lib.ListN.{length, getD}
 use Rattle.der.specs.Element.{tagAt, finishAt, elementAt, expectAt, fault}
-use Rattle.der.specs.Numbers.{leftOver, lengthBound, integerBound}
+use Rattle.der.specs.Numbers.{leftOver, lengthBound, integerBound, noTag}
 use Rattle.der.specs.Content.{identifierBody, identifierAt, integerAt}
 use Rattle.der.specs.Opaque.{opaqueAt, elementsAt}
 use Rattle.der.specs.Octets.{lengthOctets, tlv, number, integerOctets, IdentifierRule, IntegerRule}
@@ -118,9 +118,9 @@ finish-iff c = (header.finish-sound c, header.finish-done c)
 pub finish-left : (c : Cursor) → c .at < c .end → finishAt c ≡ Checked.Refused (fault leftOver (c .at))
 finish-left = header.finish-left
 
--- The next byte where one is left, and 0 at the parent's end.
+-- The next byte where one is left, and none at the parent's end.
 pub tag-left : (s : List ℕ) (c : Cursor) → c .at < c .end → c .end ≤ length s → tagAt s c ≡ getD s (c .at) 0
 tag-left = header.tag-left
 
-pub tag-none : (s : List ℕ) (c : Cursor) → c .end ≤ c .at → tagAt s c ≡ 0
+pub tag-none : (s : List ℕ) (c : Cursor) → c .end ≤ c .at → tagAt s c ≡ noTag
 tag-none = header.tag-none

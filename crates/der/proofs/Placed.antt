@@ -1,14 +1,16 @@
 -- Where an accepted element stands: its body behind its header and within its parent, and the header's bytes. Each fact is proved of the
 -- definition once, by cases on its answer.
 use mathlib.Core.Path.{_≡_, refl, sym, _∙_}
+use mathlib.Core.Bool.{Bool, true, false}
 use mathlib.Core.List.{List, [], _∷_, _++_}
 use Prim.Native.Nat.{ℕ, zero, suc, _+_, _*_, _-_, _/_, _%_, _≤_, _<_}
 use native.Mathlib.Omega.{arith}
+use lib.Dec.{ltb}
 use lib.ListN.{length, getD, drop}
 use lib.Seq.{drop-cons}
-use borrow.Author.Tests.{eq-eqb}
+use borrow.Author.Tests.{le-ltb, le-leb, lt-leb, eq-eqb, leb-false}
 use Rattle.der.specs.Numbers.{lengthBound}
-use Rattle.der.specs.Element.{cursor, within, oneOctet, twoOctets, extentAt, elementAt, expectAt, onExtent, onElement}
+use Rattle.der.specs.Element.{cursor, noByteLeft, within, oneOctet, twoOctets, extentAt, elementAt, expectAt, onExtent, onElement}
 use Rattle.der.specs.Octets.{lengthOctets}
 use Rattle.der.specs.Span.{Bytes}
 use Rattle.der.specs.declared.Fault.{Fault}
@@ -17,13 +19,36 @@ use Rattle.der.specs.declared.Element.{Element}
 use Rattle.der.specs.declared.Element.the-variants.{Found}
 use Rattle.der.specs.declared.Extent.{Extent}
 use Rattle.der.specs.declared.Extent.the-variants.{Body}
-use Rattle.der.proofs.Choices.{by-lt, by-le, by-eq}
+use Rattle.der.proofs.Choices.{by-test, by-lt, by-le, by-eq}
 use Rattle.der.proofs.Octets.{octets-short, octets-one, octets-two}
 
 pub byte-at : (s : List ℕ) → Bytes s → (i : ℕ) → getD s i 0 < 256
 byte-at [] b i = omega arith
 byte-at (x ∷ s) b zero = b .0
 byte-at (x ∷ s) b (suc i) = byte-at s (b .1) i
+
+-- a byte is left exactly if the cursor is before its end and the bytes reach so far
+pub left-is : (s : List ℕ) (c : Cursor) → c .at < c .end → c .end ≤ length s → noByteLeft s c ≡ false
+unfolding noByteLeft
+left-is s c h i = rw (le-ltb (length s) (c .end) i, lt-leb (c .end) (c .at) h)
+
+pub left-none : (s : List ℕ) (c : Cursor) → c .end ≤ c .at → noByteLeft s c ≡ true
+unfolding noByteLeft
+left-none s c h = by-test (λ u. u ≡ true) _ _ (ltb (length s) (c .end)) (λ k. refl) (λ k. le-leb (c .end) (c .at) h)
+
+left-of : (s : List ℕ) (c : Cursor) → noByteLeft s c ≡ false → (c .at < c .end) × (c .end ≤ length s)
+unfolding noByteLeft
+left-of s c = by-lt (λ u. u ≡ false → (c .at < c .end) × (c .end ≤ length s)) _ _ _ _ (λ k e. never e) (λ k e. (leb-false _ _ e, k))
+  where
+    never : {A : Type 0} → true ≡ false → A
+    never e = let z : _≡_ {A = ℕ} 0 1 = cc in absurd (omega arith)
+
+-- the same of a test u that the code made: where the body is looked for, and where the byte is read
+pub left-within : (s : List ℕ) (c : Cursor) (u : Bool) → u ≡ noByteLeft s c → u ≡ false → (c .at < c .end) × (c .end ≤ length s)
+left-within s c u p q = left-of s c (sym p ∙ q)
+
+pub left-index : (s : List ℕ) (c : Cursor) (u : Bool) → u ≡ noByteLeft s c → u ≡ false → c .at < length s
+left-index s c u p q = let h = left-within s c u p q in omega arith
 
 -- the body b of the element at `at`, within a parent that ends at `end`
 pub record BodyOf (s : List ℕ) (at end : ℕ) (b : Cursor) : Type 0 where
@@ -116,10 +141,9 @@ placed-of s c h k l m =
 pub element-of : (s : List ℕ) (c : Cursor) → OfElement s c (elementAt s c)
 unfolding elementAt
 element-of s c =
-    by-lt (OfElement s c) _ _ _ _ (λ h. tt)
-    (λ h. by-le (OfElement s c) _ _ _ _ (λ k. tt)
-    (λ k. by-eq (OfElement s c) _ _ _ _ (λ l. tt)
-    (λ l. by-eq (OfElement s c) _ _ _ _ (λ m. tt) (placed-of s c h k l))))
+    by-test (OfElement s c) _ _ _ (λ h. tt)
+    (λ h. by-eq (OfElement s c) _ _ _ _ (λ l. tt)
+    (λ l. by-eq (OfElement s c) _ _ _ _ (λ m. tt) (placed-of s c (left-of s c h .1) (left-of s c h .0) l)))
 
 -- the facts of an element that was found
 pub found : (s : List ℕ) (c : Cursor) (w : Element) (t : ℕ) (b n : Cursor) → w ≡ elementAt s c → w ≡ Found t b n → Placed s c t b n

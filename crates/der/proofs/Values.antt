@@ -8,7 +8,7 @@ use lib.ListN.{length}
 use Rattle.der.specs.Numbers.{lengthBound, integerBound, identifierTag, integerTag}
 use Rattle.der.specs.Element.{cursor, elementAt, expectAt}
 use Rattle.der.specs.Content.{bytesOf, identifierBody, identifierAt, integerBody, integerValue, integerAt}
-use Rattle.der.specs.Octets.{tlv, number, integerOctets, TagForm, IdentifierRule, IntegerRule}
+use Rattle.der.specs.Octets.{tlv, number, integerOctets, IdentifierRule, IntegerRule}
 use Rattle.der.specs.Span.{Span, Bytes}
 use Rattle.der.specs.Follows.{IdentifierIs, IntegerIs}
 use Rattle.der.specs.declared.Cursor.{Cursor}
@@ -21,14 +21,7 @@ use Rattle.der.proofs.Placed.{by-element, expected, expect-is}
 use Rattle.der.proofs.Octets.{integer-octets, integer-below, integer-number, integer-rule}
 use Rattle.der.proofs.Content.{identifier-rule, identifier-body, integer-rule-of, integer-body-of, integer-value-of}
 use Rattle.der.proofs.Spans.{slice-span, bytes-take, bytes-drop}
-use Rattle.der.proofs.Header.{header-then, header-sound, header-complete}
-
--- a tag that is written out is of a form that is taken
-pub identifier-form : TagForm identifierTag
-identifier-form = record { not-zero = λ e. omega arith; low-bits = λ e. omega arith }
-
-pub integer-form : TagForm integerTag
-integer-form = record { not-zero = λ e. omega arith; low-bits = λ e. omega arith }
+use Rattle.der.proofs.Header.{tag-form, header-then, header-sound, header-next, header-complete}
 
 -- identifiers
 abbrev OfIdentifier : List ℕ → Cursor → Element → Type 0
@@ -61,7 +54,7 @@ pub identifier-then : {P : Type 0} (s : List ℕ) (at e end : ℕ) (body : List 
     → Span s at e (tlv identifierTag body) → e ≤ end → end ≤ length s
     → ((b : ℕ) → identifierAt s (cursor at end) ≡ Found identifierTag (cursor b e) (cursor e end) → Span s b e body → P) → P
 identifier-then s at e end body r small p h i k =
-    header-then s at e end identifierTag body identifier-form small p h i
+    header-then s at e end identifierTag body (tag-form identifierTag refl refl) small p h i
     (λ b f q. k b (identifier-is s (cursor at end) (cursor b e) (cursor e end) f (rw (slice-span s b e body q) r)) q)
 
 -- integers
@@ -86,12 +79,8 @@ integer-sound s c v n bs e =
     let bytes : Bytes (bytesOf s b) = bytes-drop _ (b .at) (bytes-take s (b .end) bs) in
     let value : v ≡ number (bytesOf s b) = p .4 ∙ integer-value-of s b (d .body .inside) r in
     let octets : bytesOf s b ≡ integerOctets v = rw value (sym (integer-octets (bytesOf s b) bytes r)) in
-    let stop : b .end ≡ n .at = rw (d .moved .next) in
-    record {
-      small = rw value (integer-below (bytesOf s b) bytes r);
-      whole = rw (q .0, octets, stop) at (d .whole);
-      moved = rw stop at (d .moved);
-    }
+    let o = header-next s c (p .0) b n d in
+    record { small = rw value (integer-below (bytesOf s b) bytes r); whole = rw (q .0, octets) at (o .0); moved = o .1 }
 
 integer-is : (s : List ℕ) (c b n : Cursor) → elementAt s c ≡ Found integerTag b n → b .end ≤ length s → IntegerRule (bytesOf s b)
     → integerAt s c ≡ Value (number (bytesOf s b)) n
@@ -102,7 +91,7 @@ integer-is s c b n e i r = rw (expect-is s c integerTag b n e, integer-body-of s
 pub integer-then : (s : List ℕ) (at e end v : ℕ) → v < integerBound → Span s at e (tlv integerTag (integerOctets v)) → e ≤ end → end ≤ length s
     → integerAt s (cursor at end) ≡ Value v (cursor e end)
 integer-then s at e end v small p h i =
-    header-then s at e end integerTag (integerOctets v) integer-form (omega (arith, integer-rule v small .four)) p h i
+    header-then s at e end integerTag (integerOctets v) (tag-form integerTag refl refl) (omega (arith, integer-rule v small .four)) p h i
     (λ b f q.
     let r : bytesOf s (cursor b e) ≡ integerOctets v = slice-span s b e (integerOctets v) q in
     integer-is s (cursor at end) (cursor b e) (cursor e end) f (q .inside) (rw r (integer-rule v small)) ∙ rw (r, integer-number v))

@@ -33,6 +33,7 @@ identifierBody (b ∷ bs) = parts true (b ∷ bs)
 abbrev pub bytesOf : List ℕ → Cursor → List ℕ
 bytesOf s b = slice (b .at) (b .end) s
 
+-- an OBJECT IDENTIFIER; "another breach is refused (5)", at its tag
 unfoldable pub identifierAt : List ℕ → Cursor → Element
 identifierAt s c =
     onElement (expectAt identifierTag s c)
@@ -53,7 +54,7 @@ integerBody s b =
 unfoldable pub andDigit : List ℕ → ℕ → ℕ → ℕ → ℕ
 andDigit s end i v = if ltb i end then v * 256 + getD s i 0 else v
 
--- what is known of a body that `integerBody` takes, in a list that reaches so far
+-- what reading a number asks of a body: `integerBody` took it, in a list that reaches so far
 pub record IntegerAt (s : List ℕ) (b : Cursor) : Type 0 where
   pub inside : b .end ≤ length s
   pub some : b .at < b .end
@@ -64,12 +65,14 @@ unfoldable pub integerValue : List ℕ → Cursor → ℕ
 integerValue s b =
     andDigit s (b .end) (b .at + 3) (andDigit s (b .end) (b .at + 2) (andDigit s (b .end) (b .at + 1) (getD s (b .at) 0)))
 
+-- an INTEGER with its number; another breach is 5, at its tag
 unfoldable pub integerAt : List ℕ → Cursor → Integer
 integerAt s c =
     onElement (expectAt integerTag s c)
     Integer.Refused
     (λ t b n. if integerBody s b then Value (integerValue s b) n else Integer.Refused (fault content (c .at)))
 
+-- what is made of a refusal, and of a number
 abbrev pub onInteger : {A : Type 0} → Integer → (Fault → A) → (ℕ → Cursor → A) → A
 onInteger (Integer.Refused f) bad good = bad f
 onInteger (Value v n) bad good = good v n

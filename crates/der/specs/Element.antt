@@ -1,10 +1,11 @@
 -- One element: a tag byte, a length and a body (scope, "One element"), read at a cursor of a list of bytes.
+use mathlib.Core.Bool.{Bool, true}
 use mathlib.Core.List.{List}
 use Prim.Native.Nat.{ℕ, _+_, _*_, _%_}
 use lib.Dec.{leb, ltb, eqb}
 use lib.ListN.{length, getD}
 use Rattle.der.specs.Choice.{if_then_else_}
-use Rattle.der.specs.Numbers.{missing, overrun, tagForm, lengthForm, otherTag, leftOver}
+use Rattle.der.specs.Numbers.{missing, overrun, tagForm, lengthForm, otherTag, leftOver, noTag}
 use Rattle.der.specs.declared.Fault.{Fault}
 use Rattle.der.specs.declared.Cursor.{Cursor}
 use Rattle.der.specs.declared.Element.{Element}
@@ -24,12 +25,13 @@ fault n p = record { number = n; offset = p }
 abbrev pub wholeOf : List ℕ → Cursor
 wholeOf s = cursor 0 (length s)
 
--- The next byte; 0, which is no tag, where no byte is left: a cursor that ends past the bytes, or before its own position, has none left.
+-- "its parent has no byte left"; nor has a cursor that ends past the bytes, or before its own position
+unfoldable pub noByteLeft : List ℕ → Cursor → Bool
+noByteLeft s c = if ltb (length s) (c .end) then true else leb (c .end) (c .at)
+
+-- the next byte; `noTag` where no byte is left
 unfoldable pub tagAt : List ℕ → Cursor → ℕ
-tagAt s c =
-    if ltb (length s) (c .end) then 0 else
-    if ltb (c .at) (c .end) then getD s (c .at) 0 else
-    0
+tagAt s c = if noByteLeft s c then noTag else getD s (c .at) 0
 
 -- "bytes left over in a parent after its last element" (6)
 unfoldable pub finishAt : Cursor → Checked
@@ -65,6 +67,7 @@ extentAt s at end =
     if eqb (getD s (at + 1) 0) 130 then twoOctets s at end else
     Extent.Refused (fault lengthForm at)
 
+-- what is made of a refusal, and of a body
 abbrev pub onExtent : {A : Type 0} → Extent → (Fault → A) → (Cursor → A) → A
 onExtent (Extent.Refused f) bad good = bad f
 onExtent (Body b) bad good = good b
@@ -73,12 +76,12 @@ onExtent (Body b) bad good = good b
 -- Where no byte is left, 1 at the parent's end.
 unfoldable pub elementAt : List ℕ → Cursor → Element
 elementAt s c =
-    if ltb (length s) (c .end) then Element.Refused (fault missing (c .end)) else
-    if leb (c .end) (c .at) then Element.Refused (fault missing (c .end)) else
+    if noByteLeft s c then Element.Refused (fault missing (c .end)) else
     if eqb (getD s (c .at) 0) 0 then Element.Refused (fault tagForm (c .at)) else
     if eqb (getD s (c .at) 0 % 32) 31 then Element.Refused (fault tagForm (c .at)) else
     onExtent (extentAt s (c .at) (c .end)) Element.Refused (λ b. Found (getD s (c .at) 0) b (cursor (b .end) (c .end)))
 
+-- what is made of a refusal, and of an element
 abbrev pub onElement : {A : Type 0} → Element → (Fault → A) → (ℕ → Cursor → Cursor → A) → A
 onElement (Element.Refused f) bad good = bad f
 onElement (Found t b n) bad good = good t b n

@@ -33,6 +33,10 @@ leftOver = 6
 abbrev pub tooMany : ℕ
 tooMany = 8
 
+-- "Tag: 00 .. refused (2)": stands for a tag where there is none
+abbrev pub noTag : ℕ
+noTag = 0
+
 -- the tags of INTEGER, OCTET STRING and OBJECT IDENTIFIER
 abbrev pub integerTag : ℕ
 integerTag = 2

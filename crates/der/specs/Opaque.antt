@@ -11,6 +11,7 @@ use Rattle.der.specs.declared.Cursor.{Cursor}
 use Rattle.der.specs.declared.Checked.{Checked}
 use Rattle.der.specs.declared.Checked.the-variants.{Passed}
 
+-- what is made of a refusal, and of a check that passed
 abbrev pub onChecked : {A : Type 0} → Checked → (Fault → A) → (ℕ → Cursor → A) → A
 onChecked (Checked.Refused f) bad good = bad f
 onChecked (Passed m n) bad good = good m n
@@ -19,9 +20,11 @@ onChecked (Passed m n) bad good = good m n
 abbrev pub counted : (Cursor → Checked) → ℕ → ℕ → ℕ → Checked
 counted check end m at = onChecked (check (cursor at end)) Checked.Refused (λ k n. Passed (m + k) n)
 
+-- the loop goes on from where a check that passed ended
 abbrev pub goOn : Checked → (ℕ → ℕ → Checked) → Checked
 goOn x next = onChecked x Checked.Refused (λ m n. next m (n .at))
 
+-- the loop's answer at its end
 abbrev pub atEnd : ℕ → ℕ → ℕ → Checked
 atEnd end m at = Passed m (cursor at end)
 

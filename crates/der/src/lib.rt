@@ -5,7 +5,7 @@ ghost use Prim.Native.Nat.{_+_, _^_, _<_, _≤_};
 ghost use lib.ListN.{length};
 ghost use lib.Seq.{slice};
 ghost use Rattle.der.specs.Numbers.{octetStringTag};
-ghost use Rattle.der.specs.Element.{wholeOf, tagAt, finishAt, within, oneOctet, twoOctets, extentAt, elementAt, expectAt};
+ghost use Rattle.der.specs.Element.{wholeOf, noByteLeft, tagAt, finishAt, within, oneOctet, twoOctets, extentAt, elementAt, expectAt};
 ghost use Rattle.der.specs.Content.{breaks, identifierBody, identifierAt, integerBody, andDigit, integerValue, integerAt, IntegerAt};
 ghost use Rattle.der.specs.Opaque.{opaqueAt, elementsAt};
 
@@ -25,6 +25,9 @@ pub const CONTENT: u8 = 5;
 pub const LEFT_OVER: u8 = 6;
 
 pub const TOO_MANY: u8 = 8;
+
+// Stands for a tag where there is none.
+pub const NO_TAG: u8 = 0;
 
 // The tags of the elements whose bodies are read here.
 pub const INTEGER: u8 = 2;
@@ -260,6 +263,18 @@ fn integer_value(s: &[u8], body: Cursor) -> u32
     and_digit(s, end, fourth, v3)
 }
 
+// Whether the parent has no byte left.
+fn no_byte_left(s: &[u8], c: Cursor) -> bool
+    ensures { λ r. ⌜ r ≡ noByteLeft (now (s .entry)) c ⌝ }
+{
+    let at = c.at;
+    let end = c.end;
+    if s.len() < end {
+        return true;
+    }
+    end <= at
+}
+
 impl Cursor {
     // The whole of the bytes.
     pub fn over(s: &[u8]) -> Cursor
@@ -271,19 +286,15 @@ impl Cursor {
         }
     }
 
-    // The next byte, or 0, which is no tag, where none is left.
+    // The next byte, or `NO_TAG` where none is left.
     pub fn tag(self, s: &[u8]) -> u8
         ensures { λ r. ⌜ r ≡ tagAt (now (s .entry)) self ⌝ }
     {
-        let at = self.at;
-        let end = self.end;
-        if s.len() < end {
-            return 0;
+        if no_byte_left(s, self) {
+            return NO_TAG;
         }
-        if at < end {
-            return s[at];
-        }
-        0
+        let here = self.at;
+        s[here]
     }
 
     // A parent's body is at its end; what is left over is refused.
@@ -310,13 +321,7 @@ impl Cursor {
     {
         let at = self.at;
         let end = self.end;
-        if s.len() < end {
-            return Element::Refused(Fault {
-                number: MISSING,
-                offset: end,
-            });
-        }
-        if end <= at {
+        if no_byte_left(s, self) {
             return Element::Refused(Fault {
                 number: MISSING,
                 offset: end,

@@ -1,6 +1,7 @@
 -- One digit more. The number is below 2^23, so a digit behind it fits.
-use Rattle.der.proofs.Choices.{choices, narrow}
+use Rattle.der.proofs.Choices.{choices}
 use native.Mathlib.Omega.{arith}
+use mir.Facts.{fits-widen}
 use Rattle.der.specs.Content.{andDigit}
 use borrow.Author.Needs.{needs}
 use Rattle.der.proofs.and_digit.Statement.{statement}
@@ -10,7 +11,7 @@ shared-slice-read-digit : tie.Need-shared-slice-read-digit
 shared-slice-read-digit c = search needs
 
 cast-digit : tie.Need-cast-digit
-cast-digit c = narrow (c .shared-slice-known .given _)
+cast-digit c = fits-widen tt (c .shared-slice-known .given _)
 
 mul-result : tie.Need-mul-result
 mul-result c = search needs

@@ -1,11 +1,11 @@
 -- A byte breaks a part by the definition's own test.
-use Rattle.der.proofs.Choices.{choices, at-true, at-false}
+use Rattle.der.proofs.Choices.{choices, told-true, told-false}
 use borrow.Author.Needs.{needs}
 use Rattle.der.proofs.breaks.Statement.{statement}
 use Rattle.der.proofs.breaks.Tie as tie
 
 returns : tie.Need-returns
-returns c = search (choices, at-true, at-false) depth 14
+returns c = search (choices, told-true, told-false) depth 14
 
 returns-2 : tie.Need-returns-2
 returns-2 c = search needs

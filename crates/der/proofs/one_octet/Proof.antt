@@ -1,7 +1,8 @@
 -- The long form of one byte. A byte fits a word, and the body ends before any word wraps.
 use Prim.Native.Nat.{_+_}
 use native.Mathlib.Omega.{arith}
-use Rattle.der.proofs.Choices.{choices, byte}
+use mir.Facts.{fits-widen}
+use Rattle.der.proofs.Choices.{choices}
 use Rattle.der.specs.Element.{oneOctet}
 use borrow.Author.Needs.{needs}
 use Rattle.der.proofs.one_octet.Statement.{statement}
@@ -25,7 +26,7 @@ add-start : tie.Need-add-start
 add-start c = search needs
 
 cast-wide : tie.Need-cast-wide
-cast-wide c = byte (c .before .shared-slice-known2 .given _)
+cast-wide c = fits-widen tt (c .before .shared-slice-known2 .given _)
 
 within-requires : tie.Need-within-requires
 within-requires c κs = omega (arith, c .before .shared-slice-known2 .given (c .before .before .before .before .args .at + 2))

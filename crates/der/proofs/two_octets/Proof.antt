@@ -1,7 +1,8 @@
 -- The long form of two bytes. Two bytes make at most 65,535, and the body ends before any word wraps.
 use Prim.Native.Nat.{_+_}
 use native.Mathlib.Omega.{arith}
-use Rattle.der.proofs.Choices.{choices, byte}
+use mir.Facts.{fits-widen}
+use Rattle.der.proofs.Choices.{choices}
 use Rattle.der.specs.Element.{twoOctets}
 use borrow.Author.Needs.{needs}
 use Rattle.der.proofs.two_octets.Statement.{statement}
@@ -31,10 +32,10 @@ add-start : tie.Need-add-start
 add-start c = search needs
 
 cast-wide-high : tie.Need-cast-wide-high
-cast-wide-high c = byte (c .shared-slice-known3 .given _)
+cast-wide-high c = fits-widen tt (c .shared-slice-known3 .given _)
 
 cast-wide-low : tie.Need-cast-wide-low
-cast-wide-low c = byte (c .shared-slice-known3 .given _)
+cast-wide-low c = fits-widen tt (c .shared-slice-known3 .given _)
 
 mul-size : tie.Need-mul-size
 mul-size c = omega (arith, c .shared-slice-known3 .given (c .before .before .before .before .before .args .at + 2), c .shared-slice-known3 .given (c .before .before .before .before .before .args .at + 3))
