@@ -43,12 +43,9 @@ left-of s c = by-lt (λ u. u ≡ false → (c .at < c .end) × (c .end ≤ lengt
     never : {A : Type 0} → true ≡ false → A
     never e = let z : _≡_ {A = ℕ} 0 1 = cc in absurd (omega arith)
 
--- the same of a test u that the code made: where the body is looked for, and where the byte is read
+-- the same of a test u that the code made
 pub left-within : (s : List ℕ) (c : Cursor) (u : Bool) → u ≡ noByteLeft s c → u ≡ false → (c .at < c .end) × (c .end ≤ length s)
 left-within s c u p q = left-of s c (sym p ∙ q)
-
-pub left-index : (s : List ℕ) (c : Cursor) (u : Bool) → u ≡ noByteLeft s c → u ≡ false → c .at < length s
-left-index s c u p q = let h = left-within s c u p q in omega arith
 
 -- the body b of the element at `at`, within a parent that ends at `end`
 pub record BodyOf (s : List ℕ) (at end : ℕ) (b : Cursor) : Type 0 where

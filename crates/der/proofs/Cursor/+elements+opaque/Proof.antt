@@ -51,7 +51,7 @@ abbrev in-opaque : ℕ → opaque-lts.Claims
 in-opaque t = (element-reads.Asked, element-reads.Learnt, elements-below t, elements.Post)
 
 elements-loop-holds : (t : ℕ) → elements-lts.Need-loop-holds (in-elements t) (elements-at t) elements.Post elements-Inv-loop elements-μ-loop
-elements-loop-holds t c = (running-start _ _ _, omega arith)
+elements-loop-holds t c = (search running-start, omega arith)
 
 elements-opaque-requires : (t : ℕ) → elements-lts.Need-opaque-requires (in-elements t) (elements-at t) elements.Post elements-Inv-loop elements-μ-loop
 elements-opaque-requires t c κs = omega arith

@@ -1,6 +1,7 @@
 -- The tag and then the body are judged as the definition tests them.
+use native.Mathlib.Omega.{arith}
 use Rattle.der.proofs.Choices.{choices, told-true, told-false}
-use Rattle.der.proofs.Placed.{left-index, left-within}
+use Rattle.der.proofs.Placed.{left-within}
 use Rattle.der.specs.Element.{elementAt}
 use borrow.Author.Needs.{needs}
 use Rattle.der.proofs.Cursor.element.Statement.{statement}
@@ -14,7 +15,7 @@ unfolding elementAt
 returns c = search (choices, told-true) depth 14
 
 shared-slice-read-tag : tie.Need-shared-slice-read-tag
-shared-slice-read-tag c = search left-index
+shared-slice-read-tag c = omega (arith, left-within _ (c .before .before .before .before .args .self) _ (c .before .before .no-byte-left .ensures) (c .before .if1 .left))
 
 returns-2 : tie.Need-returns-2
 unfolding elementAt
@@ -25,7 +26,7 @@ unfolding elementAt
 returns-3 c = search (choices, told-false) depth 14
 
 body-of-requires : tie.Need-body-of-requires
-body-of-requires c κs = left-within _ (c .before .before .before .before .before .before .args .self) _ (c .before .before .before .before .no-byte-left .ensures) (c .before .before .before .if1 .left)
+body-of-requires c κs = omega (arith, left-within _ (c .before .before .before .before .before .before .args .self) _ (c .before .before .before .before .no-byte-left .ensures) (c .before .before .before .if1 .left))
 
 enum-known-f : tie.Need-enum-known-f
 enum-known-f c = search needs

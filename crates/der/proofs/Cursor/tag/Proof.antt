@@ -1,6 +1,7 @@
 -- The next byte is read as the definition tests for it.
+use native.Mathlib.Omega.{arith}
 use Rattle.der.proofs.Choices.{choices, told-true, told-false}
-use Rattle.der.proofs.Placed.{left-index}
+use Rattle.der.proofs.Placed.{left-within}
 use Rattle.der.specs.Element.{tagAt}
 use borrow.Author.Needs.{needs}
 use Rattle.der.proofs.Cursor.tag.Statement.{statement}
@@ -14,7 +15,7 @@ unfolding tagAt
 returns c = search (choices, told-true) depth 14
 
 shared-slice-read-result : tie.Need-shared-slice-read-result
-shared-slice-read-result c = search left-index
+shared-slice-read-result c = omega (arith, left-within _ (c .before .before .before .before .args .self) _ (c .before .before .no-byte-left .ensures) (c .before .if1 .left))
 
 returns-2 : tie.Need-returns-2
 unfolding tagAt
