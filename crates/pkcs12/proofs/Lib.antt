@@ -1,0 +1,19 @@
+-- proofs
+pub mod SameBytes
+pub mod BagKinds
+pub mod Rows
+pub mod Shown
+pub mod CompleteParts
+pub mod CompleteRows
+pub mod Parents
+pub mod Grown
+pub mod SoundParts
+pub mod SoundOuter
+pub mod SoundBags
+pub mod SoundSafes
+pub mod SoundFile
+pub mod Unique
+pub mod Long
+pub mod Corollaries
+pub mod Refusals
+pub mod Theorems

@@ -1,0 +1,89 @@
+-- What is proved of reading a file, stated over `readFile`, the definition that the reading call follows. The proofs are elsewhere.
+-- `Bytes f`: each number of the list is below 256. `IsAccepted f`: `readFile f` accepts. `Follows f x`: f is what the valid reading x is written
+-- as, and has at most 65,535 bytes. `readingFrom f`: the reading that the table of f shows of f.
+use mathlib.Core.Logic.{_↔_}
+use mathlib.Core.Path.{_≡_}
+use mathlib.Core.List.{List, [], _++_}
+use mathlib.Core.Option.{some}
+use Prim.Native.Nat.{ℕ, _*_, _≤_}
+use lib.ListN.{length}
+use Rattle.der.specs.Span.{Bytes}
+use Rattle.der.specs.Tree.{elementsIn}
+use Rattle.der.specs.declared.Fault.{Fault}
+use Rattle.pkcs12.specs.Syntax.{Pfx}
+use Rattle.pkcs12.specs.Valid.{Valid, Opaques}
+use Rattle.pkcs12.specs.Elements.{opaqueCount, elements}
+use Rattle.pkcs12.specs.Values.{Values, rowsOf, treeOf}
+use Rattle.pkcs12.specs.Table.{tableOf, emptyTable, rowsIn}
+use Rattle.pkcs12.specs.Walk.{readFile}
+use Rattle.pkcs12.specs.Laid.{PfxLaid}
+use Rattle.pkcs12.specs.Sound.{IsAccepted, Follows, tableFrom, readingFrom, endToEnd, Sound, Each}
+use Rattle.pkcs12.specs.declared.Answer.{Answer}
+use Rattle.pkcs12.proofs.Rows as rows
+use Rattle.pkcs12.proofs.Parents as parents
+use Rattle.pkcs12.proofs.Refusals as refusals
+use Rattle.pkcs12.proofs.Corollaries as corollaries
+
+-- ---- exactly the standard
+
+-- A file is accepted exactly if it follows the standard.
+pub accepted-iff-follows : (f : List ℕ) → Bytes f → IsAccepted f ↔ ((x : Pfx) × Follows f x)
+accepted-iff-follows f b = (corollaries.accepted-follows f b, λ p. corollaries.follows-accepted f b (p .0) (p .1))
+
+-- Then its table shows the reading that it is written from.
+pub table-shows-reading : (f : List ℕ) → Bytes f → (x : Pfx) → Follows f x → readingFrom f ≡ some x
+table-shows-reading = corollaries.follows-reading
+
+-- Every range lies within its parent's body, and holds what the reading has there.
+pub ranges-within-parents : (f : List ℕ) → Bytes f → (x : Pfx) → Follows f x → PfxLaid f (rowsIn (tableFrom f)) (tableFrom f .mac) x
+ranges-within-parents = corollaries.follows-laid
+
+-- The element count is that of the reading, and at most half the length.
+pub element-count : (f : List ℕ) → Bytes f → (x : Pfx) → Follows f x → tableFrom f .elements ≡ elements x
+element-count = corollaries.follows-count
+
+pub element-count-half : (f : List ℕ) → Bytes f → IsAccepted f → 2 * tableFrom f .elements ≤ length f
+element-count-half = corollaries.accepted-half
+
+-- Opaque elements are counted as their trees have elements.
+pub opaque-elements : (x : List ℕ) (o : Opaques x) → opaqueCount x ≡ elementsIn (o .as-trees)
+opaque-elements = corollaries.opaque-elements
+
+-- The table of an accepted file is sound over the file, and its rows past the counts are empty.
+pub accepted-table-sound : (f : List ℕ) → Bytes f → IsAccepted f → Sound (tableFrom f) f
+accepted-table-sound = corollaries.accepted-sound
+
+pub rows-past-counts-empty : (f : List ℕ) → Bytes f → IsAccepted f → tableFrom f ≡ tableOf (rowsIn (tableFrom f)) (tableFrom f .mac)
+rows-past-counts-empty = corollaries.accepted-table
+
+-- The table of a refused file is empty.
+pub refused-table-empty : (f : List ℕ) (fault : Fault) → readFile f .answer ≡ Answer.Refused fault → tableFrom f ≡ emptyTable
+refused-table-empty = refusals.refused-empty
+
+-- ---- one reading, one file
+
+-- Readings of accepted files are equal exactly when the files are.
+pub same-reading-iff-same-file : (f g : List ℕ) → Bytes f → Bytes g → IsAccepted f → IsAccepted g → readingFrom f ≡ readingFrom g ↔ f ≡ g
+same-reading-iff-same-file f g p q a b = (corollaries.same-reading f g p q a b, corollaries.same-file f g)
+
+-- and so are the elements of an attribute, one by one, where its values are equal
+pub same-values-same-elements : (x : List ℕ) (o p : Opaques x) → o .as-trees ≡ p .as-trees
+same-values-same-elements = corollaries.same-elements
+
+-- No accepted file is a proper beginning of another.
+pub no-proper-beginning : (f g r : List ℕ) → Bytes f → Bytes g → IsAccepted f → IsAccepted g → f ++ r ≡ g → r ≡ []
+no-proper-beginning = corollaries.no-beginning
+
+-- Accepted files laid end to end can be cut back in one way only.
+pub one-way-to-cut : (fs gs : List (List ℕ)) → Each (λ f. Bytes f × IsAccepted f) fs → Each (λ f. Bytes f × IsAccepted f) gs
+    → endToEnd fs ≡ endToEnd gs → fs ≡ gs
+one-way-to-cut = corollaries.cut
+
+-- ---- rows and readings
+
+-- The rows of a valid reading are read back as it, and rows that show a reading are its rows.
+pub rows-show-reading : (x : Pfx) → Valid x → treeOf (rowsOf x) ≡ some x
+rows-show-reading x v = rows.rows-tree x (v .safes)
+
+pub reading-has-rows : (v : Values) (x : Pfx) → treeOf v ≡ some x → rowsOf x ≡ v
+reading-has-rows = rows.tree-rows

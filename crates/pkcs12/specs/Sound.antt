@@ -1,0 +1,96 @@
+-- What the theorems are stated over: that a file is accepted, that it follows the standard, the reading of its table; and when a table is sound for
+-- bytes, as the writer asks (scope, "Numbers given back", its last part).
+use mathlib.Core.Path.{_≡_}
+use mathlib.Core.List.{List, [], _∷_, _++_}
+use mathlib.Core.Option.{Option, some}
+use Prim.Native.Nat.{ℕ, _≤_}
+use lib.ListN.{length}
+use Rattle.pkcs12.specs.Numbers.{safeRows, bagRows, attributeRows, fileBytes}
+use Rattle.pkcs12.specs.Syntax.{Pfx}
+use Rattle.pkcs12.specs.Encode.{encode}
+use Rattle.pkcs12.specs.Valid.{Valid}
+use Rattle.pkcs12.specs.Table.{Rows, rowsIn, readingOf}
+use Rattle.pkcs12.specs.Walk.{readFile}
+use Rattle.pkcs12.specs.declared.Range.{Range}
+use Rattle.pkcs12.specs.declared.Parts.{Parts}
+use Rattle.pkcs12.specs.declared.SafeKind.{SafeKind}
+use Rattle.pkcs12.specs.declared.SafeKind.the-variants.{Plain, Encrypted}
+use Rattle.pkcs12.specs.declared.BagKind.{BagKind}
+use Rattle.pkcs12.specs.declared.BagKind.the-variants.{Key, ShroudedKey, Certificate, Crl, Secret, Nested}
+use Rattle.pkcs12.specs.declared.SafeRow.{SafeRow}
+use Rattle.pkcs12.specs.declared.BagRow.{BagRow}
+use Rattle.pkcs12.specs.declared.AttributeRow.{AttributeRow}
+use Rattle.pkcs12.specs.declared.Mac.{Mac}
+use Rattle.pkcs12.specs.declared.Table.{Table}
+use Rattle.pkcs12.specs.declared.Answer.the-variants.{Accepted}
+
+-- a file is accepted
+abbrev pub IsAccepted : List ℕ → Type 0
+IsAccepted f = readFile f .answer ≡ Accepted
+
+-- a file follows the standard, in the DER subset and limits of the scope: it is what a valid reading x is written as
+pub record Follows (f : List ℕ) (x : Pfx) : Type 0 where
+  pub valid : Valid x
+  pub written : encode x ≡ f
+  pub size : length f ≤ fileBytes
+
+-- the table of a file, and the reading that it shows
+abbrev pub tableFrom : List ℕ → Table
+tableFrom f = readFile f .table
+
+abbrev pub readingFrom : List ℕ → Option Pfx
+readingFrom f = readingOf (tableFrom f) f
+
+-- files laid end to end
+unfoldable pub endToEnd : List (List ℕ) → List ℕ
+endToEnd [] = []
+endToEnd (f ∷ fs) = f ++ endToEnd fs
+
+-- "its ranges lie anywhere in the bytes": those that a row's kind uses, in the rows below the counts
+pub record Lies (s : List ℕ) (r : Range) : Type 0 where
+  pub order : r .start ≤ r .end
+  pub inside : r .end ≤ length s
+
+abbrev pub SealedLies : List ℕ → Parts → Type 0
+SealedLies s p = Lies s (p .identifier) × Lies s (p .parameters) × Lies s (p .value)
+
+abbrev pub TypedLies : List ℕ → Parts → Type 0
+TypedLies s p = Lies s (p .identifier) × Lies s (p .value)
+
+abbrev pub PartsLie : List ℕ → BagKind → Parts → Type 0
+PartsLie s BagKind.None p = Unit {0}
+PartsLie s Key p = Lies s (p .value)
+PartsLie s ShroudedKey p = SealedLies s p
+PartsLie s Certificate p = TypedLies s p
+PartsLie s Crl p = TypedLies s p
+PartsLie s Secret p = TypedLies s p
+PartsLie s Nested p = Unit {0}
+
+abbrev pub SafeLies : List ℕ → SafeKind → Parts → Type 0
+SafeLies s SafeKind.None p = Unit {0}
+SafeLies s Plain p = Unit {0}
+SafeLies s Encrypted p = SealedLies s p
+
+-- each of a list
+unfoldable pub Each : {A : Type 0} → (A → Type 0) → List A → Type 0
+Each P [] = Unit {0}
+Each P (x ∷ xs) = P x × Each P xs
+
+pub record RangesLie (s : List ℕ) (st : Rows) (m : Mac) : Type 0 where
+  pub safes : Each (λ r. SafeLies s (r .kind) (r .parts)) (st .safes)
+  pub bags : Each (λ r. PartsLie s (r .kind) (r .parts)) (st .bags)
+  pub attributes : Each (λ r. Lies s (r .identifier) × Lies s (r .values)) (st .attributes)
+  pub digest : SealedLies s (m .parts)
+  pub salt : Lies s (m .salt)
+
+-- "A table is sound when its counts are within the sizes, its rows stand in the order a reading gives, attributes belong only to bags with a
+-- set, its ranges lie anywhere in the bytes, and what it shows follows every rule above": it shows a reading, and that is valid.
+-- "Rows past the counts, the opened count, the MAC input range and fields that a row's kind doesn't use are ignored."
+pub record Sound (t : Table) (s : List ℕ) : Type 0 where
+  pub safe-count : t .«safe_count» ≤ safeRows
+  pub bag-count : t .«bag_count» ≤ bagRows
+  pub attribute-count : t .«attribute_count» ≤ attributeRows
+  pub ranges : RangesLie s (rowsIn t) (t .mac)
+  pub reading : Pfx
+  pub shows : readingOf t s ≡ some reading
+  pub valid : Valid reading

@@ -1,0 +1,211 @@
+-- The table: its rows as lists, padded with empty rows; what it shows of bytes.
+use mathlib.Core.Bool.{Bool, true, false}
+use mathlib.Core.List.{List, [], _∷_, _++_, map}
+use mathlib.Core.Option.{Option}
+use Prim.Native.Nat.{ℕ, _+_, _-_}
+use lib.Dec.{ltb}
+use lib.ListN.{length, take, set, replicate}
+use lib.Seq.{slice}
+use Rattle.der.specs.Choice.{if_then_else_}
+use Rattle.pkcs12.specs.Numbers.{safeRows, bagRows, attributeRows}
+use Rattle.pkcs12.specs.Syntax.{Algorithm, Sealed, Typed, certificate, crl, secret, Leaf, key, shrouded, typed, Attribute, MacData, Pfx}
+use Rattle.pkcs12.specs.Values.{SafeValue, empty-safe, plain-safe, encrypted-safe, Content, empty-bag, leaf, nested, BagValue, AttributeValue, Values, treeOf}
+use Rattle.pkcs12.specs.declared.Range.{Range}
+use Rattle.pkcs12.specs.declared.Parts.{Parts}
+use Rattle.pkcs12.specs.declared.SafeKind.{SafeKind}
+use Rattle.pkcs12.specs.declared.SafeKind.the-variants.{Plain, Encrypted}
+use Rattle.pkcs12.specs.declared.BagKind.{BagKind}
+use Rattle.pkcs12.specs.declared.BagKind.the-variants.{Key, ShroudedKey, Certificate, Crl, Secret, Nested}
+use Rattle.pkcs12.specs.declared.Enclosing.{Enclosing}
+use Rattle.pkcs12.specs.declared.SafeRow.{SafeRow}
+use Rattle.pkcs12.specs.declared.BagRow.{BagRow}
+use Rattle.pkcs12.specs.declared.AttributeRow.{AttributeRow}
+use Rattle.pkcs12.specs.declared.Mac.{Mac}
+use Rattle.pkcs12.specs.declared.Table.{Table}
+
+-- "A range a..b has bytes a up to b-1."
+abbrev pub range : ℕ → ℕ → Range
+range a b = record { start = a; end = b }
+
+-- "rows past the counts and fields that a row's kind doesn't use hold 0 or none"
+abbrev pub noRange : Range
+noRange = range 0 0
+
+abbrev pub parts : Range → Range → Range → Parts
+parts i p v = record { identifier = i; parameters = p; value = v }
+
+abbrev pub noParts : Parts
+noParts = parts noRange noRange noRange
+
+abbrev pub safeRow : SafeKind → Parts → SafeRow
+safeRow k p = record { kind = k; parts = p }
+
+abbrev pub noSafe : SafeRow
+noSafe = safeRow SafeKind.None noParts
+
+abbrev pub bagRow : BagKind → ℕ → Enclosing → Parts → Bool → BagRow
+bagRow k s e p h = record { kind = k; safe = s; enclosing = e; parts = p; «has_set» = h }
+
+abbrev pub noBag : BagRow
+noBag = bagRow BagKind.None 0 Enclosing.None noParts false
+
+abbrev pub attributeRow : ℕ → Range → Range → AttributeRow
+attributeRow n i v = record { bag = n; identifier = i; values = v }
+
+abbrev pub noAttribute : AttributeRow
+noAttribute = attributeRow 0 noRange noRange
+
+abbrev pub macFields : Parts → Range → ℕ → Mac
+macFields p s n = record { parts = p; salt = s; iterations = n }
+
+abbrev pub noMac : Mac
+noMac = macFields noParts noRange 0
+
+-- The rows as lists that grow, with the MAC input and the number of elements so far.
+pub record Rows : Type 0 where
+  pub safes : List SafeRow
+  pub bags : List BagRow
+  pub attributes : List AttributeRow
+  pub input : Range
+  pub count : ℕ
+
+abbrev pub noRows : Rows
+noRows = record { safes = []; bags = []; attributes = []; input = noRange; count = 0 }
+
+-- a list as the front of an array of n rows
+abbrev pub padded : {A : Type 0} → ℕ → A → List A → List A
+padded n none xs = xs ++ replicate (n - length xs) none
+
+unfoldable pub tableOf : Rows → Mac → Table
+tableOf st m =
+    record {
+      safes = padded safeRows noSafe (st .safes);
+      «safe_count» = length (st .safes);
+      bags = padded bagRows noBag (st .bags);
+      «bag_count» = length (st .bags);
+      attributes = padded attributeRows noAttribute (st .attributes);
+      «attribute_count» = length (st .attributes);
+      mac = m;
+      «mac_input» = st .input;
+      elements = st .count;
+    }
+
+-- "In an empty table every count, number and range end is 0."
+unfoldable pub emptyTable : Table
+emptyTable = tableOf noRows noMac
+
+-- a row stored behind the others, where there is room for it
+unfoldable pub withSafe : Table → SafeRow → Table
+withSafe t row =
+    if ltb (t .«safe_count») safeRows then
+    record {
+      safes = set (t .safes) (t .«safe_count») row;
+      «safe_count» = t .«safe_count» + 1;
+      bags = t .bags;
+      «bag_count» = t .«bag_count»;
+      attributes = t .attributes;
+      «attribute_count» = t .«attribute_count»;
+      mac = t .mac;
+      «mac_input» = t .«mac_input»;
+      elements = t .elements;
+    } else
+    t
+
+unfoldable pub withBag : Table → BagRow → Table
+withBag t row =
+    if ltb (t .«bag_count») bagRows then
+    record {
+      safes = t .safes;
+      «safe_count» = t .«safe_count»;
+      bags = set (t .bags) (t .«bag_count») row;
+      «bag_count» = t .«bag_count» + 1;
+      attributes = t .attributes;
+      «attribute_count» = t .«attribute_count»;
+      mac = t .mac;
+      «mac_input» = t .«mac_input»;
+      elements = t .elements;
+    } else
+    t
+
+unfoldable pub withAttribute : Table → AttributeRow → Table
+withAttribute t row =
+    if ltb (t .«attribute_count») attributeRows then
+    record {
+      safes = t .safes;
+      «safe_count» = t .«safe_count»;
+      bags = t .bags;
+      «bag_count» = t .«bag_count»;
+      attributes = set (t .attributes) (t .«attribute_count») row;
+      «attribute_count» = t .«attribute_count» + 1;
+      mac = t .mac;
+      «mac_input» = t .«mac_input»;
+      elements = t .elements;
+    } else
+    t
+
+-- the rows below the counts
+unfoldable pub rowsIn : Table → Rows
+rowsIn t =
+    record {
+      safes = take (t .«safe_count») (t .safes);
+      bags = take (t .«bag_count») (t .bags);
+      attributes = take (t .«attribute_count») (t .attributes);
+      input = t .«mac_input»;
+      count = t .elements;
+    }
+
+-- ---- what rows show of bytes s; "fields that a row's kind doesn't use are ignored"
+
+abbrev pub bytesIn : List ℕ → Range → List ℕ
+bytesIn s r = slice (r .start) (r .end) s
+
+abbrev pub algorithmIn : List ℕ → Parts → Algorithm
+algorithmIn s p = record { identifier = bytesIn s (p .identifier); parameters = bytesIn s (p .parameters) }
+
+abbrev pub sealedIn : List ℕ → Parts → Sealed
+sealedIn s p = record { algorithm = algorithmIn s p; octets = bytesIn s (p .value) }
+
+abbrev pub typedIn : List ℕ → Typed → Parts → Leaf
+typedIn s k p = typed k (bytesIn s (p .identifier)) (bytesIn s (p .value))
+
+abbrev pub contentIn : List ℕ → BagKind → Parts → Content
+contentIn s BagKind.None p = empty-bag
+contentIn s Key p = leaf (key (bytesIn s (p .value)))
+contentIn s ShroudedKey p = leaf (shrouded (sealedIn s p))
+contentIn s Certificate p = leaf (typedIn s certificate p)
+contentIn s Crl p = leaf (typedIn s crl p)
+contentIn s Secret p = leaf (typedIn s secret p)
+contentIn s Nested p = nested
+
+abbrev pub safeIn : List ℕ → SafeKind → Parts → SafeValue
+safeIn s SafeKind.None p = empty-safe
+safeIn s Plain p = plain-safe
+safeIn s Encrypted p = encrypted-safe (sealedIn s p)
+
+abbrev pub safeShown : List ℕ → SafeRow → SafeValue
+safeShown s r = safeIn s (r .kind) (r .parts)
+
+abbrev pub bagShown : List ℕ → BagRow → BagValue
+bagShown s r = record { safe = r .safe; enclosing = r .enclosing; content = contentIn s (r .kind) (r .parts); has-set = r .«has_set» }
+
+abbrev pub attributeShown : List ℕ → AttributeRow → AttributeValue
+attributeShown s r = record { bag = r .bag; attribute = record { identifier = bytesIn s (r .identifier); values = bytesIn s (r .values) } }
+
+abbrev pub macShown : List ℕ → Mac → MacData
+macShown s m = record { digest = sealedIn s (m .parts); salt = bytesIn s (m .salt); iterations = m .iterations }
+
+unfoldable pub shown : List ℕ → Rows → Mac → Values
+shown s st m =
+    record {
+      safes = map (safeShown s) (st .safes);
+      bags = map (bagShown s) (st .bags);
+      attributes = map (attributeShown s) (st .attributes);
+      mac = macShown s m;
+    }
+
+unfoldable pub valuesOf : Table → List ℕ → Values
+valuesOf t s = shown s (rowsIn t) (t .mac)
+
+-- the reading that a table shows of bytes
+unfoldable pub readingOf : Table → List ℕ → Option Pfx
+readingOf t s = treeOf (valuesOf t s)

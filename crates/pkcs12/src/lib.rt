@@ -1,0 +1,353 @@
+// What the reading of a PKCS #12 file is kept in: the table with its rows, by value, and the kinds of bag. The rules that a file follows and
+// what is read from it are definitions in specs/, with the theorems about them in proofs/.
+ghost use mathlib.Core.Path.{_≡_};
+ghost use Rattle.pkcs12.specs.Identifiers.{sameBytes, kindOf};
+ghost use Rattle.pkcs12.specs.Table.{emptyTable, withSafe, withBag, withAttribute};
+use der::Cursor;
+use der::Fault;
+
+// What one table holds.
+pub const SAFE_ROWS: usize = 16;
+
+pub const BAG_ROWS: usize = 64;
+
+pub const ATTRIBUTE_ROWS: usize = 128;
+
+// Safe contents nest to this level; those of a plain safe are level 1.
+pub const LEVELS: u8 = 8;
+
+// The bytes of the longest file.
+pub const FILE_BYTES: usize = 65535;
+
+// The numbers of the refusals that `der` doesn't give.
+pub const NOT_SERVED: u8 = 7;
+
+pub const TOO_LONG: u8 = 9;
+
+// Tags.
+pub const SEQUENCE: u8 = 0x30;
+
+pub const SET: u8 = 0x31;
+
+pub const CONTEXT_0: u8 = 0xA0;
+
+pub const CIPHERTEXT: u8 = 0x80;
+
+// A range start..end has the bytes start up to end-1.
+pub struct Range {
+    pub start: u16,
+    pub end: u16,
+}
+
+// The ranges of a safe, a bag or the MAC, by what its kind has. An AlgorithmIdentifier has an identifier and parameters, and a certificate,
+// CRL or secret the identifier of its type; the value is a ciphertext, a digest, a key, or what the type names. What a kind doesn't have is 0..0.
+pub struct Parts {
+    pub identifier: Range,
+    pub parameters: Range,
+    pub value: Range,
+}
+
+// `None` is the kind of an empty row.
+pub enum SafeKind {
+    None,
+    Plain,
+    Encrypted,
+}
+
+// `None` is the kind of an empty row, and of an identifier that is of no kind.
+pub enum BagKind {
+    None,
+    Key,
+    ShroudedKey,
+    Certificate,
+    Crl,
+    Secret,
+    Nested,
+}
+
+// The enclosing bag's row.
+pub enum Enclosing {
+    None,
+    Bag(u16),
+}
+
+pub struct SafeRow {
+    pub kind: SafeKind,
+    pub parts: Parts,
+}
+
+pub struct BagRow {
+    pub kind: BagKind,
+    pub safe: u16,
+    pub enclosing: Enclosing,
+    pub parts: Parts,
+    // whether a set of attributes stands there
+    pub has_set: bool,
+}
+
+pub struct AttributeRow {
+    pub bag: u16,
+    pub identifier: Range,
+    // the body of the SET
+    pub values: Range,
+}
+
+// The digest's algorithm and the digest, in `parts`; the salt; the iterations, which are 1 where none are written.
+pub struct Mac {
+    pub parts: Parts,
+    pub salt: Range,
+    pub iterations: u32,
+}
+
+// Rows past the counts are empty. `elements` is the scope's opened count.
+pub struct Table {
+    pub safes: [SafeRow; SAFE_ROWS],
+    pub safe_count: usize,
+    pub bags: [BagRow; BAG_ROWS],
+    pub bag_count: usize,
+    pub attributes: [AttributeRow; ATTRIBUTE_ROWS],
+    pub attribute_count: usize,
+    pub mac: Mac,
+    pub mac_input: Range,
+    pub elements: usize,
+}
+
+pub enum Answer {
+    Accepted,
+    Refused(Fault),
+}
+
+// What reading a file gives. The table of a refused file is empty.
+pub struct Reading {
+    pub answer: Answer,
+    pub table: Table,
+}
+
+// Parts of a file: their ranges, the number of elements, and the cursor past them.
+pub enum PartsAt {
+    Found {
+        parts: Parts,
+        count: usize,
+        next: Cursor,
+    },
+    Refused(Fault),
+}
+
+// The MAC fields of a file, the number of elements, and the cursor past them.
+pub enum MacAt {
+    Found {
+        mac: Mac,
+        count: usize,
+        next: Cursor,
+    },
+    Refused(Fault),
+}
+
+// Whether two strings of bytes are the same.
+pub fn same(a: &[u8], b: &[u8]) -> bool
+    ensures { λ r. ⌜ r ≡ sameBytes (now (a .entry)) (now (b .entry)) ⌝ }
+{
+    let n = a.len();
+    if n != b.len() {
+        return false;
+    }
+    let mut i = 0;
+    while i < n {
+        if a[i] != b[i] {
+            return false;
+        }
+        i = i + 1;
+    }
+    true
+}
+
+impl BagKind {
+    pub const KEY: [u8; 11] = [
+        0x2A,
+        0x86,
+        0x48,
+        0x86,
+        0xF7,
+        0x0D,
+        0x01,
+        0x0C,
+        0x0A,
+        0x01,
+        0x01,
+    ];
+
+    pub const SHROUDED_KEY: [u8; 11] = [
+        0x2A,
+        0x86,
+        0x48,
+        0x86,
+        0xF7,
+        0x0D,
+        0x01,
+        0x0C,
+        0x0A,
+        0x01,
+        0x02,
+    ];
+
+    pub const CERTIFICATE: [u8; 11] = [
+        0x2A,
+        0x86,
+        0x48,
+        0x86,
+        0xF7,
+        0x0D,
+        0x01,
+        0x0C,
+        0x0A,
+        0x01,
+        0x03,
+    ];
+
+    pub const CRL: [u8; 11] = [
+        0x2A,
+        0x86,
+        0x48,
+        0x86,
+        0xF7,
+        0x0D,
+        0x01,
+        0x0C,
+        0x0A,
+        0x01,
+        0x04,
+    ];
+
+    pub const SECRET: [u8; 11] = [
+        0x2A,
+        0x86,
+        0x48,
+        0x86,
+        0xF7,
+        0x0D,
+        0x01,
+        0x0C,
+        0x0A,
+        0x01,
+        0x05,
+    ];
+
+    pub const NESTED: [u8; 11] = [
+        0x2A,
+        0x86,
+        0x48,
+        0x86,
+        0xF7,
+        0x0D,
+        0x01,
+        0x0C,
+        0x0A,
+        0x01,
+        0x06,
+    ];
+
+    // The kind that a bagId's body names, `None` if it names no kind.
+    pub fn of(body: &[u8]) -> BagKind
+        ensures { λ r. ⌜ r ≡ kindOf (now (body .entry)) ⌝ }
+    {
+        if same(body, &BagKind::KEY) {
+            return BagKind::Key;
+        }
+        if same(body, &BagKind::SHROUDED_KEY) {
+            return BagKind::ShroudedKey;
+        }
+        if same(body, &BagKind::CERTIFICATE) {
+            return BagKind::Certificate;
+        }
+        if same(body, &BagKind::CRL) {
+            return BagKind::Crl;
+        }
+        if same(body, &BagKind::SECRET) {
+            return BagKind::Secret;
+        }
+        if same(body, &BagKind::NESTED) {
+            return BagKind::Nested;
+        }
+        BagKind::None
+    }
+}
+
+impl Table {
+    // The table with no row.
+    pub fn empty() -> Table
+        ensures { λ r. ⌜ r ≡ emptyTable ⌝ }
+    {
+        let none = Range { start: 0, end: 0 };
+        let parts = Parts {
+            identifier: none,
+            parameters: none,
+            value: none,
+        };
+        let safe = SafeRow {
+            kind: SafeKind::None,
+            parts: parts,
+        };
+        let bag = BagRow {
+            kind: BagKind::None,
+            safe: 0,
+            enclosing: Enclosing::None,
+            parts: parts,
+            has_set: false,
+        };
+        let attribute = AttributeRow {
+            bag: 0,
+            identifier: none,
+            values: none,
+        };
+        let mac = Mac {
+            parts: parts,
+            salt: none,
+            iterations: 0,
+        };
+        Table {
+            safes: [safe; SAFE_ROWS],
+            safe_count: 0,
+            bags: [bag; BAG_ROWS],
+            bag_count: 0,
+            attributes: [attribute; ATTRIBUTE_ROWS],
+            attribute_count: 0,
+            mac: mac,
+            mac_input: none,
+            elements: 0,
+        }
+    }
+
+    // The table with one row more, where there is room for it.
+    pub fn with_safe(mut self, row: SafeRow) -> Table
+        ensures { λ r. ⌜ r ≡ withSafe self row ⌝ }
+    {
+        let i = self.safe_count;
+        if i < SAFE_ROWS {
+            self.safes[i] = row;
+            self.safe_count = i + 1;
+        }
+        self
+    }
+
+    pub fn with_bag(mut self, row: BagRow) -> Table
+        ensures { λ r. ⌜ r ≡ withBag self row ⌝ }
+    {
+        let i = self.bag_count;
+        if i < BAG_ROWS {
+            self.bags[i] = row;
+            self.bag_count = i + 1;
+        }
+        self
+    }
+
+    pub fn with_attribute(mut self, row: AttributeRow) -> Table
+        ensures { λ r. ⌜ r ≡ withAttribute self row ⌝ }
+    {
+        let i = self.attribute_count;
+        if i < ATTRIBUTE_ROWS {
+            self.attributes[i] = row;
+            self.attribute_count = i + 1;
+        }
+        self
+    }
+}
