@@ -134,6 +134,11 @@ tlv-unique t u a b x y e =
     let r = append-same a b x y (k .0) (k .1) in
     (h .0, r .0, r .1)
 
+-- its first byte is its tag
+pub tlv-first : (t : ℕ) (a : List ℕ) → getD (tlv t a) 0 0 ≡ t
+unfolding tlv
+tlv-first t a = refl
+
 pub length-tlv : (t : ℕ) (a : List ℕ) → length (tlv t a) ≡ 1 + length (lengthOctets (length a)) + length a
 unfolding tlv
 length-tlv t a = simp length-append (omega arith)

@@ -1,10 +1,11 @@
 -- The laws of opaque elements as trees: how long they are, and that their bytes stand for one tree alone.
 use mathlib.Core.Path.{_≡_, refl, sym, ap}
-use mathlib.Core.List.{List, [], _++_, append-assoc}
+use mathlib.Core.List.{List, [], _++_, append-assoc, append-nil}
 use Prim.Native.Nat.{ℕ, _+_, _*_, _≤_}
 use native.Mathlib.Omega.{arith}
 use lib.ListN.{length, length-append}
-use Rattle.der.specs.Tree.{Tree, primitive, constructed, Trees, none, more, encode, encodes, elements, elementsIn, Formed, AllFormed, siblings}
+use Rattle.der.specs.Tree.{Tree, primitive, constructed, Trees, none, more, encode, encodes, elements, elementsIn, depth, deepest, Formed, AllFormed, siblings}
+use Rattle.der.specs.Octets.{tlv, TagForm}
 use Rattle.der.proofs.Octets.{tlv-unique, tlv-long}
 
 -- two bytes at least for each element
@@ -24,6 +25,21 @@ pub tree-some : (x : Tree) → 1 ≤ elements x
 unfolding elements
 tree-some (primitive t body) = omega arith
 tree-some (constructed t xs) = omega arith
+
+-- a tree is one element: k is told its tag and its body
+pub tree-element : {P : Type 0} (x : Tree) → Formed x → ((t : ℕ) (body : List ℕ) → TagForm t → encode x ≡ tlv t body → P) → P
+unfolding encode Formed
+tree-element (primitive t body) f k = k t body (f .0) refl
+tree-element (constructed t xs) f k = k t (encodes xs) (f .0) refl
+
+-- a run of one tree, and of none
+pub run-one : (x : Tree) → Formed x → AllFormed (more x none) × (encodes (more x none) ≡ encode x) × (elementsIn (more x none) ≡ elements x) × (deepest (more x none) ≡ depth x)
+unfolding encode elements depth Formed
+run-one x f = ((f, tt), append-nil (encode x), omega arith, omega arith)
+
+pub run-none : AllFormed none × (encodes none ≡ []) × (elementsIn none ≡ 0) × (deepest none ≡ 0)
+unfolding encode elements depth Formed
+run-none = (tt, refl, refl, refl)
 
 -- a run that begins with an element is not empty
 not-empty : (x : Tree) (r : List ℕ) → encode x ++ r ≡ [] → ⊥

@@ -1,45 +1,45 @@
 -- What the parts that make no row are written as is read: up to its end, wherever it stands in a file of at most 65,535 bytes.
 use mathlib.Core.Bool.{Bool, true, false}
-use mathlib.Core.Path.{_≡_, refl, _∙_}
+use mathlib.Core.Path.{_≡_, refl, sym, _∙_}
 use mathlib.Core.List.{List, [], _∷_, _++_}
 use Prim.Native.Nat.{ℕ, _+_, _%_, _≤_, _<_}
 use native.Mathlib.Omega.{arith}
 use lib.Dec.{eqb}
 use lib.ListN.{length, getD}
-use borrow.Author.Tests.{lt-ltb, le-ltb, lt-leb, eq-eqb, eqb-true}
+use borrow.Author.Tests.{lt-ltb, le-ltb, lt-leb}
 use Rattle.der.specs.Choice.{if_then_else_}
 use Rattle.der.specs.Numbers.{octetStringTag, identifierTag, integerTag, integerBound, opaqueLevels}
 use Rattle.der.specs.Element.{cursor, tagAt, finishAt, expectAt}
-use Rattle.der.specs.Content.{bytesOf, parts, identifierBody, identifierAt}
+use Rattle.der.specs.Content.{bytesOf, identifierAt}
 use Rattle.der.specs.Opaque.{opaqueAt}
 use Rattle.der.specs.Octets.{tlv, integerOctets, TagForm, IdentifierRule}
 use Rattle.der.specs.Span.{Span}
-use Rattle.der.specs.Tree as tree
 use Rattle.der.specs.declared.Cursor.{Cursor}
 use Rattle.der.specs.declared.Element.the-variants.{Found}
 use Rattle.der.specs.declared.Checked.the-variants.{Passed}
 use Rattle.der.proofs.Choices.{by-eq}
 use Rattle.der.proofs.Placed.{expect-is}
-use Rattle.der.proofs.Octets.{tlv-long}
-use Rattle.der.proofs.Content.{identifier-rule}
+use Rattle.der.proofs.Octets.{tlv-first, tlv-long}
+use Rattle.der.proofs.Trees.{tree-element}
 use Rattle.der.proofs.Spans.{span-split, span-at, slice-span}
 use Rattle.der.proofs.Header.{tag-form, header-then, finish-done, tag-left, tag-none}
 use Rattle.der.proofs.Values.{identifier-then, integer-then}
 use Rattle.der.proofs.Grammar.{tree-accepted}
 use Rattle.pkcs12.specs.Numbers.{fileBytes, sequenceTag, contextTag, ciphertextTag, encryptedVersion, defaultIterations}
-use Rattle.pkcs12.specs.Identifiers.{sameBytes, dataType, encryptedType, x509Certificate, identifierOf, kindOf}
+use Rattle.pkcs12.specs.Identifiers.{sameBytes, dataType, x509Certificate}
 use Rattle.pkcs12.specs.Syntax.{Algorithm, Sealed, Attribute, Set, Safe, plain, encrypted, MacData}
 use Rattle.pkcs12.specs.Encode.{integer, identifier, sequence, octetString, algorithmBytes, sealedBytes, contentInfo, dataBytes, attributeBytes, bagBytes, encryptedInfo, safeBytes, iterationsBytes, macBytes}
 use Rattle.pkcs12.specs.Valid.{Opaque, OpaqueWith, AtMostOne, ValidAlgorithm, ValidSealed, ValidMac}
-use Rattle.pkcs12.specs.Walk.{algorithmAt, sealedAt, keyAt, valueAt, typedAt, encryptedInfoAt, encryptedAt, onKind, iterationsAt, macAt}
+use Rattle.pkcs12.specs.Walk.{algorithmAt, sealedAt, keyAt, valueAt, typedAt, encryptedInfoAt, encryptedAt, iterationsAt, macAt}
 use Rattle.pkcs12.specs.Table.{range}
 use Rattle.pkcs12.specs.declared.Range.{Range}
 use Rattle.pkcs12.specs.declared.Parts.{Parts}
 use Rattle.pkcs12.specs.declared.BagKind.{BagKind}
-use Rattle.pkcs12.specs.declared.BagKind.the-variants.{Key, ShroudedKey, Certificate, Crl, Secret, Nested}
 use Rattle.pkcs12.specs.declared.Mac.{Mac}
 use Rattle.pkcs12.specs.declared.MacAt.{MacAt}
 use Rattle.pkcs12.specs.declared.PartsAt.{PartsAt}
+use Rattle.pkcs12.proofs.SameBytes.{same-self}
+use Rattle.pkcs12.proofs.Named.{data-rule}
 
 -- parts were found, and n is the cursor past them
 abbrev pub Ends : PartsAt → Cursor → Type 0
@@ -58,66 +58,6 @@ MacEnds (MacAt.Found x m e) n = e ≡ n
 pub mac-then : {P : Type 0} (x : MacAt) (n : Cursor) → MacEnds x n → ((y : Mac) (m : ℕ) → x ≡ MacAt.Found y m n → P) → P
 mac-then (MacAt.Refused f) n h k = absurd h
 mac-then (MacAt.Found y m e) n h k = k y m (rw h)
-
--- what a choice with a false arm tells of its test and of its other arm
-pub no-false : {A : Type 0} → false ≡ true → A
-no-false e = let z : _≡_ {A = ℕ} 0 1 = cc in absurd (omega arith)
-
-if-both : (t v : Bool) → (if t then v else false) ≡ true → (t ≡ true) × (v ≡ true)
-if-both true v e = (refl, e)
-if-both false v e = no-false e
-
--- the same bytes, and bytes that are the same
-pub same-self : (x : List ℕ) → sameBytes x x ≡ true
-unfolding sameBytes
-same-self [] = refl
-same-self (a ∷ x) = rw (eq-eqb a a refl) (same-self x)
-
-pub same-bytes : (x y : List ℕ) → sameBytes x y ≡ true → x ≡ y
-unfolding sameBytes
-same-bytes [] [] e = refl
-same-bytes [] (b ∷ y) e = no-false e
-same-bytes (a ∷ x) [] e = no-false e
-same-bytes (a ∷ x) (b ∷ y) e =
-    let q = if-both (eqb a b) (sameBytes x y) e in
-    rw (eqb-true a b (q .0), same-bytes x y (q .1))
-
--- the types of content keep the rule of an identifier
-pub data-rule : IdentifierRule dataType
-unfolding dataType identifierBody parts
-data-rule = identifier-rule dataType refl
-
-pub encrypted-rule : IdentifierRule encryptedType
-unfolding encryptedType identifierBody parts
-encrypted-rule = identifier-rule encryptedType refl
-
--- and differ
-pub other-type : sameBytes encryptedType dataType ≡ false
-unfolding encryptedType dataType sameBytes
-other-type = refl
-
--- the identifier of each kind of bag keeps it, too, and names that kind; all but none are served
-abbrev pub Served : BagKind → Type 0
-Served k = onKind k false true ≡ true
-
-pub on-kind : {A : Type 0} (k : BagKind) → Served k → (bad good : A) → onKind k bad good ≡ good
-on-kind BagKind.None v bad good = no-false v
-on-kind Key v bad good = refl
-on-kind ShroudedKey v bad good = refl
-on-kind Certificate v bad good = refl
-on-kind Crl v bad good = refl
-on-kind Secret v bad good = refl
-on-kind Nested v bad good = refl
-
-pub kind-named : (k : BagKind) → Served k → IdentifierRule (identifierOf k) × (kindOf (identifierOf k) ≡ k)
-unfolding kindOf identifierOf sameBytes identifierBody parts
-kind-named BagKind.None v = no-false v
-kind-named Key v = (identifier-rule _ refl, refl)
-kind-named ShroudedKey v = (identifier-rule _ refl, refl)
-kind-named Certificate v = (identifier-rule _ refl, refl)
-kind-named Crl v = (identifier-rule _ refl, refl)
-kind-named Secret v = (identifier-rule _ refl, refl)
-kind-named Nested v = (identifier-rule _ refl, refl)
 
 -- what is written is not empty
 some-byte : (t : ℕ) (body : List ℕ) → 1 ≤ length (tlv t body)
@@ -144,11 +84,6 @@ mac-some m = some-byte _ _
 pub finished : (e : ℕ) → finishAt (cursor e e) ≡ Passed 0 (cursor e e)
 finished e = finish-done (cursor e e) (omega arith)
 
--- the first byte of an element is its tag
-tlv-tag : {t : ℕ} (u : ℕ) (body : List ℕ) → getD (tlv u body) 0 0 ≡ t → u ≡ t
-unfolding tlv
-tlv-tag u body d = d
-
 module _ (s : List ℕ) (small : length s ≤ fileBytes) where
   -- an element that is written is found: k is told where its body begins
   found-then : {P : Type 0} (t at e end : ℕ) (body : List ℕ) → TagForm t → Span s at e (tlv t body) → e ≤ end → end ≤ length s
@@ -165,10 +100,9 @@ module _ (s : List ℕ) (small : length s ≤ fileBytes) where
 
   -- the next byte is its tag
   pub tag-of : (t at e end : ℕ) (body : List ℕ) → Span s at e (tlv t body) → e ≤ end → end ≤ length s → tagAt s (cursor at end) ≡ t
-  unfolding tlv
   tag-of t at e end body p h i =
       let l : 2 + length body ≤ length (tlv t body) = tlv-long t body in
-      tag-left s (cursor at end) (omega (arith, p .size)) i ∙ span-at s at e 0 at (tlv t body) p (omega arith) (omega arith)
+      tag-left s (cursor at end) (omega (arith, p .size)) i ∙ span-at s at e 0 at (tlv t body) p (omega arith) (omega arith) ∙ tlv-first t body
 
   -- a SEQUENCE of x and y: k is told where they meet
   pub sequence-then : {P : Type 0} (at e end : ℕ) (x y : List ℕ) → Span s at e (sequence (x ++ y)) → e ≤ end → end ≤ length s
@@ -191,7 +125,7 @@ module _ (s : List ℕ) (small : length s ≤ fileBytes) where
   pub opaque-then : {P : Type 0} (at e end : ℕ) (x : List ℕ) → Opaque x → Span s at e x → e ≤ end → end ≤ length s
       → ((m : ℕ) → opaqueAt opaqueLevels s (cursor at end) ≡ Passed m (cursor e end) → P) → P
   opaque-then at e end x o p h i k =
-      k _ (tree-accepted s (o .as-tree) opaqueLevels at e end (o .formed) (o .depth) (rw (← (o .whole)) at p) h i)
+      k _ (tree-accepted s (o .as-tree) opaqueLevels at e end (o .formed) (omega (arith, o .depth)) (rw (← (o .whole)) at p) h i)
 
   -- an AlgorithmIdentifier
   algorithm-of : (name x : List ℕ) (at e end : ℕ) → IdentifierRule name → AtMostOne x → Span s at e (sequence (identifier name ++ x))
@@ -223,20 +157,14 @@ module _ (s : List ℕ) (small : length s ≤ fileBytes) where
       (λ o j w. rw (f, g, j, finished e) refl)))
 
   -- an opaque element is found with its tag
-  tree-then : {P : Type 0} (x : tree.Tree) (t at e end : ℕ) → tree.Formed x → getD (tree.encode x) 0 0 ≡ t → Span s at e (tree.encode x)
-      → e ≤ end → end ≤ length s → ((b : ℕ) → expectAt t s (cursor at end) ≡ Found t (cursor b e) (cursor e end) → P) → P
-  unfolding tree.encode tree.Formed
-  tree-then (tree.primitive u body) t at e end v d p h i k =
-      let z : u ≡ t = tlv-tag u body d in
-      found-then t at e end body (rw z at (v .0)) (rw z at p) h i (λ b f q. k b f)
-  tree-then (tree.constructed u xs) t at e end v d p h i k =
-      let z : u ≡ t = tlv-tag u (tree.encodes xs) d in
-      found-then t at e end (tree.encodes xs) (rw z at (v .0)) (rw z at p) h i (λ b f q. k b f)
-
   tagged-then : {P : Type 0} (t at e end : ℕ) (x : List ℕ) → Opaque x → getD x 0 0 ≡ t → Span s at e x → e ≤ end → end ≤ length s
       → ((b : ℕ) → expectAt t s (cursor at end) ≡ Found t (cursor b e) (cursor e end) → P) → P
   tagged-then t at e end x o d p h i k =
-      tree-then (o .as-tree) t at e end (o .formed) (rw (o .whole) d) (rw (← (o .whole)) at p) h i k
+      tree-element (o .as-tree) (o .formed)
+      (λ u body form z.
+      let y : x ≡ tlv u body = sym (o .whole) ∙ z in
+      let v : u ≡ t = sym (tlv-first u body) ∙ rw y at d in
+      found-then t at e end body (rw v at form) (rw (y, v) at p) h i (λ b f q. k b f))
 
   -- an opaque SEQUENCE
   pub key-passes : (x : List ℕ) (at e end : ℕ) → OpaqueWith sequenceTag x → Span s at e x → e ≤ end → end ≤ length s
@@ -317,5 +245,5 @@ module _ (s : List ℕ) (small : length s ≤ fileBytes) where
       (λ n y r.
       expect-then octetStringTag a n e (m .salt) refl refl y (omega (arith, r .size)) (r .inside)
       (λ c j w.
-      mac-then (iterationsAt s d (range c n) (k + 2) (cursor n e)) (cursor e e) (iterations-pass (m .iterations) n e d (range c n) (k + 2) (v .some) (v .bound) r)
+      mac-then (iterationsAt s d (range c n) (k + 2) (cursor n e)) (cursor e e) (iterations-pass (m .iterations) n e d (range c n) (k + 2) (omega (arith, v .some)) (omega (arith, v .bound)) r)
       (λ x o u. rw (f, g, j, u) refl)))))

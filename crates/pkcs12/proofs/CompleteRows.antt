@@ -28,12 +28,14 @@ use Rattle.pkcs12.specs.Encode.{integer, sequence, octetString, contentI
 use Rattle.pkcs12.specs.Valid.{ValidLeaf, ValidAttribute, ValidAttributes, ValidSet, ValidBags, ValidSealed, ValidContents, ValidSafe, ValidSafes, bagsIn, attributesOf, attributesIn, bagsInSafe, attributesInSafe, bagsInSafes, attributesInSafes, Valid}
 use Rattle.pkcs12.specs.Table.{Rows}
 use Rattle.pkcs12.specs.Walk.{rangeOf, keyAt, sealedAt, typedAt, encryptedAt, macAt, Walked, Refused, Went, goOn, run, counting, attributeAt, setAt, Place, leafAt, contentAt, bagAt, safeContentsAt, dataAt, plainAt, sealedSafeAt, safeAt, safeValueAt, safesAt, outerAt, outerValueAt, bodyAt, pfxAt, readFile}
-use Rattle.pkcs12.specs.Sound.{IsAccepted}
+use Rattle.pkcs12.specs.Accepted.{IsAccepted}
 use Rattle.pkcs12.specs.declared.BagKind.{BagKind}
 use Rattle.pkcs12.specs.declared.BagKind.the-variants.{Key, ShroudedKey, Certificate, Crl, Secret, Nested}
 use Rattle.pkcs12.specs.declared.PartsAt.{PartsAt}
 use Rattle.pkcs12.specs.declared.Answer.the-variants.{Accepted}
-use Rattle.pkcs12.proofs.CompleteParts.{Ends, parts-then, mac-then, no-false, same-self, same-bytes, data-rule, encrypted-rule, other-type, Served, on-kind, kind-named, attribute-some, bag-some, safe-some, mac-some, finished, expect-then, tag-of, sequence-then, named-then, sealed-passes, key-passes, typed-passes, encrypted-passes, mac-passes}
+use Rattle.pkcs12.proofs.SameBytes.{never, same-self, same-is}
+use Rattle.pkcs12.proofs.Named.{data-rule, encrypted-rule, other-type, Served, on-kind, kind-named}
+use Rattle.pkcs12.proofs.CompleteParts.{Ends, parts-then, mac-then, attribute-some, bag-some, safe-some, mac-some, finished, expect-then, tag-of, sequence-then, named-then, sealed-passes, key-passes, typed-passes, encrypted-passes, mac-passes}
 
 -- x safe rows, y bag rows and z attribute rows so far
 record Sizes (st : Rows) (x y z : ℕ) : Type 0 where
@@ -173,13 +175,13 @@ module _ (s : List ℕ) (small : length s ≤ fileBytes) where
       leaf-of (sealedAt s (cursor at e)) ShroudedKey w h st (cursor e e) x y z (sealed-passes s small v at e e r p (omega arith) (p .inside)) n
   leaf-passes (typed certificate t v) inner w h st at e x y z r p n =
       leaf-of (typedAt true s (cursor at e)) Certificate w h st (cursor e e) x y z
-      (typed-passes s small true t v at e e (r .0) (r .1) (λ o. r .2 (same-bytes t x509Certificate o)) p (omega arith) (p .inside)) n
+      (typed-passes s small true t v at e e (r .0) (r .1) (λ o. r .2 (same-is t x509Certificate o)) p (omega arith) (p .inside)) n
   leaf-passes (typed crl t v) inner w h st at e x y z r p n =
       leaf-of (typedAt false s (cursor at e)) Crl w h st (cursor e e) x y z
-      (typed-passes s small false t v at e e (r .0) (r .1) no-false p (omega arith) (p .inside)) n
+      (typed-passes s small false t v at e e (r .0) (r .1) never p (omega arith) (p .inside)) n
   leaf-passes (typed secret t v) inner w h st at e x y z r p n =
       leaf-of (typedAt false s (cursor at e)) Secret w h st (cursor e e) x y z
-      (typed-passes s small false t v at e e (r .0) (r .1) no-false p (omega arith) (p .inside)) n
+      (typed-passes s small false t v at e e (r .0) (r .1) never p (omega arith) (p .inside)) n
 
   -- a SafeContents whose bags are read
   contents-pass : (l : ℕ) (w : Place) (st : Rows) (body : List ℕ) (at e x y z : ℕ) → Span s at e (sequence body)

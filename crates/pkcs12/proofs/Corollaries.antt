@@ -1,27 +1,23 @@
 -- The proofs of the theorems, from soundness, completeness, unique decoding and the laws of rows.
-use mathlib.Core.Logic.{_↔_}
 use mathlib.Core.Path.{_≡_, refl, sym, ap, _∙_}
 use mathlib.Core.List.{List, [], _∷_, _++_, append-nil}
-use mathlib.Core.Option.{Option, some}
-use Prim.Native.Nat.{ℕ, suc, _+_, _*_, _≤_}
+use mathlib.Core.Option.{some}
+use Prim.Native.Nat.{ℕ, _*_, _≤_}
 use native.Mathlib.Omega.{arith}
-use lib.ListN.{length, take, replicate, length-append}
+use lib.ListN.{length, take, length-append}
 use Rattle.der.specs.Span.{Bytes}
 use Rattle.der.specs.Tree.{elementsIn}
 use Rattle.der.proofs.Trees.{trees-unique}
-use Rattle.pkcs12.specs.Numbers.{fileBytes}
 use Rattle.pkcs12.specs.Syntax.{Pfx}
 use Rattle.pkcs12.specs.Encode.{encode}
 use Rattle.pkcs12.specs.Valid.{Valid, Opaques}
 use Rattle.pkcs12.specs.Elements.{opaqueCount, elements}
-use Rattle.pkcs12.specs.Values.{rowsOf, treeOf}
-use Rattle.pkcs12.specs.Table.{Rows, tableOf, emptyTable, rowsIn, shown, valuesOf, readingOf}
-use Rattle.pkcs12.specs.Walk.{readFile}
+use Rattle.pkcs12.specs.Table.{Rows, tableOf, rowsIn, valuesOf, readingOf}
 use Rattle.pkcs12.specs.Laid.{PfxLaid}
-use Rattle.pkcs12.specs.Sound.{IsAccepted, Follows, tableFrom, readingFrom, endToEnd, RangesLie, Sound, Each}
+use Rattle.pkcs12.specs.Accepted.{IsAccepted, Follows, tableFrom, readingFrom, endToEnd, Each}
+use Rattle.pkcs12.specs.Sound.{Sound}
 use Rattle.pkcs12.specs.declared.Mac.{Mac}
 use Rattle.pkcs12.specs.declared.Table.{Table}
-use Rattle.pkcs12.specs.declared.Answer.{Answer}
 use Rattle.pkcs12.proofs.Rows.{rows-tree}
 use Rattle.pkcs12.proofs.Shown.{pfx-shown, pfx-lies}
 use Rattle.pkcs12.proofs.CompleteRows.{complete}

@@ -7,7 +7,6 @@ use lib.ListN.{length, length-append}
 use Rattle.pkcs12.specs.Numbers.{safeRows, bagRows, attributeRows}
 use Rattle.pkcs12.specs.Table.{Rows}
 use Rattle.pkcs12.specs.Walk.{counting, addSafe, addBag, addAttribute}
-use Rattle.pkcs12.specs.declared.Range.{Range}
 use Rattle.pkcs12.specs.declared.SafeRow.{SafeRow}
 use Rattle.pkcs12.specs.declared.BagRow.{BagRow}
 use Rattle.pkcs12.specs.declared.AttributeRow.{AttributeRow}
@@ -63,6 +62,10 @@ grown-then st st′ st″ a a′ b b′ c c′ k k′ g h =
       count = omega (arith, g .count, h .count);
       fits = λ f. h .fits (g .fits f);
     }
+
+-- the count written otherwise
+pub grown-as : (st st′ : Rows) (a : List SafeRow) (b : List BagRow) (c : List AttributeRow) (k k′ : ℕ) → k ≡ k′ → Grown st st′ a b c k → Grown st st′ a b c k′
+grown-as st st′ a b c k k′ e g = rw e at g
 
 -- by one row, where there was room for it
 longer : {A : Type 0} (x : List A) (r : A) (n : ℕ) → length x < n → length (x ++ (r ∷ [])) ≤ n

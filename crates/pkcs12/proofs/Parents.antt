@@ -1,43 +1,37 @@
 -- Elements in the body of their parent: what is told of an element that was accepted, for the parts above it.
-use mathlib.Core.Bool.{true, false}
-use mathlib.Core.Path.{_≡_, refl, sym, ap, _∙_}
-use mathlib.Core.List.{List, [], _∷_, _++_, append-nil}
-use Prim.Native.Nat.{ℕ, _+_, _-_, _≤_, _<_}
+use mathlib.Core.Path.{_≡_, refl, sym, _∙_}
+use mathlib.Core.List.{List, [], _∷_}
+use Prim.Native.Nat.{ℕ, _≤_}
 use native.Mathlib.Omega.{arith}
 use lib.ListN.{length, getD}
-use borrow.Author.Tests.{leb-true}
-use Rattle.der.specs.Numbers.{opaqueLevels, identifierTag, integerTag}
-use Rattle.der.specs.Element.{cursor, wholeOf, finishAt, elementAt, expectAt, onElement}
+use Rattle.der.specs.Numbers.{opaqueLevels, identifierTag}
+use Rattle.der.specs.Element.{cursor, wholeOf, finishAt, expectAt, onElement}
 use Rattle.der.specs.Content.{bytesOf, identifierAt, integerAt, onInteger}
-use Rattle.der.specs.Octets.{tlv, integerOctets, IdentifierRule}
+use Rattle.der.specs.Octets.{tlv}
 use Rattle.der.specs.Opaque.{onChecked, opaqueAt, elementsAt}
 use Rattle.der.specs.Span.{Span, Bytes}
 use Rattle.der.specs.Tree.{Tree, Trees, none, more, encode, encodes, elements, elementsIn, depth, deepest, Formed, AllFormed}
 use Rattle.der.specs.Follows.{Moved, HeaderIs, IdentifierIs, IntegerIs, OpaqueIs, RunIs}
 use Rattle.der.specs.declared.Fault.{Fault}
 use Rattle.der.specs.declared.Cursor.{Cursor}
-use Rattle.der.specs.declared.Element.{Element}
-use Rattle.der.specs.declared.Element.the-variants.{Found}
-use Rattle.der.specs.declared.Checked.{Checked}
-use Rattle.der.specs.declared.Checked.the-variants.{Passed}
 use Rattle.der.specs.declared.Integer.{Integer}
 use Rattle.der.specs.declared.Integer.the-variants.{Value}
-use Rattle.der.proofs.Choices.{either, by-lt}
+use Rattle.der.proofs.Choices.{either}
 use Rattle.der.proofs.Placed.{by-element, expected}
 use Rattle.der.proofs.Opaque.{by-checked}
-use Rattle.der.proofs.Spans.{span-whole, span-join, slice-span, span-to, span-at}
-use Rattle.der.proofs.Header.{header-sound, header-next}
+use Rattle.der.proofs.Spans.{span-whole, slice-span, span-at}
+use Rattle.der.proofs.Header.{header-sound, header-next, finish-left, finish-done}
 use Rattle.der.proofs.Values.{identifier-sound, integer-sound}
-use Rattle.der.proofs.Trees.{tree-long, tree-some}
+use Rattle.der.proofs.Octets.{tlv-first, tlv-long}
+use Rattle.der.proofs.Trees.{tree-long, tree-some, run-one, run-none}
 use Rattle.der.proofs.Grammar.{opaque-sound, elements-sound, elements-complete}
 use Rattle.pkcs12.specs.Elements.{opaqueCount}
-use Rattle.pkcs12.specs.Valid.{Opaque, Opaques, AtMostOne}
+use Rattle.pkcs12.specs.Valid.{Opaque, AtMostOne}
 use Rattle.pkcs12.specs.Walk.{rangeOf}
 use Rattle.pkcs12.specs.Laid.{Child, Piece}
 use Rattle.pkcs12.specs.Table.{range}
 use Rattle.pkcs12.specs.declared.Range.{Range}
 use Rattle.pkcs12.specs.declared.Parts.{Parts}
-use Rattle.pkcs12.specs.declared.PartsAt.{PartsAt}
 
 -- what holds of a refusal and of what was found holds of what is made of them, for each kind of element
 module _ (s : List ℕ) (bytes : Bytes s) {A : Type 0} (P : A → Type 0) (bad : Fault → A) (refusal : (f : Fault) → P (bad f)) (c : Cursor) where
@@ -77,8 +71,7 @@ module _ (s : List ℕ) (bytes : Bytes s) {A : Type 0} (P : A → Type 0) (bad :
 -- a parent that is finished ends where its last element ends
 module _ {A : Type 0} (P : A → Type 0) (bad : Fault → A) (refusal : (f : Fault) → P (bad f)) (c : Cursor) where
   pub by-finish : (good : ℕ → Cursor → A) → (c .end ≤ c .at → P (good 0 c)) → P (onChecked (finishAt c) bad good)
-  unfolding finishAt
-  by-finish good g = by-lt (λ x. P (onChecked x bad good)) _ _ (c .at) (c .end) (λ h. refusal _) (λ h. g h)
+  by-finish good g = either (c .at) (c .end) (λ h. rw (finish-left c h) (refusal _)) (λ h. rw (finish-done c h) (g h))
 
 -- the cursor c is what is left of the parent's body
 pub record In (par : Range) (c : Cursor) : Type 0 where
@@ -140,15 +133,13 @@ opaques-count ts f d =
     (record { trees = ts; formed = f; levels = d; count = refl; whole = span-whole (encodes ts); next = refl }))
 
 pub opaque-count : (t : Tree) → Formed t → depth t ≤ opaqueLevels → opaqueCount (encode t) ≡ elements t
-unfolding encode elements depth Formed
 opaque-count t f d =
-    let e : encode t ++ [] ≡ encode t = append-nil (encode t) in
-    rw (← e) (opaques-count (more t none) (f, tt) (omega arith) ∙ omega arith)
+    let o = run-one t f in
+    rw (← (o .1)) (opaques-count (more t none) (o .0) (omega (arith, o .3)) ∙ o .2)
 
 -- no parameters have no element
 pub nothing-count : opaqueCount [] ≡ 0
-unfolding encode elements depth Formed
-nothing-count = opaques-count none tt (omega arith)
+nothing-count = let o = run-none in rw (← (o .1)) (opaques-count none (o .0) (omega (arith, o .3)) ∙ o .2)
 
 pub at-most-one : (x : List ℕ) → Opaque x → AtMostOne x
 at-most-one [] o = tt
@@ -158,7 +149,7 @@ pub settled : (s : List ℕ) (par : Range) (c : Cursor) (m : ℕ) (n : Cursor) �
 settled s par c m n i o =
     let e = in-next s par c n (n .at) i (omega (arith, o .whole .size)) (o .moved) in
     record {
-      valid = record { as-tree = o .tree; formed = o .formed; depth = o .levels; whole = refl };
+      valid = record { as-tree = o .tree; formed = o .formed; depth = omega (arith, o .levels); whole = refl };
       count = rw (opaque-count (o .tree) (o .formed) (o .levels)) (o .count);
       piece = record { after = i .after; bytes = o .whole; before = omega (arith, e .within, e .end) };
       past = e;
@@ -169,10 +160,10 @@ some-byte t = omega (arith, tree-long t, tree-some t)
 
 -- the first byte of an element that was met as another thing too
 pub first-byte : (s : List ℕ) (c : Cursor) (t : ℕ) (b n : Cursor) (e : ℕ) (x : List ℕ) → HeaderIs s c t b n → Span s (c .at) e x → 1 ≤ length x → getD x 0 0 ≡ t
-unfolding tlv
 first-byte s c t b n e x h p l =
     sym (span-at s (c .at) e 0 (c .at) x p (omega arith) l)
-    ∙ span-at s (c .at) (b .end) 0 (c .at) (tlv t (bytesOf s b)) (h .whole) (omega arith) (omega arith)
+    ∙ span-at s (c .at) (b .end) 0 (c .at) (tlv t (bytesOf s b)) (h .whole) (omega arith) (omega (arith, tlv-long t (bytesOf s b)))
+    ∙ tlv-first t (bytesOf s b)
 
 -- parts that were found: the value that they hold, by its rule, its elements, where it stands in the body `par`, and its bytes from c to n
 pub record Is (s : List ℕ) {A : Type 0} (Rule : A → Type 0) (count-of : A → ℕ) (Laid : Range → Parts → A → Type 0) (bytes-of : A → List ℕ) (par : Range) (c : Cursor) (p : Parts) (m : ℕ) (n : Cursor) : Type 0 where

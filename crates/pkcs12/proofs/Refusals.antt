@@ -1,10 +1,10 @@
 -- A refused reading has the empty table.
 use mathlib.Core.Path.{_≡_, refl}
 use mathlib.Core.List.{List}
-use Prim.Native.Nat.{ℕ, _≤_}
+use Prim.Native.Nat.{ℕ}
 use lib.Dec.{leb, ltb, eqb}
 use lib.ListN.{length}
-use Rattle.der.specs.Element.{wholeOf, finishAt, expectAt, onElement}
+use Rattle.der.specs.Element.{wholeOf, finishAt, expectAt}
 use Rattle.der.specs.Content.{integerAt, onInteger}
 use Rattle.der.specs.Opaque.{onChecked}
 use Rattle.der.specs.declared.Fault.{Fault}

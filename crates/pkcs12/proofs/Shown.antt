@@ -12,7 +12,8 @@ use Rattle.pkcs12.specs.Values.{SafeValue, Content, leaf, BagValue, Attr
 use Rattle.pkcs12.specs.Table.{Rows, bytesIn, sealedIn, contentIn, safeShown, bagShown, attributeShown, shown}
 use Rattle.pkcs12.specs.Walk.{Place, place}
 use Rattle.pkcs12.specs.Laid.{Child, AlgorithmLaid, LeafLaid, AttributesLaid, no-attribute, one-attribute, SetLaid, no-set, one-set, BagLaid, BagsLaid, no-bag, one-bag, one-nest, SafesLaid, no-safe, one-plain, one-encrypted, PfxLaid}
-use Rattle.pkcs12.specs.Sound.{Lies, SealedLies, PartsLie, SafeLies, Each, RangesLie}
+use Rattle.pkcs12.specs.Accepted.{Each}
+use Rattle.pkcs12.specs.Sound.{Lies, SealedLies, PartsLie, SafeLies, RangesLie}
 use Rattle.pkcs12.specs.declared.Range.{Range}
 use Rattle.pkcs12.specs.declared.Parts.{Parts}
 use Rattle.pkcs12.specs.declared.Enclosing.{Enclosing}

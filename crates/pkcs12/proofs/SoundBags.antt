@@ -1,36 +1,29 @@
--- Attributes, bags and safe contents that were accepted, in a list of bytes: the value, by the rules, where it stands, and the rows that were added.
+-- Bags and safe contents that were accepted, in a list of bytes: the value, by the rules, where it stands, and the rows that were added.
 use mathlib.Core.Bool.{Bool, true, false}
-use mathlib.Core.Path.{_≡_, refl, sym, ap, _∙_}
+use mathlib.Core.Path.{_≡_, refl, ap}
 use mathlib.Core.List.{List, [], _∷_, _++_, append-nil, append-assoc}
-use Prim.Native.Nat.{ℕ, zero, suc, _+_, _-_, _≤_, _<_}
+use Prim.Native.Nat.{ℕ, zero, suc, _+_, _≤_, _<_}
 use native.Mathlib.Omega.{arith}
 use lib.Dec.{ltb}
 use lib.ListN.{length, length-append}
-use borrow.Author.Tests.{lt-ltb, le-ltb}
-use Rattle.der.specs.Numbers.{opaqueLevels, identifierTag}
-use Rattle.der.specs.Element.{cursor, tagAt, expectAt}
+use Rattle.der.specs.Numbers.{identifierTag}
 use Rattle.der.specs.Content.{bytesOf}
-use Rattle.der.specs.Octets.{tlv, IdentifierRule}
-use Rattle.der.specs.Opaque.{elementsAt}
+use Rattle.der.specs.Octets.{tlv}
 use Rattle.der.specs.Span.{Span, Bytes}
-use Rattle.der.specs.Tree.{encodes}
-use Rattle.der.specs.Follows.{HeaderIs, IdentifierIs, RunIs}
-use Rattle.der.specs.declared.Fault.{Fault}
+use Rattle.der.specs.Follows.{HeaderIs, IdentifierIs}
 use Rattle.der.specs.declared.Cursor.{Cursor}
-use Rattle.der.proofs.Choices.{by-test, by-lt, by-le, by-eq}
-use Rattle.der.proofs.Many.{many-holds}
+use Rattle.der.proofs.Choices.{by-le}
 use Rattle.der.proofs.Octets.{tlv-long}
-use Rattle.der.proofs.Spans.{span-empty, span-join, span-to, slice-span}
-use Rattle.pkcs12.specs.Numbers.{attributeRows, bagRows, sequenceTag, setTag, contextTag}
+use Rattle.der.proofs.Spans.{span-empty, span-join, span-to}
+use Rattle.pkcs12.specs.Numbers.{bagRows, sequenceTag, contextTag}
 use Rattle.pkcs12.specs.Identifiers.{identifierOf, kindOf}
-use Rattle.pkcs12.specs.Syntax.{Leaf, Typed, certificate, crl, secret, Attribute, Set, absent, present, Bags, none, bag, nest, kindOfLeaf}
-use Rattle.pkcs12.specs.Encode.{identifier, sequence, attributeBytes, attributesBytes, setBytes, leafBytes, bagBytes, bagsBytes}
-use Rattle.pkcs12.specs.Valid.{Opaques, ValidLeaf, ValidAttribute, ValidAttributes, ValidSet, ValidBags, ValidContents, bagsIn}
-use Rattle.pkcs12.specs.Elements.{opaqueCount, leafCount, attributesCount, setCount, bagsCount}
-use Rattle.pkcs12.specs.Values.{stands}
-use Rattle.pkcs12.specs.Table.{range, noParts, bagRow, attributeRow, Rows}
-use Rattle.pkcs12.specs.Walk.{rangeOf, Walked, Refused, Went, onWalked, goOn, run, counting, addBag, addAttribute, attributeAt, setAt, Place, place, leafAt, contentAt, onKind, bagAt, safeContentsAt, keyAt, sealedAt, typedAt}
-use Rattle.pkcs12.specs.Laid.{Child, AttributeLaid, AttributesLaid, no-attribute, one-attribute, SetLaid, no-set, one-set, BagLaid, LeafLaid, BagsLaid, no-bag, one-bag, one-nest}
+use Rattle.pkcs12.specs.Syntax.{Leaf, certificate, crl, secret, Set, Bags, none, bag, nest, kindOfLeaf}
+use Rattle.pkcs12.specs.Encode.{identifier, sequence, setBytes, leafBytes, bagBytes, bagsBytes}
+use Rattle.pkcs12.specs.Valid.{ValidSet, ValidBags, ValidContents, bagsIn}
+use Rattle.pkcs12.specs.Elements.{leafCount, setCount, bagsCount}
+use Rattle.pkcs12.specs.Table.{noParts, bagRow, Rows}
+use Rattle.pkcs12.specs.Walk.{rangeOf, Walked, Refused, Went, run, counting, addBag, setAt, Place, place, leafAt, contentAt, bagAt, safeContentsAt, keyAt, sealedAt, typedAt}
+use Rattle.pkcs12.specs.Laid.{Child, BagLaid, BagsLaid, no-bag, one-bag, one-nest}
 use Rattle.pkcs12.specs.declared.Range.{Range}
 use Rattle.pkcs12.specs.declared.Parts.{Parts}
 use Rattle.pkcs12.specs.declared.PartsAt.{PartsAt}
@@ -39,180 +32,14 @@ use Rattle.pkcs12.specs.declared.BagKind.the-variants.{Key, ShroudedKey,
 use Rattle.pkcs12.specs.declared.Enclosing.the-variants.{Bag}
 use Rattle.pkcs12.specs.declared.BagRow.{BagRow}
 use Rattle.pkcs12.specs.declared.AttributeRow.{AttributeRow}
-use Rattle.pkcs12.proofs.BagKinds.{by-kind}
-use Rattle.pkcs12.proofs.Parents.{by-expect, by-identifier, by-elements, by-finish, In, in-body, in-next, finished, Closed, closed, closed-any, closed-identifier, opaques-count}
-use Rattle.pkcs12.proofs.Grown.{Grown, grown-counting, grown-none, grown-then, grown-bag, grown-attribute, grown-bags}
+use Rattle.pkcs12.proofs.Named.{by-kind}
+use Rattle.pkcs12.proofs.Parents.{by-expect, by-identifier, by-finish, In, in-body, finished, Closed, closed, closed-any, closed-identifier}
+use Rattle.pkcs12.proofs.Grown.{Grown, grown-counting, grown-none, grown-then, grown-as, grown-bag, grown-bags}
 use Rattle.pkcs12.proofs.Shown.{laid-bags-long}
 use Rattle.pkcs12.proofs.SoundParts.{OfParts, LeafIs, key-of, shrouded-of, typed-of}
-
--- what holds of rows that a part gave; a refusal has nothing to hold
-abbrev pub OfWalked : (Rows → Cursor → Type 0) → Walked → Type 0
-OfWalked Q (Refused f) = Unit {0}
-OfWalked Q (Went st n) = Q st n
-
-pub by-walked : {A : Type 0} (P : A → Type 0) (bad : Fault → A) → ((f : Fault) → P (bad f)) → (Q : Rows → Cursor → Type 0) (good : Rows → Cursor → A)
-    → ((st : Rows) (n : Cursor) → Q st n → P (good st n)) → (x : Walked) → OfWalked Q x → P (onWalked x bad good)
-by-walked P bad r Q good g (Refused f) q = r f
-by-walked P bad r Q good g (Went st n) q = g st n q
-
--- What holds at the end of a body, and passes from what follows a step to the step, holds of the run from its start.
-pub run-of : (par : Range) (step : Rows → Cursor → Walked) (S : Rows → Cursor → Rows → Cursor → Type 0) (R : Rows → ℕ → Rows → Type 0)
-    → ((st : Rows) (c : Cursor) → In par c → OfWalked (S st c) (step st c))
-    → ((st : Rows) (c : Cursor) (st′ : Rows) (n : Cursor) → S st c st′ n → In par n × (c .at < n .at))
-    → ((st : Rows) → R st (par .end) st)
-    → ((st : Rows) (c : Cursor) (st′ : Rows) (n : Cursor) (st″ : Rows) → In par c → S st c st′ n → R st′ (n .at) st″ → R st (c .at) st″)
-    → (st : Rows) (c : Cursor) → In par c → OfWalked (λ st′ n. R st (c .at) st′) (run step st c)
-unfolding run
-run-of par step S R each moves ends more st c i =
-    many-holds goOn (λ st at. Went st (cursor at (c .end))) (λ st at. step st (cursor at (c .end))) (c .end)
-    (λ st at x. OfWalked (λ st′ n. R st at st′) x) (λ st at. In par (cursor at (c .end)))
-    (λ st at h j. let z : at ≡ par .end = omega (arith, j .within, j .end) in rw z (ends st))
-    (λ st at h j k go. turn st (cursor at (c .end)) j k go (step st (cursor at (c .end))) (each st (cursor at (c .end)) j))
-    (c .end - c .at) st (c .at) (omega arith) i
-  where
-    turn : (st : Rows) (d : Cursor) → In par d → (k : Rows → ℕ → Walked)
-        → ((st′ : Rows) (at′ : ℕ) → d .at < at′ → In par (cursor at′ (c .end)) → OfWalked (λ st″ n. R st′ at′ st″) (k st′ at′))
-        → (x : Walked) → OfWalked (S st d) x → OfWalked (λ st″ n. R st (d .at) st″) (goOn x k)
-    turn st d j k go (Refused f) q = tt
-    turn st d j k go (Went st′ n) q =
-        let m = moves st d st′ n q in
-        let l : In par (cursor (n .at) (c .end)) = record { after = m .0 .after; within = omega (arith, m .0 .within, m .0 .end, i .end); end = i .end } in
-        last (k st′ (n .at)) (go st′ (n .at) (m .1) l)
-      where
-        last : (x : Walked) → OfWalked (λ st″ e. R st′ (n .at) st″) x → OfWalked (λ st″ e. R st (d .at) st″) x
-        last (Refused f) r = tt
-        last (Went st″ e) r = more st d st′ n st″ j q r
+use Rattle.pkcs12.proofs.SoundAttributes.{OfWalked, by-walked, run-of, SetIs, set-of}
 
 module _ (s : List ℕ) (bytes : Bytes s) where
-  -- an attribute of bag `number` in the body `par` of a set, at c; n is past it
-  record AttributeStep (par : Range) (number : ℕ) (st : Rows) (c : Cursor) (st′ : Rows) (n : Cursor) : Type 0 where
-    value : Attribute
-    row : AttributeRow
-    valid : ValidAttribute value
-    laid : AttributeLaid s par number value row
-    grown : Grown st st′ [] [] (row ∷ []) (opaqueCount (value .values) + 3)
-    whole : Span s (c .at) (n .at) (attributeBytes value)
-    past : In par n
-
-  attribute-is : (par : Range) (number : ℕ) (st : Rows) (c b n : Cursor) (t : ℕ) (i m v e : Cursor) (k : ℕ) (f : Cursor) → In par c
-      → HeaderIs s c sequenceTag b n → length (st .attributes) < attributeRows → IdentifierIs s b t i m → HeaderIs s m setTag v e
-      → RunIs opaqueLevels s v k f → e .end ≤ e .at
-      → AttributeStep par number st c (addAttribute st (attributeRow number (rangeOf i) (rangeOf v)) (k + 3)) n
-  unfolding attributeBytes
-  attribute-is par number st c b n t i m v e k f h d room g q o z =
-      let a = closed-identifier s (rangeOf b) b t i m (in-body s c sequenceTag b n d) g in
-      let x : List ℕ = encodes (o .trees) in
-      let w = closed s (rangeOf b) m setTag v e x (a .past) q (o .whole) in
-      let l : List ℕ = identifier (bytesOf s i) ++ tlv setTag x in
-      let u = closed s par c sequenceTag b n l h d (span-to s (b .at) (e .at) (b .end) l (finished (rangeOf b) e (w .past) z) (span-join s _ _ _ _ _ (a .whole) (w .whole))) in
-      let y : opaqueCount x ≡ k = opaques-count (o .trees) (o .formed) (o .levels) ∙ sym (o .count) in
-      record {
-        value = record { identifier = bytesOf s i; values = x };
-        row = attributeRow number (rangeOf i) (rangeOf v);
-        valid = record { identifier = g .rule; values = record { as-trees = o .trees; formed = o .formed; depth = o .levels; whole = refl } };
-        laid = record { names = refl; body = rangeOf b; element = u .child; type = a .child; values = w .child };
-        grown = rw y (grown-attribute st (attributeRow number (rangeOf i) (rangeOf v)) (k + 3) room);
-        whole = u .whole;
-        past = u .past;
-      }
-
-  attribute-of : (par : Range) (number : ℕ) (st : Rows) (c : Cursor) → In par c → OfWalked (AttributeStep par number st c) (attributeAt s number st c)
-  unfolding attributeAt
-  attribute-of par number st c h =
-      by-expect s bytes Good _ (λ f. tt) c sequenceTag _
-      (λ b n d.
-      by-le Good _ _ attributeRows (length (st .attributes)) (λ l. tt)
-      (λ l.
-      by-identifier s bytes Good _ (λ f. tt) b _
-      (λ t i m g.
-      by-expect s bytes Good _ (λ f. tt) m setTag _
-      (λ v e q.
-      by-elements s bytes Good _ (λ f. tt) v _ (omega (arith, q .body .size)) (q .body .inside)
-      (λ k f o. by-finish Good _ (λ f. tt) e _ (λ z. attribute-is par number st c b n t i m v e k f h d l g q o z))))))
-    where
-      Good : Walked → Type 0
-      Good = OfWalked (AttributeStep par number st c)
-
-  -- the attributes from `at` to the end of the body `par`
-  record AttributesRun (par : Range) (number : ℕ) (st : Rows) (at : ℕ) (st′ : Rows) : Type 0 where
-    values : List Attribute
-    rows : List AttributeRow
-    valid : ValidAttributes values
-    laid : AttributesLaid s par number values rows
-    grown : Grown st st′ [] [] rows (attributesCount values)
-    whole : Span s at (par .end) (attributesBytes values)
-
-  attributes-of : (par : Range) (number : ℕ) (st : Rows) (c : Cursor) → par .end ≤ length s → In par c
-      → OfWalked (λ st′ n. AttributesRun par number st (c .at) st′) (run (attributeAt s number) st c)
-  unfolding attributesBytes attributesCount ValidAttributes attributeBytes
-  attributes-of par number st c l =
-      run-of par (attributeAt s number) (AttributeStep par number) (AttributesRun par number) (attribute-of par number)
-      (λ st c st′ n a. (a .past, omega (arith, a .whole .size, tlv-long sequenceTag (identifier (a .value .identifier) ++ tlv setTag (a .value .values)))))
-      (λ st. record { values = []; rows = []; valid = tt; laid = no-attribute; grown = grown-none st; whole = span-empty s (par .end) l })
-      (λ st c st′ n st″ i a r.
-      record {
-        values = a .value ∷ r .values;
-        rows = a .row ∷ r .rows;
-        valid = (a .valid, r .valid);
-        laid = one-attribute (a .laid) (r .laid);
-        grown = grown-then st st′ st″ [] [] [] [] (a .row ∷ []) (r .rows) _ _ (a .grown) (r .grown);
-        whole = span-join s _ _ _ _ _ (a .whole) (r .whole);
-      })
-      st c
-
-  -- the set of bag `number` at the end of the bag's body `par`, if one stands there
-  record SetIs (par : Range) (number : ℕ) (st : Rows) (c : Cursor) (st′ : Rows) (n : Cursor) : Type 0 where
-    value : Set
-    rows : List AttributeRow
-    valid : ValidSet value
-    laid : SetLaid s par number value rows
-    grown : Grown st st′ [] [] rows (setCount value)
-    whole : Span s (c .at) (par .end) (setBytes value)
-    flag : ltb (c .at) (c .end) ≡ stands value
-
-  set-is : (par : Range) (number : ℕ) (st : Rows) (c b n : Cursor) (st′ : Rows) → In par c → HeaderIs s c setTag b n
-      → AttributesRun (rangeOf b) number (counting st 1) (b .at) st′ → n .end ≤ n .at → SetIs par number st c st′ n
-  unfolding setBytes
-  set-is par number st c b n st′ h d a z =
-      let u = closed s par c setTag b n (attributesBytes (a .values)) h d (a .whole) in
-      let y : 1 + attributesCount (a .values) ≡ attributesCount (a .values) + 1 = omega arith in
-      record {
-        value = present (a .values);
-        rows = a .rows;
-        valid = a .valid;
-        laid = one-set (rangeOf b) (u .child) (a .laid);
-        grown = rw y at (grown-then st (counting st 1) st′ [] [] [] [] [] (a .rows) 1 _ (grown-counting st 1) (a .grown));
-        whole = span-to s (c .at) (n .at) (par .end) _ (finished par n (u .past) z) (u .whole);
-        flag = lt-ltb (c .at) (c .end) (omega (arith, u .whole .size, u .past .within, u .past .end, h .end, tlv-long setTag (attributesBytes (a .values))));
-      }
-
-  set-of : (par : Range) (number : ℕ) (st : Rows) (c : Cursor) → In par c → par .end ≤ length s → OfWalked (SetIs par number st c) (setAt s number st c)
-  unfolding setAt setBytes
-  set-of par number st c h l =
-      by-eq Good _ _ (tagAt s c) setTag
-      (λ t.
-      by-expect s bytes Good _ (λ f. tt) c setTag _
-      (λ b n d.
-      by-walked Good _ (λ f. tt) (λ st′ f. AttributesRun (rangeOf b) number (counting st 1) (b .at) st′) _
-      (λ st′ f a. by-finish Good _ (λ f. tt) n _ (λ z. set-is par number st c b n st′ h d a z))
-      (run (attributeAt s number) (counting st 1) b)
-      (attributes-of (rangeOf b) number (counting st 1) b (d .body .inside) (in-body s c setTag b n d))))
-      (λ t.
-      by-finish Good _ (λ f. tt) c _
-      (λ z.
-      record {
-        value = absent;
-        rows = [];
-        valid = tt;
-        laid = no-set;
-        grown = grown-none st;
-        whole = rw (finished par c h z) (span-empty s (par .end) l);
-        flag = le-ltb (c .at) (c .end) z;
-      }))
-    where
-      Good : Walked → Type 0
-      Good = OfWalked (SetIs par number st c)
-
   -- What stands in the body `v` of a bag's [0], from c to f: its bytes, the rows that it adds behind the bag's own, and the bag in front of others.
   record ContentIs (l : ℕ) (w : Place) (k : BagKind) (h : Bool) (st : Rows) (v : Range) (c : Cursor) (st′ : Rows) (f : Cursor) : Type 0 where
     content : List ℕ
@@ -338,7 +165,7 @@ module _ (s : List ℕ) (bytes : Bytes s) where
 
     bag-is : (w : Place) (par : Range) (st : Rows) (c b n : Cursor) (t : ℕ) (i m : Cursor) (k : BagKind) (v e : Cursor) (st′ : Rows) (f : Cursor) (st″ : Rows) (g : Cursor)
         → In par c → HeaderIs s c sequenceTag b n → IdentifierIs s b t i m → bytesOf s i ≡ identifierOf k → HeaderIs s m contextTag v e
-        → ContentIs l w k (ltb (e .at) (e .end)) st (rangeOf v) v st′ f → f .end ≤ f .at → SetIs (rangeOf b) (length (st .bags)) st′ e st″ g
+        → ContentIs l w k (ltb (e .at) (e .end)) st (rangeOf v) v st′ f → f .end ≤ f .at → SetIs s bytes (rangeOf b) (length (st .bags)) st′ e st″ g
         → BagStep w par st c st″ n
     unfolding bagBytes
     bag-is w par st c b n t i m k v e st′ f st″ g h d j y q a z o =
@@ -396,10 +223,10 @@ module _ (s : List ℕ) (bytes : Bytes s) where
         (λ st′ f a.
         by-finish Good _ (λ f. tt) f _
         (λ z.
-        by-walked Good _ (λ f. tt) (SetIs (rangeOf b) (length (st .bags)) st′ e) _
+        by-walked Good _ (λ f. tt) (SetIs s bytes (rangeOf b) (length (st .bags)) st′ e) _
         (λ st″ g o. bag-is w par st c b n t i m (kindOf (bytesOf s i)) v e st′ f st″ g h d j y q a z o)
         (setAt s (length (st .bags)) st′ e)
-        (set-of (rangeOf b) (length (st .bags)) st′ e
+        (set-of s bytes (rangeOf b) (length (st .bags)) st′ e
         (closed-any s (rangeOf b) m contextTag v e (closed-identifier s (rangeOf b) b t i m (in-body s c sequenceTag b n d) j .past) q .past)
         (d .body .inside))))
         (contentAt inner s (kindOf (bytesOf s i)) w (ltb (e .at) (e .end)) st v)
@@ -447,7 +274,6 @@ module _ (s : List ℕ) (bytes : Bytes s) where
       → BagsRun l inner inner-of w (rangeOf b) (counting st 1) (b .at) st′ → ContentsIs (suc l) w st par c st′ n
   contents-is l inner inner-of w st par c b n st′ h d a =
       let u = closed s par c sequenceTag b n (bagsBytes (a .value)) h d (a .whole) in
-      let y : 1 + bagsCount (a .value) ≡ bagsCount (a .value) + 1 = omega arith in
       record {
         value = a .value;
         body = rangeOf b;
@@ -456,7 +282,7 @@ module _ (s : List ℕ) (bytes : Bytes s) where
         valid = a .valid;
         child = u .child;
         laid = a .laid;
-        grown = rw y at (grown-then st (counting st 1) st′ [] [] [] (a .rows) [] (a .own) 1 _ (grown-counting st 1) (a .grown));
+        grown = grown-as st st′ _ _ _ _ _ (omega arith) (grown-then st (counting st 1) st′ [] [] [] (a .rows) [] (a .own) 1 _ (grown-counting st 1) (a .grown));
         whole = u .whole;
         past = u .past;
       }

@@ -1,10 +1,10 @@
 -- A file that was accepted, in a list of bytes: its reading, by the rules, where it stands, its elements, and that it is what the reading is written as.
-use mathlib.Core.Path.{_≡_, refl, sym, ap, _∙_}
-use mathlib.Core.List.{List, [], _∷_, _++_}
+use mathlib.Core.Path.{_≡_, refl}
+use mathlib.Core.List.{List, [], _++_}
 use Prim.Native.Nat.{ℕ, _+_, _≤_}
 use native.Mathlib.Omega.{arith}
 use lib.ListN.{length}
-use Rattle.der.specs.Element.{cursor, wholeOf, finishAt}
+use Rattle.der.specs.Element.{wholeOf, finishAt}
 use Rattle.der.specs.Opaque.{onChecked}
 use Rattle.der.specs.declared.Fault.{Fault}
 use Rattle.der.specs.Content.{bytesOf}
@@ -16,14 +16,14 @@ use Rattle.der.proofs.Choices.{by-test, by-lt, by-le, by-eq}
 use Rattle.der.proofs.Spans.{span-whole, span-join, span-to, span-same}
 use Rattle.pkcs12.specs.Numbers.{fileBytes, sequenceTag, contextTag, pfxVersion}
 use Rattle.pkcs12.specs.Identifiers.{dataType, signedType, sameBytes}
-use Rattle.pkcs12.specs.Syntax.{Safe, MacData, Pfx}
+use Rattle.pkcs12.specs.Syntax.{Safe, Pfx}
 use Rattle.pkcs12.specs.Encode.{integer, identifier, octetString, sequence, contentInfo, dataBytes, safesBytes, macBytes, encode}
 use Rattle.pkcs12.specs.Valid.{Valid, ValidSafes, ValidMac}
-use Rattle.pkcs12.specs.Elements.{safesCount, macCount, elements}
+use Rattle.pkcs12.specs.Elements.{safesCount, elements}
 use Rattle.pkcs12.specs.Table.{range, Rows, tableOf}
 use Rattle.pkcs12.specs.Walk.{rangeOf, Walked, Refused, Went, run, counting, dataAt, safeAt, safesAt, outerValueAt, outerAt, macAt, bodyAt, refused, onAnswer, alone, pfxAt, readFile}
 use Rattle.pkcs12.specs.Laid.{Child, DataLaid, SafesLaid, MacLaid, PfxLaid}
-use Rattle.pkcs12.specs.Sound.{IsAccepted}
+use Rattle.pkcs12.specs.Accepted.{IsAccepted}
 use Rattle.pkcs12.specs.declared.Range.{Range}
 use Rattle.pkcs12.specs.declared.Mac.{Mac}
 use Rattle.pkcs12.specs.declared.Table.{Table}
@@ -32,10 +32,10 @@ use Rattle.pkcs12.specs.declared.Answer.the-variants.{Accepted}
 use Rattle.pkcs12.specs.declared.Reading.{Reading}
 use Rattle.pkcs12.proofs.SameBytes.{same-is}
 use Rattle.pkcs12.proofs.Parents.{by-expect, by-identifier, by-integer, by-finish, In, in-body, in-next, finished, closed, closed-identifier}
-use Rattle.pkcs12.proofs.Grown.{Fits, Grown}
+use Rattle.pkcs12.proofs.Grown.{Fits}
 use Rattle.pkcs12.proofs.Shown.{pfx-sizes}
 use Rattle.pkcs12.proofs.SoundOuter.{MacIs, mac-of, by-mac}
-use Rattle.pkcs12.proofs.SoundBags.{OfWalked, by-walked}
+use Rattle.pkcs12.proofs.SoundAttributes.{OfWalked, by-walked}
 use Rattle.pkcs12.proofs.SoundSafes.{Spelt, DataIs, data-of, SafesRun, safes-run}
 
 -- the rows at the start of the AuthenticatedSafe

@@ -1,44 +1,37 @@
 -- The EncryptedData of a safe and the MacData of a file that were accepted: the value, where it stands, and its elements.
-use mathlib.Core.Bool.{Bool, true, false}
-use mathlib.Core.Path.{_≡_, refl, sym, ap, _∙_}
-use mathlib.Core.List.{List, [], _∷_, _++_, append-nil}
+use mathlib.Core.Path.{_≡_, refl, _∙_}
+use mathlib.Core.List.{List, _++_}
 use Prim.Native.Nat.{ℕ, _+_, _≤_, _<_}
 use native.Mathlib.Omega.{arith}
 use lib.Dec.{eqb}
 use borrow.Author.Tests.{ne-eqb}
-use lib.ListN.{length, getD}
+use lib.ListN.{length}
 use Rattle.der.specs.Choice.{if_then_else_}
-use Rattle.der.specs.Numbers.{octetStringTag, identifierTag, integerTag, integerBound, opaqueLevels}
-use Rattle.der.specs.Element.{cursor, fault, tagAt, expectAt}
+use Rattle.der.specs.Numbers.{octetStringTag, integerTag, integerBound}
+use Rattle.der.specs.Element.{tagAt}
 use Rattle.der.specs.Content.{bytesOf}
-use Rattle.der.specs.Octets.{tlv, integerOctets, IdentifierRule}
-use Rattle.der.specs.Opaque.{onChecked, opaqueAt}
+use Rattle.der.specs.Octets.{tlv}
 use Rattle.der.specs.Span.{Span, Bytes}
-use Rattle.der.specs.Tree.{encode, encodes}
-use Rattle.der.specs.Follows.{Moved, HeaderIs, IdentifierIs, IntegerIs, OpaqueIs, RunIs}
+use Rattle.der.specs.Follows.{HeaderIs, IdentifierIs, IntegerIs}
 use Rattle.der.specs.declared.Fault.{Fault}
 use Rattle.der.specs.declared.Cursor.{Cursor}
-use Rattle.der.specs.declared.Checked.{Checked}
-use Rattle.der.specs.declared.Checked.the-variants.{Passed}
-use Rattle.der.proofs.Choices.{either, by-test, by-lt, by-le, by-eq}
-use Rattle.der.proofs.Opaque.{by-checked}
-use Rattle.der.proofs.Grammar.{opaque-sound}
-use Rattle.der.proofs.Spans.{span-empty, span-join, span-to, span-at}
-use Rattle.pkcs12.specs.Numbers.{sequenceTag, contextTag, ciphertextTag, attributedVersion, encryptedVersion, defaultIterations}
-use Rattle.pkcs12.specs.Identifiers.{sameBytes, dataType, x509Certificate}
+use Rattle.der.proofs.Choices.{by-test, by-le, by-eq}
+use Rattle.der.proofs.Spans.{span-empty, span-join, span-to}
+use Rattle.pkcs12.specs.Numbers.{sequenceTag, ciphertextTag, attributedVersion, encryptedVersion, defaultIterations}
+use Rattle.pkcs12.specs.Identifiers.{sameBytes, dataType}
 use Rattle.pkcs12.specs.Syntax.{Sealed, MacData}
-use Rattle.pkcs12.specs.Encode.{integer, sequence, identifier, octetString, algorithmBytes, sealedBytes, leafBytes, encryptedInfo, iterationsBytes, macBytes}
-use Rattle.pkcs12.specs.Valid.{Opaque, AtMostOne, OpaqueWith, ValidAlgorithm, ValidSealed, ValidMac}
-use Rattle.pkcs12.specs.Elements.{opaqueCount, algorithmCount, sealedCount, macCount}
-use Rattle.pkcs12.specs.Table.{range, macFields}
-use Rattle.pkcs12.specs.Walk.{rangeOf, onParts, algorithmAt, withValue, sealedAt, keyAt, valueAt, typedAt, encryptedInfoAt, encryptedAt, onMac, iterationsAt, macAt}
-use Rattle.pkcs12.specs.Laid.{Child, AlgorithmLaid, SealedLaid, EncryptedLaid, MacLaid}
+use Rattle.pkcs12.specs.Encode.{integer, sequence, identifier, octetString, algorithmBytes, sealedBytes, encryptedInfo, iterationsBytes, macBytes}
+use Rattle.pkcs12.specs.Valid.{ValidSealed, ValidMac}
+use Rattle.pkcs12.specs.Elements.{algorithmCount, macCount}
+use Rattle.pkcs12.specs.Table.{macFields}
+use Rattle.pkcs12.specs.Walk.{rangeOf, algorithmAt, withValue, sealedAt, encryptedInfoAt, encryptedAt, onMac, iterationsAt, macAt}
+use Rattle.pkcs12.specs.Laid.{Child, AlgorithmLaid, EncryptedLaid, MacLaid}
 use Rattle.pkcs12.specs.declared.Range.{Range}
 use Rattle.pkcs12.specs.declared.Parts.{Parts}
 use Rattle.pkcs12.specs.declared.PartsAt.{PartsAt}
 use Rattle.pkcs12.proofs.SameBytes.{same-is}
 use Rattle.pkcs12.proofs.SoundParts.{OfParts, by-parts, AlgorithmIs, algorithm-of, again, SealedIs, sealed-of}
-use Rattle.pkcs12.proofs.Parents.{by-expect, by-identifier, by-integer, by-opaque, by-finish, In, in-body, in-next, finished, Closed, closed, closed-any, closed-identifier, settled, first-byte, some-byte, nothing-count, at-most-one, Is}
+use Rattle.pkcs12.proofs.Parents.{by-expect, by-identifier, by-integer, by-finish, In, in-body, in-next, finished, closed, closed-any, closed-identifier, Is}
 use Rattle.pkcs12.specs.declared.Mac.{Mac}
 use Rattle.pkcs12.specs.declared.MacAt.{MacAt}
 
@@ -206,7 +199,7 @@ module _ (s : List ℕ) (bytes : Bytes s) where
       let l = closed s par c sequenceTag b n y h d (span-join s _ _ _ _ _ (a .whole) (span-join s _ _ _ _ _ (v .whole) (i .whole))) in
       rw (i .fields) record {
         value = record { digest = a .value; salt = bytesOf s o; iterations = i .number };
-        valid = record { digest = a .valid; some = i .some; bound = i .bound };
+        valid = record { digest = a .valid; some = omega (arith, i .some); bound = omega (arith, i .bound) };
         count = i .count ∙ rw (a .count);
         laid = record { body = rangeOf b; element = l .child; digest = a .laid; salt = v .child; iterations = refl };
         whole = l .whole;

@@ -1,44 +1,42 @@
 -- Parts that were accepted, in a list of bytes: the value that they hold, by the rules, where it stands, and its elements.
 use mathlib.Core.Bool.{Bool, true, false}
-use mathlib.Core.Path.{_≡_, refl, sym, ap, _∙_}
-use mathlib.Core.List.{List, [], _∷_, _++_, append-nil}
-use Prim.Native.Nat.{ℕ, _+_, _≤_, _<_}
+use mathlib.Core.Path.{_≡_, refl}
+use mathlib.Core.List.{List, [], _++_}
+use Prim.Native.Nat.{ℕ, _+_, _≤_}
 use native.Mathlib.Omega.{arith}
-use lib.Dec.{eqb}
-use lib.ListN.{length, getD}
+use lib.ListN.{getD}
 use Rattle.der.specs.Choice.{if_then_else_}
-use Rattle.der.specs.Numbers.{octetStringTag, identifierTag, integerTag, integerBound, opaqueLevels}
-use Rattle.der.specs.Element.{cursor, fault, tagAt, expectAt}
+use Rattle.der.specs.Numbers.{octetStringTag, opaqueLevels}
 use Rattle.der.specs.Content.{bytesOf}
-use Rattle.der.specs.Octets.{tlv, integerOctets, IdentifierRule}
-use Rattle.der.specs.Opaque.{onChecked, opaqueAt}
+use Rattle.der.specs.Octets.{tlv}
+use Rattle.der.specs.Opaque.{opaqueAt}
 use Rattle.der.specs.Span.{Span, Bytes}
-use Rattle.der.specs.Tree.{encode, encodes}
-use Rattle.der.specs.Follows.{Moved, HeaderIs, IdentifierIs, IntegerIs, OpaqueIs, RunIs}
+use Rattle.der.specs.Tree.{encode}
+use Rattle.der.specs.Follows.{HeaderIs, IdentifierIs, OpaqueIs}
 use Rattle.der.specs.declared.Fault.{Fault}
 use Rattle.der.specs.declared.Cursor.{Cursor}
 use Rattle.der.specs.declared.Checked.{Checked}
 use Rattle.der.specs.declared.Checked.the-variants.{Passed}
-use Rattle.der.proofs.Choices.{either, by-test, by-lt, by-le, by-eq}
+use Rattle.der.proofs.Choices.{by-lt}
 use Rattle.der.proofs.Opaque.{by-checked}
 use Rattle.der.proofs.Grammar.{opaque-sound}
-use Rattle.der.proofs.Spans.{span-empty, span-join, span-to, span-at}
-use Rattle.pkcs12.specs.Numbers.{sequenceTag, contextTag, ciphertextTag, encryptedVersion}
-use Rattle.pkcs12.specs.Identifiers.{sameBytes, dataType, x509Certificate}
-use Rattle.pkcs12.specs.Syntax.{Algorithm, Sealed, Typed, certificate, crl, secret, Leaf, key, shrouded, typed, kindOfTyped, kindOfLeaf}
-use Rattle.pkcs12.specs.Encode.{integer, identifier, octetString, algorithmBytes, sealedBytes, leafBytes, encryptedInfo}
-use Rattle.pkcs12.specs.Valid.{Opaque, AtMostOne, OpaqueWith, ValidAlgorithm, ValidSealed, ValueRule, ValidLeaf}
+use Rattle.der.proofs.Spans.{span-empty, span-join, span-to}
+use Rattle.pkcs12.specs.Numbers.{sequenceTag, contextTag}
+use Rattle.pkcs12.specs.Identifiers.{sameBytes, x509Certificate}
+use Rattle.pkcs12.specs.Syntax.{Algorithm, Typed, certificate, crl, secret, key, shrouded, typed, kindOfTyped, kindOfLeaf}
+use Rattle.pkcs12.specs.Encode.{identifier, octetString, algorithmBytes, sealedBytes, leafBytes}
+use Rattle.pkcs12.specs.Valid.{AtMostOne, ValidAlgorithm, ValidSealed, ValueRule, ValidLeaf}
 use Rattle.pkcs12.specs.Elements.{opaqueCount, algorithmCount, sealedCount, leafCount}
 use Rattle.pkcs12.specs.Table.{range, noRange, parts}
-use Rattle.pkcs12.specs.Walk.{rangeOf, onParts, algorithmAt, withValue, sealedAt, keyAt, valueAt, typedAt, encryptedInfoAt, encryptedAt}
-use Rattle.pkcs12.specs.Laid.{Child, Piece, AlgorithmLaid, SealedLaid, KeyLaid, TypedLaid, LeafLaid, EncryptedLaid}
+use Rattle.pkcs12.specs.Walk.{rangeOf, onParts, algorithmAt, withValue, sealedAt, keyAt, valueAt, typedAt}
+use Rattle.pkcs12.specs.Laid.{AlgorithmLaid, SealedLaid, LeafLaid}
 use Rattle.pkcs12.specs.declared.Range.{Range}
 use Rattle.pkcs12.specs.declared.Parts.{Parts}
 use Rattle.pkcs12.specs.declared.PartsAt.{PartsAt}
 use Rattle.pkcs12.specs.declared.BagKind.{BagKind}
 use Rattle.pkcs12.specs.declared.BagKind.the-variants.{Key, ShroudedKey}
-use Rattle.pkcs12.proofs.SameBytes.{same-self, same-is, never}
-use Rattle.pkcs12.proofs.Parents.{by-expect, by-identifier, by-integer, by-opaque, by-finish, In, in-body, in-next, finished, Closed, closed, closed-any, closed-identifier, settled, first-byte, some-byte, nothing-count, at-most-one, Is}
+use Rattle.pkcs12.proofs.SameBytes.{same-self, never}
+use Rattle.pkcs12.proofs.Parents.{by-expect, by-identifier, by-opaque, by-finish, In, in-body, finished, closed, closed-any, closed-identifier, settled, first-byte, some-byte, nothing-count, at-most-one, Is}
 
 -- what holds of parts that were found; a refusal has nothing to hold
 abbrev pub OfParts : (Parts → ℕ → Cursor → Type 0) → PartsAt → Type 0

@@ -1,31 +1,28 @@
 -- Safes and files that were accepted, in a list of bytes: the value, by the rules, where it stands, and the rows.
-use mathlib.Core.Bool.{Bool, true, false}
-use mathlib.Core.Path.{_≡_, refl, sym, ap, _∙_}
+use mathlib.Core.Path.{_≡_, refl}
 use mathlib.Core.List.{List, [], _∷_, _++_}
 use Prim.Native.Nat.{ℕ, _+_, _≤_, _<_}
 use native.Mathlib.Omega.{arith}
 use lib.ListN.{length}
 use native.Mathlib.Nat.{add-zero}
-use Rattle.der.specs.Numbers.{octetStringTag, identifierTag}
-use Rattle.der.specs.Element.{cursor, wholeOf, fault}
+use Rattle.der.specs.Numbers.{octetStringTag}
 use Rattle.der.specs.Content.{bytesOf}
 use Rattle.der.specs.Octets.{tlv}
 use Rattle.der.specs.Span.{Span, Bytes}
-use Rattle.der.specs.Follows.{HeaderIs, IdentifierIs, IntegerIs}
-use Rattle.der.specs.declared.Fault.{Fault}
+use Rattle.der.specs.Follows.{HeaderIs, IdentifierIs}
 use Rattle.der.specs.declared.Cursor.{Cursor}
-use Rattle.der.proofs.Choices.{by-test, by-lt, by-le, by-eq}
+use Rattle.der.proofs.Choices.{by-test, by-le}
 use Rattle.der.proofs.Octets.{tlv-long}
-use Rattle.der.proofs.Spans.{span-empty, span-whole, span-join, span-to, span-same}
-use Rattle.pkcs12.specs.Numbers.{safeRows, levels, fileBytes, sequenceTag, contextTag, pfxVersion}
-use Rattle.pkcs12.specs.Identifiers.{dataType, signedType, encryptedType, envelopedType, sameBytes}
-use Rattle.pkcs12.specs.Syntax.{Bags, Safe, plain, encrypted, Pfx}
-use Rattle.pkcs12.specs.Encode.{integer, identifier, octetString, sequence, contentInfo, dataBytes, bagsBytes, safeBytes, safesBytes, macBytes, encode}
-use Rattle.pkcs12.specs.Valid.{Valid, ValidSafes, bagsIn}
-use Rattle.pkcs12.specs.Elements.{algorithmCount, bagsCount, safesCount, elements}
-use Rattle.pkcs12.specs.Table.{range, noParts, safeRow, Rows, tableOf}
-use Rattle.pkcs12.specs.Walk.{rangeOf, Walked, Refused, Went, run, counting, addSafe, Place, place, safeContentsAt, dataAt, plainAt, sealedSafeAt, encryptedAt, safeValueAt, safeAt, safesAt, outerValueAt, outerAt, macAt, bodyAt, alone, onAnswer, pfxAt, readFile}
-use Rattle.pkcs12.specs.Laid.{Child, ContentLaid, DataLaid, SafesLaid, no-safe, one-plain, one-encrypted, MacLaid, PfxLaid}
+use Rattle.der.proofs.Spans.{span-empty, span-join, span-to}
+use Rattle.pkcs12.specs.Numbers.{safeRows, levels, sequenceTag, contextTag}
+use Rattle.pkcs12.specs.Identifiers.{dataType, encryptedType, envelopedType, sameBytes}
+use Rattle.pkcs12.specs.Syntax.{Bags, Safe, plain, encrypted}
+use Rattle.pkcs12.specs.Encode.{identifier, octetString, sequence, contentInfo, dataBytes, bagsBytes, safeBytes, safesBytes}
+use Rattle.pkcs12.specs.Valid.{ValidSafes}
+use Rattle.pkcs12.specs.Elements.{algorithmCount, bagsCount, safesCount}
+use Rattle.pkcs12.specs.Table.{noParts, safeRow, Rows}
+use Rattle.pkcs12.specs.Walk.{rangeOf, Walked, Refused, Went, run, addSafe, place, safeContentsAt, dataAt, plainAt, sealedSafeAt, encryptedAt, safeValueAt, safeAt}
+use Rattle.pkcs12.specs.Laid.{Child, ContentLaid, SafesLaid, no-safe, one-plain, one-encrypted}
 use Rattle.pkcs12.specs.declared.Range.{Range}
 use Rattle.pkcs12.specs.declared.Parts.{Parts}
 use Rattle.pkcs12.specs.declared.SafeKind.the-variants.{Plain, Encrypted}
@@ -33,18 +30,14 @@ use Rattle.pkcs12.specs.declared.Enclosing.{Enclosing}
 use Rattle.pkcs12.specs.declared.SafeRow.{SafeRow}
 use Rattle.pkcs12.specs.declared.BagRow.{BagRow}
 use Rattle.pkcs12.specs.declared.AttributeRow.{AttributeRow}
-use Rattle.pkcs12.specs.declared.Mac.{Mac}
-use Rattle.pkcs12.specs.declared.Table.{Table}
-use Rattle.pkcs12.specs.declared.Answer.{Answer}
-use Rattle.pkcs12.specs.declared.Answer.the-variants.{Accepted}
-use Rattle.pkcs12.specs.declared.Reading.{Reading}
 use Rattle.pkcs12.proofs.SameBytes.{same-is}
-use Rattle.pkcs12.proofs.Parents.{by-expect, by-identifier, by-integer, by-finish, In, in-body, in-next, finished, Closed, closed, closed-identifier}
-use Rattle.pkcs12.proofs.Grown.{Fits, Grown, grown-none, grown-then, grown-safe, grown-bags, grown-safes}
-use Rattle.pkcs12.proofs.Shown.{laid-bags-long, pfx-sizes}
+use Rattle.pkcs12.proofs.Parents.{by-expect, by-identifier, by-finish, In, in-body, finished, closed, closed-identifier}
+use Rattle.pkcs12.proofs.Grown.{Grown, grown-none, grown-then, grown-safe, grown-bags, grown-safes}
+use Rattle.pkcs12.proofs.Shown.{laid-bags-long}
 use Rattle.pkcs12.proofs.SoundParts.{by-parts}
-use Rattle.pkcs12.proofs.SoundOuter.{encryptedBytes, EncryptedIs, encrypted-of, MacIs, mac-of, by-mac}
-use Rattle.pkcs12.proofs.SoundBags.{OfWalked, by-walked, run-of, ContentsIs, contents-of}
+use Rattle.pkcs12.proofs.SoundOuter.{encryptedBytes, EncryptedIs, encrypted-of}
+use Rattle.pkcs12.proofs.SoundAttributes.{OfWalked, by-walked, run-of}
+use Rattle.pkcs12.proofs.SoundBags.{ContentsIs, contents-of}
 
 module _ (s : List ℕ) (bytes : Bytes s) where
   -- the body of an OCTET STRING from o on, up to g: bytes x that fill it

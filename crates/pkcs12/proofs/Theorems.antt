@@ -17,10 +17,12 @@ use Rattle.pkcs12.specs.Values.{Values, rowsOf, treeOf}
 use Rattle.pkcs12.specs.Table.{tableOf, emptyTable, rowsIn}
 use Rattle.pkcs12.specs.Walk.{readFile}
 use Rattle.pkcs12.specs.Laid.{PfxLaid}
-use Rattle.pkcs12.specs.Sound.{IsAccepted, Follows, tableFrom, readingFrom, endToEnd, Sound, Each}
+use Rattle.pkcs12.specs.Accepted.{IsAccepted, Follows, tableFrom, readingFrom, endToEnd, Each}
+use Rattle.pkcs12.specs.Sound.{Sound}
 use Rattle.pkcs12.specs.declared.Answer.{Answer}
+use Rattle.pkcs12.specs.Bench.{Holds, benchCases, slipCases}
+use Rattle.pkcs12.proofs.Bench as bench
 use Rattle.pkcs12.proofs.Rows as rows
-use Rattle.pkcs12.proofs.Parents as parents
 use Rattle.pkcs12.proofs.Refusals as refusals
 use Rattle.pkcs12.proofs.Corollaries as corollaries
 
@@ -87,3 +89,12 @@ rows-show-reading x v = rows.rows-tree x (v .safes)
 
 pub reading-has-rows : (v : Values) (x : Pfx) → treeOf v ≡ some x → rowsOf x ≡ v
 reading-has-rows = rows.tree-rows
+
+-- ---- the bench set
+
+-- Cases (a) to (j) of the scope, and files that tell its tempting slips: what reading each gives, with every field of the table.
+pub bench-table : Holds benchCases
+bench-table = bench.bench
+
+pub slips-table : Holds slipCases
+slips-table = bench.slips

@@ -6,7 +6,7 @@ use lib.Dec.{eqb}
 use Rattle.der.specs.Choice.{if_then_else_}
 use Rattle.der.specs.Numbers.{opaqueLevels}
 use Rattle.der.specs.Element.{wholeOf}
-use Rattle.der.specs.Opaque.{onChecked, opaqueAt, elementsAt}
+use Rattle.der.specs.Opaque.{onChecked, elementsAt}
 use Rattle.pkcs12.specs.Numbers.{defaultIterations}
 use Rattle.pkcs12.specs.Syntax.{Algorithm, Sealed, Leaf, key, shrouded, typed, Attribute, Set, absent, present, Bags, none, bag, nest, Safe, plain, encrypted, MacData, Pfx}
 

@@ -1,6 +1,6 @@
 -- The identifiers that the scope names, by their body bytes.
 use mathlib.Core.Bool.{Bool, true, false}
-use mathlib.Core.List.{List, [], _∷_, _++_}
+use mathlib.Core.List.{List, [], _∷_}
 use Prim.Native.Nat.{ℕ}
 use lib.Dec.{eqb}
 use Rattle.der.specs.Choice.{if_then_else_}

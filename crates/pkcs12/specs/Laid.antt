@@ -9,9 +9,9 @@ use Rattle.der.specs.Octets.{tlv}
 use Rattle.der.specs.Span.{Span}
 use Rattle.pkcs12.specs.Numbers.{sequenceTag, setTag, contextTag, ciphertextTag, pfxVersion, encryptedVersion}
 use Rattle.pkcs12.specs.Identifiers.{dataType, encryptedType, identifierOf}
-use Rattle.pkcs12.specs.Syntax.{Algorithm, Sealed, Typed, Leaf, key, shrouded, typed, Attribute, Set, absent, present, Bags, none, bag, nest, Safe, plain, encrypted, MacData, Pfx, kindOfLeaf}
-use Rattle.pkcs12.specs.Encode.{integer, octetString, identifier, sequence, algorithmBytes, sealedBytes, dataBytes, attributeBytes, attributesBytes, setBytes, leafBytes, bagsBytes, encryptedInfo, safesBytes, macBytes, iterationsBytes}
-use Rattle.pkcs12.specs.Valid.{bagsIn, bagsInSafe}
+use Rattle.pkcs12.specs.Syntax.{Algorithm, Sealed, Leaf, key, shrouded, typed, Attribute, Set, absent, present, Bags, none, bag, nest, Safe, plain, encrypted, MacData, Pfx, kindOfLeaf}
+use Rattle.pkcs12.specs.Encode.{integer, octetString, identifier, sequence, algorithmBytes, sealedBytes, dataBytes, attributesBytes, setBytes, leafBytes, bagsBytes, encryptedInfo, safesBytes, macBytes, iterationsBytes}
+use Rattle.pkcs12.specs.Valid.{bagsIn}
 use Rattle.pkcs12.specs.Values.{stands}
 use Rattle.pkcs12.specs.Table.{range, noRange, parts, noParts, safeRow, bagRow, Rows}
 use Rattle.pkcs12.specs.Walk.{Place, place}

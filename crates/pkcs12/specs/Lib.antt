@@ -10,4 +10,6 @@ pub mod Values
 pub mod Table
 pub mod Walk
 pub mod Laid
+pub mod Accepted
 pub mod Sound
+pub mod Bench

@@ -1,50 +1,22 @@
--- What the theorems are stated over: that a file is accepted, that it follows the standard, the reading of its table; and when a table is sound for
--- bytes, as the writer asks (scope, "Numbers given back", its last part).
+-- When a table is sound for bytes, as the writer asks (scope, "Numbers given back", its last part).
 use mathlib.Core.Path.{_≡_}
-use mathlib.Core.List.{List, [], _∷_, _++_}
-use mathlib.Core.Option.{Option, some}
+use mathlib.Core.List.{List}
+use mathlib.Core.Option.{some}
 use Prim.Native.Nat.{ℕ, _≤_}
 use lib.ListN.{length}
-use Rattle.pkcs12.specs.Numbers.{safeRows, bagRows, attributeRows, fileBytes}
+use Rattle.pkcs12.specs.Numbers.{safeRows, bagRows, attributeRows}
 use Rattle.pkcs12.specs.Syntax.{Pfx}
-use Rattle.pkcs12.specs.Encode.{encode}
 use Rattle.pkcs12.specs.Valid.{Valid}
 use Rattle.pkcs12.specs.Table.{Rows, rowsIn, readingOf}
-use Rattle.pkcs12.specs.Walk.{readFile}
 use Rattle.pkcs12.specs.declared.Range.{Range}
 use Rattle.pkcs12.specs.declared.Parts.{Parts}
 use Rattle.pkcs12.specs.declared.SafeKind.{SafeKind}
 use Rattle.pkcs12.specs.declared.SafeKind.the-variants.{Plain, Encrypted}
 use Rattle.pkcs12.specs.declared.BagKind.{BagKind}
 use Rattle.pkcs12.specs.declared.BagKind.the-variants.{Key, ShroudedKey, Certificate, Crl, Secret, Nested}
-use Rattle.pkcs12.specs.declared.SafeRow.{SafeRow}
-use Rattle.pkcs12.specs.declared.BagRow.{BagRow}
-use Rattle.pkcs12.specs.declared.AttributeRow.{AttributeRow}
 use Rattle.pkcs12.specs.declared.Mac.{Mac}
 use Rattle.pkcs12.specs.declared.Table.{Table}
-use Rattle.pkcs12.specs.declared.Answer.the-variants.{Accepted}
-
--- a file is accepted
-abbrev pub IsAccepted : List ℕ → Type 0
-IsAccepted f = readFile f .answer ≡ Accepted
-
--- a file follows the standard, in the DER subset and limits of the scope: it is what a valid reading x is written as
-pub record Follows (f : List ℕ) (x : Pfx) : Type 0 where
-  pub valid : Valid x
-  pub written : encode x ≡ f
-  pub size : length f ≤ fileBytes
-
--- the table of a file, and the reading that it shows
-abbrev pub tableFrom : List ℕ → Table
-tableFrom f = readFile f .table
-
-abbrev pub readingFrom : List ℕ → Option Pfx
-readingFrom f = readingOf (tableFrom f) f
-
--- files laid end to end
-unfoldable pub endToEnd : List (List ℕ) → List ℕ
-endToEnd [] = []
-endToEnd (f ∷ fs) = f ++ endToEnd fs
+use Rattle.pkcs12.specs.Accepted.{Each}
 
 -- "its ranges lie anywhere in the bytes": those that a row's kind uses, in the rows below the counts
 pub record Lies (s : List ℕ) (r : Range) : Type 0 where
@@ -70,11 +42,6 @@ abbrev pub SafeLies : List ℕ → SafeKind → Parts → Type 0
 SafeLies s SafeKind.None p = Unit {0}
 SafeLies s Plain p = Unit {0}
 SafeLies s Encrypted p = SealedLies s p
-
--- each of a list
-unfoldable pub Each : {A : Type 0} → (A → Type 0) → List A → Type 0
-Each P [] = Unit {0}
-Each P (x ∷ xs) = P x × Each P xs
 
 pub record RangesLie (s : List ℕ) (st : Rows) (m : Mac) : Type 0 where
   pub safes : Each (λ r. SafeLies s (r .kind) (r .parts)) (st .safes)

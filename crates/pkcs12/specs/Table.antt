@@ -1,6 +1,6 @@
 -- The table: its rows as lists, padded with empty rows; what it shows of bytes.
-use mathlib.Core.Bool.{Bool, true, false}
-use mathlib.Core.List.{List, [], _∷_, _++_, map}
+use mathlib.Core.Bool.{Bool, false}
+use mathlib.Core.List.{List, [], _++_, map}
 use mathlib.Core.Option.{Option}
 use Prim.Native.Nat.{ℕ, _+_, _-_}
 use lib.Dec.{ltb}
@@ -8,7 +8,7 @@ use lib.ListN.{length, take, set, replicate}
 use lib.Seq.{slice}
 use Rattle.der.specs.Choice.{if_then_else_}
 use Rattle.pkcs12.specs.Numbers.{safeRows, bagRows, attributeRows}
-use Rattle.pkcs12.specs.Syntax.{Algorithm, Sealed, Typed, certificate, crl, secret, Leaf, key, shrouded, typed, Attribute, MacData, Pfx}
+use Rattle.pkcs12.specs.Syntax.{Algorithm, Sealed, Typed, certificate, crl, secret, Leaf, key, shrouded, typed, MacData, Pfx}
 use Rattle.pkcs12.specs.Values.{SafeValue, empty-safe, plain-safe, encrypted-safe, Content, empty-bag, leaf, nested, BagValue, AttributeValue, Values, treeOf}
 use Rattle.pkcs12.specs.declared.Range.{Range}
 use Rattle.pkcs12.specs.declared.Parts.{Parts}
@@ -76,19 +76,33 @@ noRows = record { safes = []; bags = []; attributes = []; input = noRange; count
 abbrev pub padded : {A : Type 0} → ℕ → A → List A → List A
 padded n none xs = xs ++ replicate (n - length xs) none
 
+abbrev pub table : List SafeRow → ℕ → List BagRow → ℕ → List AttributeRow → ℕ → Mac → Range → ℕ → Table
+table safes i bags j attributes k m input count =
+    record {
+      safes = safes;
+      «safe_count» = i;
+      bags = bags;
+      «bag_count» = j;
+      attributes = attributes;
+      «attribute_count» = k;
+      mac = m;
+      «mac_input» = input;
+      elements = count;
+    }
+
+-- "rows past the counts .. hold 0 or none"
 unfoldable pub tableOf : Rows → Mac → Table
 tableOf st m =
-    record {
-      safes = padded safeRows noSafe (st .safes);
-      «safe_count» = length (st .safes);
-      bags = padded bagRows noBag (st .bags);
-      «bag_count» = length (st .bags);
-      attributes = padded attributeRows noAttribute (st .attributes);
-      «attribute_count» = length (st .attributes);
-      mac = m;
-      «mac_input» = st .input;
-      elements = st .count;
-    }
+    table
+    (padded safeRows noSafe (st .safes))
+    (length (st .safes))
+    (padded bagRows noBag (st .bags))
+    (length (st .bags))
+    (padded attributeRows noAttribute (st .attributes))
+    (length (st .attributes))
+    m
+    (st .input)
+    (st .count)
 
 -- "In an empty table every count, number and range end is 0."
 unfoldable pub emptyTable : Table
@@ -98,49 +112,19 @@ emptyTable = tableOf noRows noMac
 unfoldable pub withSafe : Table → SafeRow → Table
 withSafe t row =
     if ltb (t .«safe_count») safeRows then
-    record {
-      safes = set (t .safes) (t .«safe_count») row;
-      «safe_count» = t .«safe_count» + 1;
-      bags = t .bags;
-      «bag_count» = t .«bag_count»;
-      attributes = t .attributes;
-      «attribute_count» = t .«attribute_count»;
-      mac = t .mac;
-      «mac_input» = t .«mac_input»;
-      elements = t .elements;
-    } else
+    table (set (t .safes) (t .«safe_count») row) (t .«safe_count» + 1) (t .bags) (t .«bag_count») (t .attributes) (t .«attribute_count») (t .mac) (t .«mac_input») (t .elements) else
     t
 
 unfoldable pub withBag : Table → BagRow → Table
 withBag t row =
     if ltb (t .«bag_count») bagRows then
-    record {
-      safes = t .safes;
-      «safe_count» = t .«safe_count»;
-      bags = set (t .bags) (t .«bag_count») row;
-      «bag_count» = t .«bag_count» + 1;
-      attributes = t .attributes;
-      «attribute_count» = t .«attribute_count»;
-      mac = t .mac;
-      «mac_input» = t .«mac_input»;
-      elements = t .elements;
-    } else
+    table (t .safes) (t .«safe_count») (set (t .bags) (t .«bag_count») row) (t .«bag_count» + 1) (t .attributes) (t .«attribute_count») (t .mac) (t .«mac_input») (t .elements) else
     t
 
 unfoldable pub withAttribute : Table → AttributeRow → Table
 withAttribute t row =
     if ltb (t .«attribute_count») attributeRows then
-    record {
-      safes = t .safes;
-      «safe_count» = t .«safe_count»;
-      bags = t .bags;
-      «bag_count» = t .«bag_count»;
-      attributes = set (t .attributes) (t .«attribute_count») row;
-      «attribute_count» = t .«attribute_count» + 1;
-      mac = t .mac;
-      «mac_input» = t .«mac_input»;
-      elements = t .elements;
-    } else
+    table (t .safes) (t .«safe_count») (t .bags) (t .«bag_count») (set (t .attributes) (t .«attribute_count») row) (t .«attribute_count» + 1) (t .mac) (t .«mac_input») (t .elements) else
     t
 
 -- the rows below the counts

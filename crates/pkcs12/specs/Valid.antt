@@ -1,6 +1,6 @@
 -- The rules that a reading keeps, beside its form (scope, "One element" and "The file from outside in", and the sizes).
 use mathlib.Core.Path.{_≡_}
-use mathlib.Core.List.{List, [], _∷_, _++_}
+use mathlib.Core.List.{List, [], _∷_}
 use Prim.Native.Nat.{ℕ, zero, suc, _+_, _≤_, _<_}
 use lib.ListN.{length, getD}
 use Rattle.der.specs.Numbers.{octetStringTag, integerBound, opaqueLevels}

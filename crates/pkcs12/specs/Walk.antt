@@ -16,7 +16,7 @@ use Rattle.der.specs.declared.Cursor.{Cursor}
 use Rattle.der.specs.declared.Checked.{Checked}
 use Rattle.pkcs12.specs.Numbers.{safeRows, bagRows, attributeRows, levels, fileBytes, notServed, tooLong, sequenceTag, setTag, contextTag, ciphertextTag, pfxVersion, encryptedVersion, attributedVersion, defaultIterations}
 use Rattle.pkcs12.specs.Identifiers.{sameBytes, dataType, signedType, envelopedType, encryptedType, x509Certificate, kindOf}
-use Rattle.pkcs12.specs.Table.{range, noRange, parts, noParts, safeRow, bagRow, attributeRow, macFields, Rows, noRows, tableOf, emptyTable}
+use Rattle.pkcs12.specs.Table.{range, noRange, parts, noParts, safeRow, bagRow, attributeRow, macFields, Rows, tableOf, emptyTable}
 use Rattle.pkcs12.specs.declared.Range.{Range}
 use Rattle.pkcs12.specs.declared.Parts.{Parts}
 use Rattle.pkcs12.specs.declared.SafeKind.the-variants.{Plain, Encrypted}

@@ -1,14 +1,54 @@
--- The kind that an identifier's bytes name has that identifier, and no kind has another's.
+-- The identifiers that the scope names: each keeps the rule of an identifier, and each kind of bag is named by its own.
 use mathlib.Core.Bool.{true, false}
 use mathlib.Core.Path.{_≡_, refl}
 use mathlib.Core.List.{List}
 use Prim.Native.Nat.{ℕ}
+use Rattle.der.specs.Content.{parts, identifierBody}
+use Rattle.der.specs.Octets.{IdentifierRule}
 use Rattle.der.proofs.Choices.{by-test}
-use Rattle.pkcs12.specs.Identifiers.{identifierOf, kindOf, sameBytes}
+use Rattle.der.proofs.Content.{identifier-rule}
+use Rattle.pkcs12.specs.Identifiers.{dataType, encryptedType, identifierOf, kindOf, sameBytes}
 use Rattle.pkcs12.specs.Walk.{onKind}
 use Rattle.pkcs12.specs.declared.BagKind.{BagKind}
 use Rattle.pkcs12.specs.declared.BagKind.the-variants.{Key, ShroudedKey, Certificate, Crl, Secret, Nested}
-use Rattle.pkcs12.proofs.SameBytes.{same-is}
+use Rattle.pkcs12.proofs.SameBytes.{never, same-is}
+
+-- the types of content keep the rule of an identifier
+pub data-rule : IdentifierRule dataType
+unfolding dataType identifierBody parts
+data-rule = identifier-rule dataType refl
+
+pub encrypted-rule : IdentifierRule encryptedType
+unfolding encryptedType identifierBody parts
+encrypted-rule = identifier-rule encryptedType refl
+
+-- and differ
+pub other-type : sameBytes encryptedType dataType ≡ false
+unfolding encryptedType dataType sameBytes
+other-type = refl
+
+-- the identifier of each kind of bag keeps it, too, and names that kind; all but none are served
+abbrev pub Served : BagKind → Type 0
+Served k = onKind k false true ≡ true
+
+pub on-kind : {A : Type 0} (k : BagKind) → Served k → (bad good : A) → onKind k bad good ≡ good
+on-kind BagKind.None v bad good = never v
+on-kind Key v bad good = refl
+on-kind ShroudedKey v bad good = refl
+on-kind Certificate v bad good = refl
+on-kind Crl v bad good = refl
+on-kind Secret v bad good = refl
+on-kind Nested v bad good = refl
+
+pub kind-named : (k : BagKind) → Served k → IdentifierRule (identifierOf k) × (kindOf (identifierOf k) ≡ k)
+unfolding kindOf identifierOf sameBytes identifierBody parts
+kind-named BagKind.None v = never v
+kind-named Key v = (identifier-rule _ refl, refl)
+kind-named ShroudedKey v = (identifier-rule _ refl, refl)
+kind-named Certificate v = (identifier-rule _ refl, refl)
+kind-named Crl v = (identifier-rule _ refl, refl)
+kind-named Secret v = (identifier-rule _ refl, refl)
+kind-named Nested v = (identifier-rule _ refl, refl)
 
 -- x is the identifier of the kind, if it is one
 abbrev Names : List ℕ → BagKind → Type 0

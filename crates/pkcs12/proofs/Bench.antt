@@ -1,0 +1,21 @@
+-- The bench set, computed.
+use mathlib.Core.Path.{refl}
+use Rattle.der.specs.Element.{noByteLeft, tagAt, finishAt, within, oneOctet, twoOctets, extentAt, elementAt, expectAt}
+use Rattle.der.specs.Content.{parts, identifierBody, identifierAt, integerBody, andDigit, integerValue, integerAt}
+use Rattle.der.specs.Many.{many}
+use Rattle.der.specs.Opaque.{opaqueAt, elementsAt}
+use Rattle.der.specs.Opaque as opaque
+use Rattle.pkcs12.specs.Identifiers.{dataType, signedType, envelopedType, encryptedType, x509Certificate, identifierOf, sameBytes, kindOf}
+use Rattle.pkcs12.specs.Table.{tableOf, emptyTable}
+use Rattle.pkcs12.specs.Walk.{algorithmAt, sealedAt, keyAt, valueAt, typedAt, encryptedInfoAt, encryptedAt, run, attributeAt, setAt, bagAt, safeContentsAt, dataAt, plainAt, sealedSafeAt, safeValueAt, safeAt, safesAt, outerValueAt, outerAt, iterationsAt, macAt, bodyAt, pfxAt, readFile}
+use Rattle.pkcs12.specs.Bench.{Holds, benchCases, slipCases}
+
+computed : Holds benchCases × Holds slipCases
+unfolding noByteLeft tagAt finishAt within oneOctet twoOctets extentAt elementAt expectAt parts identifierBody identifierAt integerBody andDigit integerValue integerAt many opaqueAt elementsAt opaque.run dataType signedType envelopedType encryptedType x509Certificate identifierOf sameBytes kindOf tableOf emptyTable algorithmAt sealedAt keyAt valueAt typedAt encryptedInfoAt encryptedAt run attributeAt setAt bagAt safeContentsAt dataAt plainAt sealedSafeAt safeValueAt safeAt safesAt outerValueAt outerAt iterationsAt macAt bodyAt pfxAt readFile benchCases slipCases
+computed = (refl, refl)
+
+pub bench : Holds benchCases
+bench = computed .0
+
+pub slips : Holds slipCases
+slips = computed .1
