@@ -206,7 +206,8 @@ abbrev pub leafAt : PartsAt → BagKind → Place → Bool → Rows → Walked
 leafAt x kind w has-set st =
     onParts x Refused (λ p k f. Went (addBag st (bagRow kind (w .safe) (w .enclosing) p has-set) (k + 3)) f)
 
--- what stands in [0] of a bag, by its kind; `inner` reads the SafeContents of a nested bag. (That no kind is refused is said before.)
+-- what stands in [0] of a bag, by its kind; `inner` reads the SafeContents of a nested bag. The bag's SEQUENCE, bagId and [0] are counted with its
+-- row. (`None` doesn't come here: the bagId was refused.)
 abbrev pub contentAt : (Place → Rows → Cursor → Walked) → List ℕ → BagKind → Place → Bool → Rows → Cursor → Walked
 contentAt inner s BagKind.None w h st c = Refused (fault notServed (c .at))
 contentAt inner s Key w h st c = leafAt (keyAt s c) Key w h st
@@ -263,11 +264,11 @@ dataAt inner s c =
     (λ z h.
     onChecked (finishAt f) Refused (λ z i. Went st e)))))
 
--- a plain safe: its row, then its bags
+-- a plain safe: its row, counted with its SEQUENCE, identifier, [0] and OCTET STRING; then its bags
 unfoldable pub plainAt : List ℕ → Rows → Cursor → Walked
 plainAt s st c = dataAt (safeContentsAt levels s (place (length (st .safes)) Enclosing.None) (addSafe st (safeRow Plain noParts) 4)) s c
 
--- an encrypted safe: its parts, then its row
+-- an encrypted safe: its parts, then its row, counted with its SEQUENCE, identifier and [0]
 unfoldable pub sealedSafeAt : List ℕ → Rows → Cursor → Walked
 sealedSafeAt s st c =
     onElement (expectAt contextTag s c) Refused
@@ -295,7 +296,8 @@ safeAt s st c =
     onWalked (safeValueAt s (bytesOf s i) (b .at) st m) Refused
     (λ st e. onChecked (finishAt e) Refused (λ z g. Went st n))))
 
--- the AuthenticatedSafe in the body of the outer OCTET STRING: "That body is the MAC input"
+-- the AuthenticatedSafe in the body of the outer OCTET STRING: "That body is the MAC input". Counted so far: PFX, version, ContentInfo, its identifier,
+-- [0] and OCTET STRING, and this SEQUENCE.
 unfoldable pub safesAt : List ℕ → Cursor → Walked
 safesAt s c =
     onElement (expectAt sequenceTag s c) Refused

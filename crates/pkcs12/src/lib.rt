@@ -162,89 +162,17 @@ pub fn same(a: &[u8], b: &[u8]) -> bool
 }
 
 impl BagKind {
-    pub const KEY: [u8; 11] = [
-        0x2A,
-        0x86,
-        0x48,
-        0x86,
-        0xF7,
-        0x0D,
-        0x01,
-        0x0C,
-        0x0A,
-        0x01,
-        0x01,
-    ];
+    pub const KEY: [u8; 11] = *b"\x2A\x86\x48\x86\xF7\x0D\x01\x0C\x0A\x01\x01";
 
-    pub const SHROUDED_KEY: [u8; 11] = [
-        0x2A,
-        0x86,
-        0x48,
-        0x86,
-        0xF7,
-        0x0D,
-        0x01,
-        0x0C,
-        0x0A,
-        0x01,
-        0x02,
-    ];
+    pub const SHROUDED_KEY: [u8; 11] = *b"\x2A\x86\x48\x86\xF7\x0D\x01\x0C\x0A\x01\x02";
 
-    pub const CERTIFICATE: [u8; 11] = [
-        0x2A,
-        0x86,
-        0x48,
-        0x86,
-        0xF7,
-        0x0D,
-        0x01,
-        0x0C,
-        0x0A,
-        0x01,
-        0x03,
-    ];
+    pub const CERTIFICATE: [u8; 11] = *b"\x2A\x86\x48\x86\xF7\x0D\x01\x0C\x0A\x01\x03";
 
-    pub const CRL: [u8; 11] = [
-        0x2A,
-        0x86,
-        0x48,
-        0x86,
-        0xF7,
-        0x0D,
-        0x01,
-        0x0C,
-        0x0A,
-        0x01,
-        0x04,
-    ];
+    pub const CRL: [u8; 11] = *b"\x2A\x86\x48\x86\xF7\x0D\x01\x0C\x0A\x01\x04";
 
-    pub const SECRET: [u8; 11] = [
-        0x2A,
-        0x86,
-        0x48,
-        0x86,
-        0xF7,
-        0x0D,
-        0x01,
-        0x0C,
-        0x0A,
-        0x01,
-        0x05,
-    ];
+    pub const SECRET: [u8; 11] = *b"\x2A\x86\x48\x86\xF7\x0D\x01\x0C\x0A\x01\x05";
 
-    pub const NESTED: [u8; 11] = [
-        0x2A,
-        0x86,
-        0x48,
-        0x86,
-        0xF7,
-        0x0D,
-        0x01,
-        0x0C,
-        0x0A,
-        0x01,
-        0x06,
-    ];
+    pub const NESTED: [u8; 11] = *b"\x2A\x86\x48\x86\xF7\x0D\x01\x0C\x0A\x01\x06";
 
     // The kind that a bagId's body names, `None` if it names no kind.
     pub fn of(body: &[u8]) -> BagKind
@@ -272,47 +200,65 @@ impl BagKind {
     }
 }
 
+impl Range {
+    pub const EMPTY: Range = Range { start: 0, end: 0 };
+}
+
+impl Parts {
+    pub const EMPTY: Parts = Parts {
+        identifier: Range::EMPTY,
+        parameters: Range::EMPTY,
+        value: Range::EMPTY,
+    };
+}
+
+impl SafeRow {
+    pub const EMPTY: SafeRow = SafeRow {
+        kind: SafeKind::None,
+        parts: Parts::EMPTY,
+    };
+}
+
+impl BagRow {
+    pub const EMPTY: BagRow = BagRow {
+        kind: BagKind::None,
+        safe: 0,
+        enclosing: Enclosing::None,
+        parts: Parts::EMPTY,
+        has_set: false,
+    };
+}
+
+impl AttributeRow {
+    pub const EMPTY: AttributeRow = AttributeRow {
+        bag: 0,
+        identifier: Range::EMPTY,
+        values: Range::EMPTY,
+    };
+}
+
+impl Mac {
+    pub const EMPTY: Mac = Mac {
+        parts: Parts::EMPTY,
+        salt: Range::EMPTY,
+        iterations: 0,
+    };
+}
+
 impl Table {
     // The table with no row.
     pub fn empty() -> Table
         ensures { λ r. ⌜ r ≡ emptyTable ⌝ }
     {
-        let none = Range { start: 0, end: 0 };
-        let parts = Parts {
-            identifier: none,
-            parameters: none,
-            value: none,
-        };
-        let safe = SafeRow {
-            kind: SafeKind::None,
-            parts: parts,
-        };
-        let bag = BagRow {
-            kind: BagKind::None,
-            safe: 0,
-            enclosing: Enclosing::None,
-            parts: parts,
-            has_set: false,
-        };
-        let attribute = AttributeRow {
-            bag: 0,
-            identifier: none,
-            values: none,
-        };
-        let mac = Mac {
-            parts: parts,
-            salt: none,
-            iterations: 0,
-        };
         Table {
-            safes: [safe; SAFE_ROWS],
+            safes: [SafeRow::EMPTY; SAFE_ROWS],
             safe_count: 0,
-            bags: [bag; BAG_ROWS],
+            bags: [BagRow::EMPTY; BAG_ROWS],
             bag_count: 0,
-            attributes: [attribute; ATTRIBUTE_ROWS],
+            attributes: [AttributeRow::EMPTY; ATTRIBUTE_ROWS],
             attribute_count: 0,
-            mac: mac,
-            mac_input: none,
+            mac: Mac::EMPTY,
+            mac_input: Range::EMPTY,
             elements: 0,
         }
     }
