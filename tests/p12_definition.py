@@ -3,9 +3,11 @@
 
     p12_definition.py [--damaged SEED COUNT] [--longest BYTES] [FILE ..]
 
-For each FILE, and for every file of p12_make.py, COUNT damaged and COUNT mended ones of at most BYTES bytes (3000 if not said), one theorem says that `readFile` of its bytes is the answer that p12_reader.py gives: the number and the place, or every field of the table. The theorems are
-proved by computing the definition. They are written to a crate of their own beside copies of der and pkcs12, in target/definition, and `rt check`
-proves them. The last line is 'N files, all as the reader says' or names the theorems that don't hold.
+For each FILE, and for every file of p12_make.py, COUNT damaged and COUNT mended ones of at most BYTES bytes (3000 if not said), one theorem
+says that `readFile` of its bytes is the answer that p12_reader.py gives: the number and the place, or every field of the table. The
+theorems are proved by computing the definition. They are written to a crate of their own beside copies of der and pkcs12, in
+target/definition, and `rt check` proves them. The last line is 'N files, all as the reader says', or names the theorems that aren't proved,
+with the first error before it.
 """
 import pathlib
 import re
@@ -75,6 +77,7 @@ def bench_header():
     own = "Rattle.pkcs12.specs."
     more = [
         "use mathlib.Core.Bool.{true, false}",
+        "use mathlib.Core.Path.{_≡_}",
         "use mathlib.Core.List.{[], _∷_}",
         "use Rattle.der.specs.Element.{fault}",
         "use %sTable.{range, noRange, noParts, safeRow, bagRow, attributeRow, macFields}" % own,
@@ -130,7 +133,9 @@ def main(arguments):
     if done.returncode == 0 and not wrong:
         print("%d files, all as the reader says" % len(cases))
         return 0
-    print("not as the reader says:", ", ".join("%s (%s)" % (w, cases[int(w[4:])][0]) for w in wrong) or output[-2000:])
+    first = re.search(r"^.*error.*$", output, re.M)
+    print(first.group(0)[:1000] if first else output[-1000:])
+    print("not proved:", ", ".join("%s (%s)" % (w, cases[int(w[4:])][0]) for w in wrong))
     return 1
 
 

@@ -2,6 +2,7 @@
 -- (Complete..), what is read was written (Sound..), one file for one reading, and the number of elements.
 pub mod Theorems
 pub mod Bench
+pub mod Stored
 pub mod SameBytes
 pub mod Named
 pub mod Rows
