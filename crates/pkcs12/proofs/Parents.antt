@@ -1,5 +1,5 @@
 -- Elements in the body of their parent: what is told of an element that was accepted, for the parts above it.
-use mathlib.Core.Path.{_≡_, refl, sym, _∙_}
+use mathlib.Core.Path.{_≡_, refl, sym, ap, _∙_}
 use mathlib.Core.List.{List, [], _∷_}
 use Prim.Native.Nat.{ℕ, _≤_}
 use native.Mathlib.Omega.{arith}
@@ -28,7 +28,7 @@ use Rattle.der.proofs.Grammar.{opaque-sound, elements-sound, elements-complete}
 use Rattle.pkcs12.specs.Elements.{opaqueCount}
 use Rattle.pkcs12.specs.Valid.{Opaque, AtMostOne}
 use Rattle.pkcs12.specs.Walk.{rangeOf}
-use Rattle.pkcs12.specs.Laid.{Child, Piece}
+use Rattle.pkcs12.specs.Laid.{ElementLaid, PieceLaid}
 use Rattle.pkcs12.specs.Table.{range}
 use Rattle.pkcs12.specs.declared.Range.{Range}
 use Rattle.pkcs12.specs.declared.Parts.{Parts}
@@ -92,7 +92,7 @@ in-next s par c n stop i h m = rw (m .next) record { after = omega (arith, i .af
 
 -- an element whose body holds x, in its parent's body; n is past it
 pub record Closed (s : List ℕ) (par : Range) (c : Cursor) (t : ℕ) (b n : Cursor) (x : List ℕ) : Type 0 where
-  pub child : Child s par t (rangeOf b) x
+  pub child : ElementLaid s (c .at) (n .at) t (rangeOf b) x
   pub whole : Span s (c .at) (n .at) (tlv t x)
   pub past : In par n
 
@@ -102,12 +102,18 @@ closed s par c t b n x i h p =
     let z : bytesOf s b ≡ x = slice-span s (b .at) (b .end) x p in
     let o = header-next s c t b n h in
     let w : Span s (c .at) (n .at) (tlv t x) = rw z at (o .0) in
-    let e : Span s (c .at) (b .end) (tlv t x) = rw z at (h .whole) in
     record {
-      child = record { from = c .at; after = i .after; element = e; body = p; before = omega (arith, h .moved .within, i .end) };
+      child = record { element = w; body = p; ends = ap (λ (d : Cursor). d .at) (sym (h .moved .next)) };
       whole = w;
       past = in-next s par c n (n .at) i (omega (arith, w .size)) (o .1);
     }
+
+-- the same between places that are written otherwise
+pub laid-at : {s : List ℕ} {from to t : ℕ} {r : Range} {x : List ℕ} (start end : ℕ) → from ≡ start → to ≡ end → ElementLaid s from to t r x → ElementLaid s start end t r x
+laid-at start end d e l = rw (d, e) at l
+
+pub laid-to : {s : List ℕ} {from to t : ℕ} {r : Range} {x : List ℕ} (end : ℕ) → to ≡ end → ElementLaid s from to t r x → ElementLaid s from end t r x
+laid-to end e l = rw e at l
 
 -- an element whose body isn't looked at
 pub closed-any : (s : List ℕ) (par : Range) (c : Cursor) (t : ℕ) (b n : Cursor) → In par c → HeaderIs s c t b n → Closed s par c t b n (bytesOf s b)
@@ -122,7 +128,7 @@ closed-identifier s par c t b n i d = closed-any s par c identifierTag b n i (rw
 pub record Settled (s : List ℕ) (par : Range) (c : Cursor) (m : ℕ) (n : Cursor) (x : List ℕ) : Type 0 where
   pub valid : Opaque x
   pub count : m ≡ opaqueCount x
-  pub piece : Piece s par (range (c .at) (n .at)) x
+  pub piece : PieceLaid s (c .at) (n .at) (range (c .at) (n .at)) x
   pub past : In par n
 
 -- the elements of trees, counted by their bytes
@@ -151,7 +157,7 @@ settled s par c m n i o =
     record {
       valid = record { as-tree = o .tree; formed = o .formed; depth = omega (arith, o .levels); whole = refl };
       count = rw (opaque-count (o .tree) (o .formed) (o .levels)) (o .count);
-      piece = record { after = i .after; bytes = o .whole; before = omega (arith, e .within, e .end) };
+      piece = record { starts = refl; ends = refl; bytes = o .whole };
       past = e;
     }
 
@@ -166,10 +172,10 @@ first-byte s c t b n e x h p l =
     ∙ tlv-first t (bytesOf s b)
 
 -- parts that were found: the value that they hold, by its rule, its elements, where it stands in the body `par`, and its bytes from c to n
-pub record Is (s : List ℕ) {A : Type 0} (Rule : A → Type 0) (count-of : A → ℕ) (Laid : Range → Parts → A → Type 0) (bytes-of : A → List ℕ) (par : Range) (c : Cursor) (p : Parts) (m : ℕ) (n : Cursor) : Type 0 where
+pub record Is (s : List ℕ) {A : Type 0} (Rule : A → Type 0) (count-of : A → ℕ) (Laid : ℕ → ℕ → Parts → A → Type 0) (bytes-of : A → List ℕ) (par : Range) (c : Cursor) (p : Parts) (m : ℕ) (n : Cursor) : Type 0 where
   pub value : A
   pub valid : Rule value
   pub count : m ≡ count-of value
-  pub laid : Laid par p value
+  pub laid : Laid (c .at) (n .at) p value
   pub whole : Span s (c .at) (n .at) (bytes-of value)
   pub past : In par n

@@ -11,7 +11,7 @@ use Rattle.pkcs12.specs.Valid.{bagsIn, attributesOf, attributesIn, bagsI
 use Rattle.pkcs12.specs.Values.{SafeValue, Content, leaf, BagValue, AttributeValue, bagValue, bagValues, ownValues, setValues, attributeValues, safeValues, bagsOfSafes, attributesOfSafes, rowsOf}
 use Rattle.pkcs12.specs.Table.{Rows, bytesIn, sealedIn, contentIn, safeShown, bagShown, attributeShown, shown}
 use Rattle.pkcs12.specs.Walk.{Place, place}
-use Rattle.pkcs12.specs.Laid.{Child, AlgorithmLaid, LeafLaid, AttributesLaid, no-attribute, one-attribute, SetLaid, no-set, one-set, BagLaid, BagsLaid, no-bag, one-bag, one-nest, SafesLaid, no-safe, one-plain, one-encrypted, PfxLaid}
+use Rattle.pkcs12.specs.Laid.{ElementLaid, PieceLaid, AlgorithmLaid, LeafLaid, AttributesLaid, no-attribute, one-attribute, SetLaid, no-set, one-set, BagLaid, BagsLaid, no-bag, one-bag, one-nest, SafesLaid, no-safe, one-plain, one-encrypted, PfxLaid}
 use Rattle.pkcs12.specs.Accepted.{Each}
 use Rattle.pkcs12.specs.Sound.{Lies, SealedLies, PartsLie, SafeLies, RangesLie}
 use Rattle.pkcs12.specs.declared.Range.{Range}
@@ -65,20 +65,24 @@ Held s r x = (bytesIn s r ≡ x) × Lies s r
 held : (s : List ℕ) (r : Range) (x : List ℕ) → Span s (r .start) (r .end) x → Held s r x
 held s r x p = (slice-span s (r .start) (r .end) x p, record { order = omega (arith, p .size); inside = p .inside })
 
--- an algorithm and its octets, whatever their tag
-sealed-held : (s : List ℕ) (c : Range) (t : ℕ) (p : Parts) (x : Sealed) → AlgorithmLaid s c p (x .algorithm) → Child s c t (p .value) (x .octets)
+-- the range of a piece
+piece-held : {s : List ℕ} {from to : ℕ} {r : Range} {x : List ℕ} → PieceLaid s from to r x → Held s r x
+piece-held {s = s} {r = r} {x = x} l = held s r x (rw (l .starts, l .ends) (l .bytes))
+
+-- an algorithm and its octets, wherever they stand and whatever their tag
+sealed-held : {s : List ℕ} {from to a b t : ℕ} (p : Parts) (x : Sealed) → AlgorithmLaid s from to p (x .algorithm) → ElementLaid s a b t (p .value) (x .octets)
     → (sealedIn s p ≡ x) × SealedLies s p
-sealed-held s c t p x a o =
+sealed-held {s = s} p x a o =
     let i = held s (p .identifier) (x .algorithm .identifier) (a .type .body) in
-    let q = held s (p .parameters) (x .algorithm .parameters) (a .parameters .bytes) in
+    let q = piece-held (a .parameters) in
     let v = held s (p .value) (x .octets) (o .body) in
     (rw (i .0, q .0, v .0) refl, (i .1, q .1, v .1))
 
 -- what a bag holds
-leaf-held : (s : List ℕ) (c : Range) (p : Parts) (x : Leaf) → LeafLaid s c p x → (contentIn s (kindOfLeaf x) p ≡ leaf x) × PartsLie s (kindOfLeaf x) p
-leaf-held s c p (key v) l = let h = held s (p .value) v (l .value .bytes) in (rw (h .0) refl, h .1)
-leaf-held s c p (shrouded x) l = let h = sealed-held s _ _ p x (l .algorithm) (l .octets) in (rw (h .0) refl, h .1)
-leaf-held s c p (typed k t v) l = go k (held s (p .identifier) t (l .type .body)) (held s (p .value) v (l .value .bytes))
+leaf-held : (s : List ℕ) (from to : ℕ) (p : Parts) (x : Leaf) → LeafLaid s from to p x → (contentIn s (kindOfLeaf x) p ≡ leaf x) × PartsLie s (kindOfLeaf x) p
+leaf-held s from to p (key v) l = let h = piece-held (l .value) in (rw (h .0) refl, h .1)
+leaf-held s from to p (shrouded x) l = let h = sealed-held p x (l .algorithm) (l .octets) in (rw (h .0) refl, h .1)
+leaf-held s from to p (typed k t v) l = go k (held s (p .identifier) t (l .type .body)) (piece-held (l .value))
   where
     go : (k : Typed) → Held s (p .identifier) t → Held s (p .value) v → (contentIn s (kindOfTyped k) p ≡ leaf (typed k t v)) × PartsLie s (kindOfTyped k) p
     go certificate i h = (rw (i .0, h .0) refl, (i .1, h .1))
@@ -96,46 +100,46 @@ abbrev AttributesShow : List ℕ → List AttributeRow → List AttributeValue �
 AttributesShow s = Shows (attributeShown s) (λ r. Lies s (r .identifier) × Lies s (r .values))
 
 -- the attributes of bag n
-attributes-show : (s : List ℕ) (c : Range) (n : ℕ) (xs : List Attribute) (own : List AttributeRow) → AttributesLaid s c n xs own
+attributes-show : (s : List ℕ) (from to n : ℕ) (xs : List Attribute) (own : List AttributeRow) → AttributesLaid s n from to xs own
     → AttributesShow s own (ownValues n xs) (length xs)
 unfolding ownValues
-attributes-show s c n [] own no-attribute = shows-none
-attributes-show s c n (a ∷ xs) own (one-attribute {r = r} l m) =
+attributes-show s from to n [] own no-attribute = shows-none
+attributes-show s from to n (a ∷ xs) own (one-attribute {r = r} l m) =
     let i = held s (r .identifier) (a .identifier) (l .type .body) in
     let v = held s (r .values) (a .values) (l .values .body) in
-    shows-more (rw (l .names, i .0, v .0) refl) (i .1, v .1) (attributes-show s c n xs _ m) (omega arith)
+    shows-more (rw (l .names, i .0, v .0) refl) (i .1, v .1) (attributes-show s _ _ n xs _ m) (omega arith)
 
 -- the set of bag n
-set-shows : (s : List ℕ) (c : Range) (n : ℕ) (set : Set) (own : List AttributeRow) → SetLaid s c n set own
+set-shows : (s : List ℕ) (from to n : ℕ) (set : Set) (own : List AttributeRow) → SetLaid s n from to set own
     → AttributesShow s own (setValues n set) (attributesOf set)
-set-shows s c n absent own no-set = shows-none
-set-shows s c n (present xs) own (one-set body e l) = attributes-show s body n xs own l
+set-shows s from to n absent own no-set = shows-none
+set-shows s from to n (present xs) own (one-set body e l) = attributes-show s _ _ n xs own l
 
 -- one bag more
-bag-shows : {s : List ℕ} {c : Range} {w : Place} {n : ℕ} {k : BagKind} {p : Parts} {value : Range} {x : List ℕ} {set : Set} {row : BagRow} {own : List AttributeRow} {v : Content} {rows : List BagRow} {vs : List BagValue} {m : ℕ}
-    → BagLaid s c w n k p value x set row own → (contentIn s k p ≡ v) × PartsLie s k p → BagsShow s rows vs m
+bag-shows : {s : List ℕ} {from to : ℕ} {w : Place} {n : ℕ} {k : BagKind} {p : Parts} {value : Range} {x : List ℕ} {set : Set} {row : BagRow} {own : List AttributeRow} {v : Content} {rows : List BagRow} {vs : List BagValue} {m : ℕ}
+    → BagLaid s from to w n k p value x set row own → (contentIn s k p ≡ v) × PartsLie s k p → BagsShow s rows vs m
     → BagsShow s (row ∷ rows) (bagValue (w .safe) (w .enclosing) v set ∷ vs) (1 + m)
 bag-shows b h r = rw (b .shows) (shows-more (rw (h .0) refl) (h .1) r refl)
 
 -- bags, at any level, and their attributes
-bags-show : (s : List ℕ) (c : Range) (w : Place) (n : ℕ) (x : Bags) (rows : List BagRow) (own : List AttributeRow) → BagsLaid s c w n x rows own
+bags-show : (s : List ℕ) (from to : ℕ) (w : Place) (n : ℕ) (x : Bags) (rows : List BagRow) (own : List AttributeRow) → BagsLaid s from to w n x rows own
     → BagsShow s rows (bagValues (w .safe) (w .enclosing) n x) (bagsIn x) × AttributesShow s own (attributeValues n x) (attributesIn x)
 unfolding bagValues attributeValues bagsIn attributesIn
-bags-show s c w n none rows own no-bag = (shows-none, shows-none)
-bags-show s c w n (bag x set xs) rows own (one-bag p value b l m) =
-    let q = bags-show s c w (n + 1) xs _ _ m in
-    (bag-shows b (leaf-held s value p x l) (q .0), shows-join (set-shows s _ n set _ (b .attributes)) (q .1))
-bags-show s c w n (nest inner set xs) rows own (one-nest value body b e l m) =
-    let d = bags-show s body (place (w .safe) (Bag n)) (n + 1) inner _ _ l in
-    let q = bags-show s c w (n + 1 + bagsIn inner) xs _ _ m in (
+bags-show s from to w n none rows own no-bag = (shows-none, shows-none)
+bags-show s from to w n (bag x set xs) rows own (one-bag p value b l m) =
+    let q = bags-show s _ _ w (n + 1) xs _ _ m in
+    (bag-shows b (leaf-held s _ _ p x l) (q .0), shows-join (set-shows s _ _ n set _ (b .attributes)) (q .1))
+bags-show s from to w n (nest inner set xs) rows own (one-nest value body b e l m) =
+    let d = bags-show s _ _ (place (w .safe) (Bag n)) (n + 1) inner _ _ l in
+    let q = bags-show s _ _ w (n + 1 + bagsIn inner) xs _ _ m in (
       bag-shows b (refl, tt) (shows-join (d .0) (q .0)),
-      shows-join (d .1) (shows-join (set-shows s _ n set _ (b .attributes)) (q .1)),
+      shows-join (d .1) (shows-join (set-shows s _ _ n set _ (b .attributes)) (q .1)),
     )
 
 -- as many rows as bags, and as many attribute rows as attributes
-pub laid-bags-long : (s : List ℕ) (c : Range) (w : Place) (n : ℕ) (x : Bags) (rows : List BagRow) (own : List AttributeRow) → BagsLaid s c w n x rows own
+pub laid-bags-long : (s : List ℕ) (from to : ℕ) (w : Place) (n : ℕ) (x : Bags) (rows : List BagRow) (own : List AttributeRow) → BagsLaid s from to w n x rows own
     → (length rows ≡ bagsIn x) × (length own ≡ attributesIn x)
-laid-bags-long s c w n x rows own l = let q = bags-show s c w n x rows own l in (q .0 .long, q .1 .long)
+laid-bags-long s from to w n x rows own l = let q = bags-show s from to w n x rows own l in (q .0 .long, q .1 .long)
 
 -- safes, from safe k and bag n on, their bags and attributes
 record SafesAre (s : List ℕ) (k n : ℕ) (xs : List Safe) (safes : List SafeRow) (rows : List BagRow) (own : List AttributeRow) : Type 0 where
@@ -144,22 +148,22 @@ record SafesAre (s : List ℕ) (k n : ℕ) (xs : List Safe) (safes : List SafeRo
   pub in-attributes : AttributesShow s own (attributesOfSafes n xs) (attributesInSafes xs)
 
 -- where the safes stand, their rows show them
-safes-show : (s : List ℕ) (c : Range) (k n : ℕ) (xs : List Safe) (safes : List SafeRow) (rows : List BagRow) (own : List AttributeRow)
-    → SafesLaid s c k n xs safes rows own → SafesAre s k n xs safes rows own
+safes-show : (s : List ℕ) (from to k n : ℕ) (xs : List Safe) (safes : List SafeRow) (rows : List BagRow) (own : List AttributeRow)
+    → SafesLaid s from to k n xs safes rows own → SafesAre s k n xs safes rows own
 unfolding safeValues bagsOfSafes attributesOfSafes bagsInSafes attributesInSafes
-safes-show s c k n [] safes rows own no-safe = record { in-safes = shows-none; in-bags = shows-none; in-attributes = shows-none }
-safes-show s c k n (plain x ∷ xs) safes rows own (one-plain octets inner d l m) =
-    let b = bags-show s inner (place k Enclosing.None) n x _ _ l in
-    let q = safes-show s c (k + 1) (n + bagsIn x) xs _ _ _ m in
+safes-show s from to k n [] safes rows own no-safe = record { in-safes = shows-none; in-bags = shows-none; in-attributes = shows-none }
+safes-show s from to k n (plain x ∷ xs) safes rows own (one-plain octets inner d l m) =
+    let b = bags-show s _ _ (place k Enclosing.None) n x _ _ l in
+    let q = safes-show s _ _ (k + 1) (n + bagsIn x) xs _ _ _ m in
     record {
       in-safes = shows-more refl tt (q .in-safes) (omega arith);
       in-bags = shows-join (b .0) (q .in-bags);
       in-attributes = shows-join (b .1) (q .in-attributes);
     }
-safes-show s c k n (encrypted x ∷ xs) safes rows own (one-encrypted {safes = others} p value d e m) =
-    let h = sealed-held s _ _ p x (e .algorithm) (e .octets) in
+safes-show s from to k n (encrypted x ∷ xs) safes rows own (one-encrypted {mid = mid} {safes = others} p value d e m) =
+    let h = sealed-held p x (e .algorithm) (e .octets) in
     let z : n + 0 ≡ n = omega arith in
-    let q = safes-show s c (k + 1) (n + 0) xs others rows own (rw z m) in
+    let q = safes-show s mid to (k + 1) (n + 0) xs others rows own (rw z m) in
     record {
       in-safes = shows-more (rw (h .0) refl) (h .1) (q .in-safes) (omega arith);
       in-bags = shows-join shows-none (q .in-bags);
@@ -169,11 +173,11 @@ safes-show s c k n (encrypted x ∷ xs) safes rows own (one-encrypted {safes = o
 module _ (s : List ℕ) (st : Rows) (m : Mac) (x : Pfx) (l : PfxLaid s st m x) where
   -- all safes of the file
   pfx-safes : SafesAre s 0 0 (x .safes) (st .safes) (st .bags) (st .attributes)
-  pfx-safes = safes-show s _ 0 0 (x .safes) (st .safes) (st .bags) (st .attributes) (l .safes)
+  pfx-safes = safes-show s _ _ 0 0 (x .safes) (st .safes) (st .bags) (st .attributes) (l .safes)
 
   -- the MAC's digest
   pfx-digest : (sealedIn s (m .parts) ≡ x .mac .digest) × SealedLies s (m .parts)
-  pfx-digest = sealed-held s _ _ (m .parts) (x .mac .digest) (l .mac .digest .algorithm) (l .mac .digest .octets)
+  pfx-digest = sealed-held (m .parts) (x .mac .digest) (l .mac .digest .algorithm) (l .mac .digest .octets)
 
   -- the MAC's salt
   pfx-salt : Held s (m .salt) (x .mac .salt)

@@ -30,7 +30,7 @@ use Rattle.pkcs12.specs.Walk.{rangeOf, Walked, Refused, Went, onWalked, 
 use Rattle.pkcs12.specs.Laid.{AttributeLaid, AttributesLaid, no-attribute, one-attribute, SetLaid, no-set, one-set}
 use Rattle.pkcs12.specs.declared.Range.{Range}
 use Rattle.pkcs12.specs.declared.AttributeRow.{AttributeRow}
-use Rattle.pkcs12.proofs.Parents.{by-expect, by-identifier, by-elements, by-finish, In, in-body, finished, closed, closed-identifier, opaques-count}
+use Rattle.pkcs12.proofs.Parents.{by-expect, by-identifier, by-elements, by-finish, In, in-body, finished, laid-to, closed, closed-identifier, opaques-count}
 use Rattle.pkcs12.proofs.Grown.{Grown, grown-counting, grown-none, grown-then, grown-as, grown-attribute}
 
 -- what holds of rows that a part gave; a refusal has nothing to hold
@@ -77,7 +77,7 @@ module _ (s : List ℕ) (bytes : Bytes s) where
     value : Attribute
     row : AttributeRow
     valid : ValidAttribute value
-    laid : AttributeLaid s par number value row
+    laid : AttributeLaid s (c .at) (n .at) number value row
     grown : Grown st st′ [] [] (row ∷ []) (opaqueCount (value .values) + 3)
     whole : Span s (c .at) (n .at) (attributeBytes value)
     past : In par n
@@ -98,7 +98,7 @@ module _ (s : List ℕ) (bytes : Bytes s) where
         value = record { identifier = bytesOf s i; values = x };
         row = attributeRow number (rangeOf i) (rangeOf v);
         valid = record { identifier = g .rule; values = record { as-trees = o .trees; formed = o .formed; depth = omega (arith, o .levels); whole = refl } };
-        laid = record { names = refl; body = rangeOf b; element = u .child; type = a .child; values = w .child };
+        laid = record { names = refl; body = rangeOf b; rest = m .at; element = u .child; type = a .child; values = laid-to (b .end) (finished (rangeOf b) e (w .past) z) (w .child) };
         grown = rw y (grown-attribute st (attributeRow number (rangeOf i) (rangeOf v)) (k + 3) room);
         whole = u .whole;
         past = u .past;
@@ -126,7 +126,7 @@ module _ (s : List ℕ) (bytes : Bytes s) where
     values : List Attribute
     rows : List AttributeRow
     valid : ValidAttributes values
-    laid : AttributesLaid s par number values rows
+    laid : AttributesLaid s number at (par .end) values rows
     grown : Grown st st′ [] [] rows (attributesCount values)
     whole : Span s at (par .end) (attributesBytes values)
 
@@ -153,7 +153,7 @@ module _ (s : List ℕ) (bytes : Bytes s) where
     pub value : Set
     pub rows : List AttributeRow
     pub valid : ValidSet value
-    pub laid : SetLaid s par number value rows
+    pub laid : SetLaid s number (c .at) (par .end) value rows
     pub grown : Grown st st′ [] [] rows (setCount value)
     pub whole : Span s (c .at) (par .end) (setBytes value)
     pub flag : ltb (c .at) (c .end) ≡ stands value
@@ -167,7 +167,7 @@ module _ (s : List ℕ) (bytes : Bytes s) where
         value = present (a .values);
         rows = a .rows;
         valid = a .valid;
-        laid = one-set (rangeOf b) (u .child) (a .laid);
+        laid = one-set (rangeOf b) (laid-to (par .end) (finished par n (u .past) z) (u .child)) (a .laid);
         grown = grown-as st st′ _ _ _ _ _ (omega arith) (grown-then st (counting st 1) st′ [] [] [] [] [] (a .rows) 1 _ (grown-counting st 1) (a .grown));
         whole = span-to s (c .at) (n .at) (par .end) _ (finished par n (u .past) z) (u .whole);
         flag = lt-ltb (c .at) (c .end) (omega (arith, u .whole .size, u .past .within, u .past .end, h .end, tlv-long setTag (attributesBytes (a .values))));
@@ -191,7 +191,7 @@ module _ (s : List ℕ) (bytes : Bytes s) where
         value = absent;
         rows = [];
         valid = tt;
-        laid = no-set;
+        laid = rw (finished par c h z) no-set;
         grown = grown-none st;
         whole = rw (finished par c h z) (span-empty s (par .end) l);
         flag = le-ltb (c .at) (c .end) z;

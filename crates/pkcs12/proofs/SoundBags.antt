@@ -23,7 +23,7 @@ use Rattle.pkcs12.specs.Valid.{ValidSet, ValidBags, ValidContents, bagsI
 use Rattle.pkcs12.specs.Elements.{leafCount, setCount, bagsCount}
 use Rattle.pkcs12.specs.Table.{noParts, bagRow, Rows}
 use Rattle.pkcs12.specs.Walk.{rangeOf, Walked, Refused, Went, run, counting, addBag, setAt, Place, place, leafAt, contentAt, bagAt, safeContentsAt, keyAt, sealedAt, typedAt}
-use Rattle.pkcs12.specs.Laid.{Child, BagLaid, BagsLaid, no-bag, one-bag, one-nest}
+use Rattle.pkcs12.specs.Laid.{ElementLaid, LeafLaid, BagLaid, BagsLaid, no-bag, one-bag, one-nest}
 use Rattle.pkcs12.specs.declared.Range.{Range}
 use Rattle.pkcs12.specs.declared.Parts.{Parts}
 use Rattle.pkcs12.specs.declared.PartsAt.{PartsAt}
@@ -33,7 +33,7 @@ use Rattle.pkcs12.specs.declared.Enclosing.the-variants.{Bag}
 use Rattle.pkcs12.specs.declared.BagRow.{BagRow}
 use Rattle.pkcs12.specs.declared.AttributeRow.{AttributeRow}
 use Rattle.pkcs12.proofs.Named.{by-kind}
-use Rattle.pkcs12.proofs.Parents.{by-expect, by-identifier, by-finish, In, in-body, finished, Closed, closed, closed-any, closed-identifier}
+use Rattle.pkcs12.proofs.Parents.{by-expect, by-identifier, by-finish, In, in-body, finished, laid-at, Closed, closed, closed-any, closed-identifier}
 use Rattle.pkcs12.proofs.Grown.{Grown, grown-counting, grown-none, grown-then, grown-as, grown-bag, grown-bags}
 use Rattle.pkcs12.proofs.Shown.{laid-bags-long}
 use Rattle.pkcs12.proofs.SoundParts.{OfParts, LeafIs, key-of, shrouded-of, typed-of}
@@ -54,9 +54,13 @@ module _ (s : List ℕ) (bytes : Bytes s) where
     valid : (set : Set) (xs : Bags) → ValidSet set → ValidBags l xs → ValidBags l (front set xs)
     spelled : (set : Set) (xs : Bags) → bagsBytes (front set xs) ≡ bagBytes k content set ++ bagsBytes xs
     counted : (set : Set) (xs : Bags) → bagsCount (front set xs) ≡ (count + setCount set) + bagsCount xs
-    laid : (par : Range) (set : Set) (xs : Bags) (row : BagRow) (rows : List BagRow) (own rest : List AttributeRow)
-        → BagLaid s par w (length (st .bags)) k p v content set row own → BagsLaid s par w (length (st .bags) + suc (length below)) xs rows rest
-        → BagsLaid s par w (length (st .bags)) (front set xs) (row ∷ (below ++ rows)) (deep ++ (own ++ rest))
+    laid : c .at ≡ v .start → f .at ≡ v .end → (from mid to : ℕ) (set : Set) (xs : Bags) (row : BagRow) (rows : List BagRow) (own rest : List AttributeRow)
+        → BagLaid s from mid w (length (st .bags)) k p v content set row own → BagsLaid s mid to w (length (st .bags) + suc (length below)) xs rows rest
+        → BagsLaid s from to w (length (st .bags)) (front set xs) (row ∷ (below ++ rows)) (deep ++ (own ++ rest))
+
+  -- a leaf between places that are written otherwise
+  leaf-at : (from to start end : ℕ) (p : Parts) (x : Leaf) → from ≡ start → to ≡ end → LeafLaid s from to p x → LeafLaid s start end p x
+  leaf-at from to start end p x d e l = rw (d, e) at l
 
   leaf-of : (l : ℕ) (w : Place) (k : BagKind) (h : Bool) (st : Rows) (v : Range) (c : Cursor) → length (st .bags) < bagRows → (x : PartsAt)
       → OfParts (LeafIs s bytes k v c) x → OfWalked (ContentIs l w k h st v c) (leafAt x k w h st)
@@ -82,7 +86,7 @@ module _ (s : List ℕ) (bytes : Bytes s) where
             valid = λ set xs a b. (q .valid .0, a, b);
             spelled = λ set xs. refl;
             counted = λ set xs. refl;
-            laid = λ par set xs row rows own rest b r. one-bag p v b (q .laid) r;
+            laid = λ y z from mid to set xs row rows own rest b r. one-bag p v b (leaf-at (c .at) (n .at) (v .start) (v .end) p x y z (q .laid)) r;
           }
 
   -- a SafeContents in the body `par`, with l levels left, from c to n
@@ -92,8 +96,8 @@ module _ (s : List ℕ) (bytes : Bytes s) where
     pub rows : List BagRow
     pub own : List AttributeRow
     pub valid : ValidContents l value
-    pub child : Child s par sequenceTag body (bagsBytes value)
-    pub laid : BagsLaid s body w (length (st .bags)) value rows own
+    pub child : ElementLaid s (c .at) (n .at) sequenceTag body (bagsBytes value)
+    pub laid : BagsLaid s (body .start) (body .end) w (length (st .bags)) value rows own
     pub grown : Grown st st′ [] rows own (bagsCount value + 1)
     pub whole : Span s (c .at) (n .at) (sequence (bagsBytes value))
     pub past : In par n
@@ -122,7 +126,7 @@ module _ (s : List ℕ) (bytes : Bytes s) where
         valid = λ set xs. valid-nest l (q .value) set xs (q .valid);
         spelled = λ set xs. refl;
         counted = λ set xs. omega arith;
-        laid = λ par set xs row′ rows own rest b r. one-nest v (q .body) b (q .child) (rw first at (q .laid)) (rw later at r);
+        laid = λ y z from mid to set xs row′ rows own rest b r. one-nest v (q .body) b (laid-at (v .start) (v .end) y z (q .child)) (rw first at (q .laid)) (rw later at r);
       }
     where
       row : BagRow
@@ -132,7 +136,7 @@ module _ (s : List ℕ) (bytes : Bytes s) where
       first = length-append (st .bags) (row ∷ [])
 
       later : length (st .bags) + suc (length (q .rows)) ≡ length (st .bags) + 1 + bagsIn (q .value)
-      later = omega (arith, laid-bags-long s (q .body) _ _ (q .value) (q .rows) (q .own) (q .laid) .0)
+      later = omega (arith, laid-bags-long s _ _ _ _ (q .value) (q .rows) (q .own) (q .laid) .0)
 
   -- what a bag's [0] holds, by the bag's kind, where the SafeContents of a nested bag are read soundly
   module _ (l : ℕ) (inner : Place → Rows → Cursor → Walked)
@@ -157,8 +161,8 @@ module _ (s : List ℕ) (bytes : Bytes s) where
       valid : (xs : Bags) → ValidBags l xs → ValidBags l (front xs)
       spelled : (xs : Bags) → bagsBytes (front xs) ≡ sequence spelling ++ bagsBytes xs
       counted : (xs : Bags) → bagsCount (front xs) ≡ count + bagsCount xs
-      laid : (xs : Bags) (more : List BagRow) (rest : List AttributeRow) → BagsLaid s par w (length (st .bags) + length rows) xs more rest
-          → BagsLaid s par w (length (st .bags)) (front xs) (rows ++ more) (own ++ rest)
+      laid : (to : ℕ) (xs : Bags) (more : List BagRow) (rest : List AttributeRow) → BagsLaid s (n .at) to w (length (st .bags) + length rows) xs more rest
+          → BagsLaid s (c .at) to w (length (st .bags)) (front xs) (rows ++ more) (own ++ rest)
       grown : Grown st st′ [] rows own count
       whole : Span s (c .at) (n .at) (sequence spelling)
       past : In par n
@@ -178,10 +182,10 @@ module _ (s : List ℕ) (bytes : Bytes s) where
           valid = λ xs. a .valid (o .value) xs (o .valid);
           spelled = λ xs. a .spelled (o .value) xs;
           counted = λ xs. a .counted (o .value) xs;
-          laid = λ xs more rest r.
+          laid = λ to xs more rest r.
               rw (append-assoc (a .deep) (o .rows) rest)
-              (a .laid par (o .value) xs row more (o .rows) rest
-              (record { shows = ap (λ u. bagRow k (w .safe) (w .enclosing) (a .p) u) (o .flag); body = rangeOf b; element = whole-of .child; context = context .child; attributes = o .laid })
+              (a .laid refl filled (c .at) (n .at) to (o .value) xs row more (o .rows) rest
+              (record { shows = ap (λ u. bagRow k (w .safe) (w .enclosing) (a .p) u) (o .flag); body = rangeOf b; name = rangeOf i; rest = m .at; after = e .at; element = whole-of .child; type = rw y at (type .child); context = context .child; attributes = o .laid })
               r);
           grown = rw (append-nil (row ∷ a .below)) at (grown-then st st′ st″ [] [] (row ∷ a .below) [] (a .deep) (o .rows) _ _ (a .grown) (o .grown));
           whole = whole-of .whole;
@@ -194,11 +198,14 @@ module _ (s : List ℕ) (bytes : Bytes s) where
         x : List ℕ
         x = identifier (identifierOf k) ++ (tlv contextTag (a .content) ++ setBytes (o .value))
 
+        filled : f .at ≡ v .end
+        filled = finished (rangeOf v) f (a .past) z
+
         type : Closed s (rangeOf b) b identifierTag i m (bytesOf s i)
         type = closed-identifier s (rangeOf b) b t i m (in-body s c sequenceTag b n d) j
 
         context : Closed s (rangeOf b) m contextTag v e (a .content)
-        context = closed s (rangeOf b) m contextTag v e (a .content) (type .past) q (span-to s (v .at) (f .at) (v .end) _ (finished (rangeOf v) f (a .past) z) (a .whole))
+        context = closed s (rangeOf b) m contextTag v e (a .content) (type .past) q (span-to s (v .at) (f .at) (v .end) _ filled (a .whole))
 
         first : Span s (b .at) (m .at) (identifier (identifierOf k))
         first = rw y at (type .whole)
@@ -241,7 +248,7 @@ module _ (s : List ℕ) (bytes : Bytes s) where
       pub rows : List BagRow
       pub own : List AttributeRow
       pub valid : ValidBags l value
-      pub laid : BagsLaid s par w (length (st .bags)) value rows own
+      pub laid : BagsLaid s at (par .end) w (length (st .bags)) value rows own
       pub grown : Grown st st′ [] rows own (bagsCount value)
       pub whole : Span s at (par .end) (bagsBytes value)
 
@@ -253,7 +260,7 @@ module _ (s : List ℕ) (bytes : Bytes s) where
           rows = a .rows ++ r .rows;
           own = a .own ++ r .own;
           valid = a .valid (r .value) (r .valid);
-          laid = a .laid (r .value) (r .rows) (r .own) (rw (grown-bags st st′ [] (a .rows) (a .own) _ (a .grown)) at (r .laid));
+          laid = a .laid (par .end) (r .value) (r .rows) (r .own) (rw (grown-bags st st′ [] (a .rows) (a .own) _ (a .grown)) at (r .laid));
           grown = rw (a .counted (r .value)) (grown-then st st′ st″ [] [] (a .rows) (r .rows) (a .own) (r .own) _ _ (a .grown) (r .grown));
           whole = rw (a .spelled (r .value)) (span-join s _ _ _ _ _ (a .whole) (r .whole));
         }

@@ -22,7 +22,7 @@ use Rattle.pkcs12.specs.Valid.{Valid, ValidSafes, ValidMac}
 use Rattle.pkcs12.specs.Elements.{safesCount, elements}
 use Rattle.pkcs12.specs.Table.{range, Rows, tableOf}
 use Rattle.pkcs12.specs.Walk.{rangeOf, Walked, Refused, Went, run, counting, dataAt, safeAt, safesAt, outerValueAt, outerAt, macAt, bodyAt, refused, onAnswer, alone, pfxAt, readFile}
-use Rattle.pkcs12.specs.Laid.{Child, DataLaid, SafesLaid, MacLaid, PfxLaid}
+use Rattle.pkcs12.specs.Laid.{ElementLaid, DataLaid, SafesLaid, MacLaid, PfxLaid}
 use Rattle.pkcs12.specs.Accepted.{IsAccepted}
 use Rattle.pkcs12.specs.declared.Range.{Range}
 use Rattle.pkcs12.specs.declared.Mac.{Mac}
@@ -31,7 +31,7 @@ use Rattle.pkcs12.specs.declared.Answer.{Answer}
 use Rattle.pkcs12.specs.declared.Answer.the-variants.{Accepted}
 use Rattle.pkcs12.specs.declared.Reading.{Reading}
 use Rattle.pkcs12.proofs.SameBytes.{same-is}
-use Rattle.pkcs12.proofs.Parents.{by-expect, by-identifier, by-integer, by-finish, In, in-body, in-next, finished, closed, closed-identifier}
+use Rattle.pkcs12.proofs.Parents.{by-expect, by-identifier, by-integer, by-finish, In, in-body, in-next, finished, laid-to, closed, closed-identifier}
 use Rattle.pkcs12.proofs.Grown.{Fits}
 use Rattle.pkcs12.proofs.Shown.{pfx-sizes}
 use Rattle.pkcs12.proofs.SoundOuter.{MacIs, mac-of, by-mac}
@@ -47,7 +47,7 @@ module _ (s : List ℕ) (bytes : Bytes s) where
   record SafesHeld (o : Cursor) (st : Rows) (g : Cursor) (x : List ℕ) : Type 0 where
     body : Range
     run : SafesRun s bytes body (start o) (body .start) st
-    child : Child s (rangeOf o) sequenceTag body (safesBytes (run .value))
+    child : ElementLaid s (o .at) (g .at) sequenceTag body (safesBytes (run .value))
     spelled : x ≡ sequence (safesBytes (run .value))
 
   safes-of : (o : Cursor) → In (rangeOf o) o → OfWalked (Spelt s bytes SafesHeld o) (safesAt s o)
@@ -74,8 +74,8 @@ module _ (s : List ℕ) (bytes : Bytes s) where
     value : List Safe
     inner : Range
     valid : ValidSafes value
-    data-laid : DataLaid s par (st .input) inner (safesBytes value)
-    laid : SafesLaid s inner 0 0 value (st .safes) (st .bags) (st .attributes)
+    data-laid : DataLaid s (c .at) (n .at) (st .input) inner (safesBytes value)
+    laid : SafesLaid s (inner .start) (inner .end) 0 0 value (st .safes) (st .bags) (st .attributes)
     fits : Fits st
     count : st .count ≡ 7 + safesCount value
     whole : Span s (c .at) (n .at) (dataBytes (safesBytes value))
@@ -99,9 +99,16 @@ module _ (s : List ℕ) (bytes : Bytes s) where
         valid = q .run .valid;
         data-laid = rw (g .input) record {
           value = a .value;
-          content = record { body = rangeOf b; element = u .child; context = rw (q .spelled) at (a .context) };
+          content = record {
+            body = rangeOf b;
+            name = rangeOf i;
+            rest = m .at;
+            element = u .child;
+            named = rw y at (w .child);
+            context = laid-to (b .end) (finished (rangeOf b) e (a .past) z) (rw (q .spelled) at (a .context));
+          };
           string = rw (q .spelled) at (a .string);
-          element = q .child;
+          element = laid-to (a .octets .end) (a .filled) (q .child);
         };
         laid = rw (g .safes, g .bags, g .attributes) (q .run .laid);
         fits = g .fits (record { safes = omega arith; bags = omega arith; attributes = omega arith });
@@ -158,9 +165,10 @@ module _ (s : List ℕ) (bytes : Bytes s) where
     valid-safes : ValidSafes (value .safes)
     valid-mac : ValidMac (value .mac)
     fits : Fits rows
-    data-laid : DataLaid s par (rows .input) inner (safesBytes (value .safes))
-    safes-laid : SafesLaid s inner 0 0 (value .safes) (rows .safes) (rows .bags) (rows .attributes)
-    mac-laid : MacLaid s par mac (value .mac)
+    after : ℕ
+    data-laid : DataLaid s (c .at) after (rows .input) inner (safesBytes (value .safes))
+    safes-laid : SafesLaid s (inner .start) (inner .end) 0 0 (value .safes) (rows .safes) (rows .bags) (rows .attributes)
+    mac-laid : MacLaid s after (par .end) mac (value .mac)
     count : rows .count ≡ elements value
     whole : Span s (c .at) (par .end) (dataBytes (safesBytes (value .safes)) ++ macBytes (value .mac))
 
@@ -177,9 +185,10 @@ module _ (s : List ℕ) (bytes : Bytes s) where
         valid-safes = a .valid;
         valid-mac = m .valid;
         fits = record { safes = a .fits .safes; bags = a .fits .bags; attributes = a .fits .attributes };
+        after = e .at;
         data-laid = a .data-laid;
         safes-laid = a .laid;
-        mac-laid = m .laid;
+        mac-laid = rw (finished par f (m .past) z) at (m .laid);
         count = omega (arith, a .count, m .count);
         whole = span-join s _ _ _ _ _ (a .whole) (span-to s (e .at) (f .at) (par .end) _ (finished par f (m .past) z) (m .whole));
       }
@@ -220,7 +229,17 @@ module _ (s : List ℕ) (bytes : Bytes s) where
       let here : In (range 0 (length s)) (wholeOf s) = record { after = omega arith; within = omega arith; end = refl } in
       let u = closed s (range 0 (length s)) (wholeOf s) sequenceTag b n x here d (span-join s _ _ _ _ _ first (a .whole)) in
       let l : PfxLaid s (a .rows) (a .mac) (a .value) =
-      record { body = rangeOf b; inner = a .inner; element = u .child; content = a .data-laid; safes = a .safes-laid; mac = a .mac-laid } in
+      record {
+        body = rangeOf b;
+        inner = a .inner;
+        rest = m .at;
+        after = a .after;
+        element = laid-to (length s) (finished (range 0 (length s)) n (u .past) z) (u .child);
+        version = first;
+        content = a .data-laid;
+        safes = a .safes-laid;
+        mac = a .mac-laid;
+      } in
       let sizes = pfx-sizes s (a .rows) (a .mac) (a .value) l in
       record {
         rows = a .rows;

@@ -7,7 +7,7 @@ use lib.Dec.{eqb}
 use borrow.Author.Tests.{ne-eqb}
 use lib.ListN.{length}
 use Rattle.der.specs.Choice.{if_then_else_}
-use Rattle.der.specs.Numbers.{octetStringTag, integerTag, integerBound}
+use Rattle.der.specs.Numbers.{octetStringTag, identifierTag, integerTag, integerBound}
 use Rattle.der.specs.Element.{tagAt}
 use Rattle.der.specs.Content.{bytesOf}
 use Rattle.der.specs.Octets.{tlv}
@@ -25,13 +25,13 @@ use Rattle.pkcs12.specs.Valid.{ValidSealed, ValidMac}
 use Rattle.pkcs12.specs.Elements.{algorithmCount, macCount}
 use Rattle.pkcs12.specs.Table.{macFields}
 use Rattle.pkcs12.specs.Walk.{rangeOf, algorithmAt, withValue, sealedAt, encryptedInfoAt, encryptedAt, onMac, iterationsAt, macAt}
-use Rattle.pkcs12.specs.Laid.{Child, AlgorithmLaid, EncryptedLaid, MacLaid}
+use Rattle.pkcs12.specs.Laid.{ElementLaid, AlgorithmLaid, EncryptedLaid, MacLaid}
 use Rattle.pkcs12.specs.declared.Range.{Range}
 use Rattle.pkcs12.specs.declared.Parts.{Parts}
 use Rattle.pkcs12.specs.declared.PartsAt.{PartsAt}
 use Rattle.pkcs12.proofs.SameBytes.{same-is}
 use Rattle.pkcs12.proofs.SoundParts.{OfParts, by-parts, AlgorithmIs, algorithm-of, again, SealedIs, sealed-of}
-use Rattle.pkcs12.proofs.Parents.{by-expect, by-identifier, by-integer, by-finish, In, in-body, in-next, finished, closed, closed-any, closed-identifier, Is}
+use Rattle.pkcs12.proofs.Parents.{by-expect, by-identifier, by-integer, by-finish, In, in-body, in-next, finished, laid-to, closed, closed-any, closed-identifier, Is}
 use Rattle.pkcs12.specs.declared.Mac.{Mac}
 use Rattle.pkcs12.specs.declared.MacAt.{MacAt}
 
@@ -47,11 +47,15 @@ by-mac P bad r Q good g (MacAt.Found x m n) q = g x m n q
 
 module _ (s : List ℕ) (bytes : Bytes s) where
   -- an EncryptedContentInfo in the body `par`
-  record InfoLaid (c : Range) (p : Parts) (x : Sealed) : Type 0 where
+  record InfoLaid (from to : ℕ) (p : Parts) (x : Sealed) : Type 0 where
     info : Range
-    content : Child s c sequenceTag info (identifier dataType ++ (algorithmBytes (x .algorithm) ++ tlv ciphertextTag (x .octets)))
-    algorithm : AlgorithmLaid s info p (x .algorithm)
-    octets : Child s info ciphertextTag (p .value) (x .octets)
+    name : Range
+    second : ℕ
+    third : ℕ
+    content : ElementLaid s from to sequenceTag info (identifier dataType ++ (algorithmBytes (x .algorithm) ++ tlv ciphertextTag (x .octets)))
+    type : ElementLaid s (info .start) second identifierTag name dataType
+    algorithm : AlgorithmLaid s second third p (x .algorithm)
+    octets : ElementLaid s third (info .end) ciphertextTag (p .value) (x .octets)
 
   abbrev InfoIs : Range → Cursor → Parts → ℕ → Cursor → Type 0
   InfoIs = Is s ValidSealed (λ x. algorithmCount (x .algorithm) + 3) InfoLaid encryptedInfo
@@ -70,7 +74,16 @@ module _ (s : List ℕ) (bytes : Bytes s) where
         value = record { algorithm = a .value; octets = bytesOf s o };
         valid = a .valid;
         count = rw (a .count);
-        laid = record { info = rangeOf b; content = l .child; algorithm = again s bytes p (rangeOf o) (a .laid); octets = v .child };
+        laid = record {
+          info = rangeOf b;
+          name = rangeOf i;
+          second = m .at;
+          third = e .at;
+          content = l .child;
+          type = rw y at (u .child);
+          algorithm = again s bytes p (rangeOf o) (a .laid);
+          octets = laid-to (b .end) (finished (rangeOf b) f (v .past) z) (v .child);
+        };
         whole = l .whole;
         past = l .past;
       }
@@ -114,7 +127,20 @@ module _ (s : List ℕ) (bytes : Bytes s) where
         value = a .value;
         valid = a .valid;
         count = rw (a .count) (omega arith);
-        laid = record { body = rangeOf b; info = a .laid .info; element = l .child; content = a .laid .content; algorithm = a .laid .algorithm; octets = a .laid .octets };
+        laid = record {
+          body = rangeOf b;
+          info = a .laid .info;
+          name = a .laid .name;
+          rest = m .at;
+          second = a .laid .second;
+          third = a .laid .third;
+          element = l .child;
+          version = first;
+          content = laid-to (b .end) (finished (rangeOf b) e (a .past) z) (a .laid .content);
+          type = a .laid .type;
+          algorithm = a .laid .algorithm;
+          octets = a .laid .octets;
+        };
         whole = l .whole;
         past = l .past;
       }
@@ -186,7 +212,7 @@ module _ (s : List ℕ) (bytes : Bytes s) where
     pub value : MacData
     pub valid : ValidMac value
     pub count : k ≡ macCount value
-    pub laid : MacLaid s par m value
+    pub laid : MacLaid s (c .at) (n .at) m value
     pub whole : Span s (c .at) (n .at) (macBytes value)
     pub past : In par n
 
@@ -201,7 +227,7 @@ module _ (s : List ℕ) (bytes : Bytes s) where
         value = record { digest = a .value; salt = bytesOf s o; iterations = i .number };
         valid = record { digest = a .valid; some = omega (arith, i .some); bound = omega (arith, i .bound) };
         count = i .count ∙ rw (a .count);
-        laid = record { body = rangeOf b; element = l .child; digest = a .laid; salt = v .child; iterations = refl };
+        laid = record { body = rangeOf b; rest = m .at; after = e .at; element = l .child; digest = a .laid; salt = v .child; last = i .whole; iterations = refl };
         whole = l .whole;
         past = l .past;
       }

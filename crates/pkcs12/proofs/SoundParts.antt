@@ -1,9 +1,8 @@
 -- Parts that were accepted, in a list of bytes: the value that they hold, by the rules, where it stands, and its elements.
 use mathlib.Core.Bool.{Bool, true, false}
-use mathlib.Core.Path.{_≡_, refl}
+use mathlib.Core.Path.{_≡_, refl, sym}
 use mathlib.Core.List.{List, [], _++_}
 use Prim.Native.Nat.{ℕ, _+_, _≤_}
-use native.Mathlib.Omega.{arith}
 use lib.ListN.{getD}
 use Rattle.der.specs.Choice.{if_then_else_}
 use Rattle.der.specs.Numbers.{octetStringTag, opaqueLevels}
@@ -36,7 +35,7 @@ use Rattle.pkcs12.specs.declared.PartsAt.{PartsAt}
 use Rattle.pkcs12.specs.declared.BagKind.{BagKind}
 use Rattle.pkcs12.specs.declared.BagKind.the-variants.{Key, ShroudedKey}
 use Rattle.pkcs12.proofs.SameBytes.{same-self, never}
-use Rattle.pkcs12.proofs.Parents.{by-expect, by-identifier, by-opaque, by-finish, In, in-body, finished, closed, closed-any, closed-identifier, settled, first-byte, some-byte, nothing-count, at-most-one, Is}
+use Rattle.pkcs12.proofs.Parents.{by-expect, by-identifier, by-opaque, by-finish, In, in-body, finished, laid-to, closed, closed-any, closed-identifier, settled, first-byte, some-byte, nothing-count, at-most-one, Is}
 
 -- what holds of parts that were found; a refusal has nothing to hold
 abbrev pub OfParts : (Parts → ℕ → Cursor → Type 0) → PartsAt → Type 0
@@ -66,9 +65,10 @@ module _ (s : List ℕ) (bytes : Bytes s) where
         count = q;
         laid = record {
           body = rangeOf b;
+          rest = m .at;
           element = g .child;
           type = f .child;
-          parameters = record { after = omega (arith, f .whole .size, y); bytes = p; before = omega arith };
+          parameters = record { starts = sym y; ends = z; bytes = rw (sym y, z) at p };
         };
         whole = g .whole;
         past = g .past;
@@ -99,8 +99,8 @@ module _ (s : List ℕ) (bytes : Bytes s) where
       Good = OfParts (AlgorithmIs par c)
 
   -- where an algorithm stands, whatever the value beside it
-  pub again : {c : Range} {a : Algorithm} (p : Parts) (v : Range) → AlgorithmLaid s c p a → AlgorithmLaid s c (withValue p v) a
-  again p v l = record { body = l .body; element = l .element; type = l .type; parameters = l .parameters }
+  pub again : {from to : ℕ} {a : Algorithm} (p : Parts) (v : Range) → AlgorithmLaid s from to p a → AlgorithmLaid s from to (withValue p v) a
+  again p v l = record { body = l .body; rest = l .rest; element = l .element; type = l .type; parameters = l .parameters }
 
   -- "SEQUENCE of AlgorithmIdentifier and OCTET STRING"
   abbrev pub SealedIs : Range → Cursor → Parts → ℕ → Cursor → Type 0
@@ -117,7 +117,7 @@ module _ (s : List ℕ) (bytes : Bytes s) where
         value = record { algorithm = a .value; octets = bytesOf s o };
         valid = a .valid;
         count = rw (a .count);
-        laid = record { body = rangeOf b; element = g .child; algorithm = again p (rangeOf o) (a .laid); octets = f .child };
+        laid = record { body = rangeOf b; rest = m .at; element = g .child; algorithm = again p (rangeOf o) (a .laid); octets = laid-to (b .end) (finished (rangeOf b) e (f .past) z) (f .child) };
         whole = g .whole;
         past = g .past;
       }
@@ -217,14 +217,24 @@ module _ (s : List ℕ) (bytes : Bytes s) where
       let a = closed-identifier s (rangeOf b) b t i m (in-body s c sequenceTag b n d) g in
       let u = settled s (rangeOf v) v j f (in-body s m contextTag v e q) o in
       let x : List ℕ = encode (o .tree) in
-      let w = closed s (rangeOf b) m contextTag v e x (a .past) q (span-to s (v .at) (f .at) (v .end) x (finished (rangeOf v) f (u .past) y) (o .whole)) in
+      let filled : f .at ≡ v .end = finished (rangeOf v) f (u .past) y in
+      let w = closed s (rangeOf b) m contextTag v e x (a .past) q (span-to s (v .at) (f .at) (v .end) x filled (o .whole)) in
       let l : List ℕ = identifier (bytesOf s i) ++ tlv contextTag x in
       let whole-of = closed s par c sequenceTag b n l h d (span-to s (b .at) (e .at) (b .end) l (finished (rangeOf b) e (w .past) z) (span-join s (b .at) (m .at) (e .at) _ _ (a .whole) (w .whole))) in
       record {
         value = typed k (bytesOf s i) x;
         valid = ((g .rule, u .valid, value-rule k (bytesOf s i) x r), refl);
         count = rw (u .count);
-        laid = record { body = rangeOf b; explicit = rangeOf v; element = whole-of .child; type = a .child; context = w .child; value = u .piece; unused = refl };
+        laid = record {
+          body = rangeOf b;
+          rest = m .at;
+          explicit = rangeOf v;
+          element = whole-of .child;
+          type = a .child;
+          context = laid-to (b .end) (finished (rangeOf b) e (w .past) z) (w .child);
+          value = record { starts = refl; ends = filled; bytes = span-to s (v .at) (f .at) (v .end) x filled (o .whole) };
+          unused = refl;
+        };
         whole = whole-of .whole;
         past = whole-of .past;
       }

@@ -22,7 +22,7 @@ use Rattle.pkcs12.specs.Valid.{ValidSafes}
 use Rattle.pkcs12.specs.Elements.{algorithmCount, bagsCount, safesCount}
 use Rattle.pkcs12.specs.Table.{noParts, safeRow, Rows}
 use Rattle.pkcs12.specs.Walk.{rangeOf, Walked, Refused, Went, run, addSafe, place, safeContentsAt, dataAt, plainAt, sealedSafeAt, encryptedAt, safeValueAt, safeAt}
-use Rattle.pkcs12.specs.Laid.{Child, ContentLaid, SafesLaid, no-safe, one-plain, one-encrypted}
+use Rattle.pkcs12.specs.Laid.{ElementLaid, ContentLaid, SafesLaid, no-safe, one-plain, one-encrypted}
 use Rattle.pkcs12.specs.declared.Range.{Range}
 use Rattle.pkcs12.specs.declared.Parts.{Parts}
 use Rattle.pkcs12.specs.declared.SafeKind.the-variants.{Plain, Encrypted}
@@ -31,7 +31,7 @@ use Rattle.pkcs12.specs.declared.SafeRow.{SafeRow}
 use Rattle.pkcs12.specs.declared.BagRow.{BagRow}
 use Rattle.pkcs12.specs.declared.AttributeRow.{AttributeRow}
 use Rattle.pkcs12.proofs.SameBytes.{same-is}
-use Rattle.pkcs12.proofs.Parents.{by-expect, by-identifier, by-finish, In, in-body, finished, closed, closed-identifier}
+use Rattle.pkcs12.proofs.Parents.{by-expect, by-identifier, by-finish, In, in-body, finished, laid-to, closed, closed-identifier}
 use Rattle.pkcs12.proofs.Grown.{Grown, grown-none, grown-then, grown-safe, grown-bags, grown-safes}
 use Rattle.pkcs12.proofs.Shown.{laid-bags-long}
 use Rattle.pkcs12.proofs.SoundParts.{by-parts}
@@ -54,8 +54,9 @@ module _ (s : List ℕ) (bytes : Bytes s) where
     pub rest : Cursor
     pub x : List ℕ
     pub held : J octets st rest x
-    pub context : Child s par contextTag value (octetString x)
-    pub string : Child s value octetStringTag (rangeOf octets) x
+    pub context : ElementLaid s (c .at) (e .at) contextTag value (octetString x)
+    pub string : ElementLaid s (value .start) (value .end) octetStringTag (rangeOf octets) x
+    pub filled : rest .at ≡ octets .end
     pub whole : Span s (c .at) (e .at) (tlv contextTag (octetString x))
     pub past : In par e
 
@@ -64,7 +65,18 @@ module _ (s : List ℕ) (bytes : Bytes s) where
   data-is J par c v e o f st g h d q a y z =
       let u = closed s (rangeOf v) v octetStringTag o f (a .x) (in-body s c contextTag v e d) q (span-to s (o .at) (g .at) (o .end) _ (finished (rangeOf o) g (a .past) y) (a .whole)) in
       let w = closed s par c contextTag v e (octetString (a .x)) h d (span-to s (v .at) (f .at) (v .end) _ (finished (rangeOf v) f (u .past) z) (u .whole)) in
-      record { value = rangeOf v; octets = o; rest = g; x = a .x; held = a .held; context = w .child; string = u .child; whole = w .whole; past = w .past }
+      record {
+        value = rangeOf v;
+        octets = o;
+        rest = g;
+        x = a .x;
+        held = a .held;
+        context = w .child;
+        string = laid-to (v .end) (finished (rangeOf v) f (u .past) z) (u .child);
+        filled = finished (rangeOf o) g (a .past) y;
+        whole = w .whole;
+        past = w .past;
+      }
 
   pub data-of : (J : Cursor → Rows → Cursor → List ℕ → Type 0) (inner : Cursor → Walked) → ((o : Cursor) → In (rangeOf o) o → OfWalked (Spelt J o) (inner o))
       → (par : Range) (c : Cursor) → In par c → OfWalked (DataIs J par c) (dataAt inner s c)
@@ -86,7 +98,7 @@ module _ (s : List ℕ) (bytes : Bytes s) where
   record RestIs (body : Range) (type : List ℕ) (st : Rows) (m : Cursor) (st′ : Rows) (e : Cursor) : Type 0 where
     content : List ℕ
     value : Range
-    context : Child s body contextTag value content
+    context : ElementLaid s (m .at) (e .at) contextTag value content
     whole : Span s (m .at) (e .at) (tlv contextTag content)
     past : In body e
     safe : Safe
@@ -98,9 +110,9 @@ module _ (s : List ℕ) (bytes : Bytes s) where
     spelled : (xs : List Safe) → safesBytes (safe ∷ xs) ≡ contentInfo type content ++ safesBytes xs
     counted : (xs : List Safe) → safesCount (safe ∷ xs) ≡ count + safesCount xs
     grown : Grown st st′ (row ∷ []) rows own count
-    laid : (par : Range) → ContentLaid s par type value content → (xs : List Safe) (safes : List SafeRow) (more : List BagRow) (rest : List AttributeRow)
-        → SafesLaid s par (length (st .safes) + 1) (length (st .bags) + length rows) xs safes more rest
-        → SafesLaid s par (length (st .safes)) (length (st .bags)) (safe ∷ xs) (row ∷ safes) (rows ++ more) (own ++ rest)
+    laid : (from mid to : ℕ) → ContentLaid s from mid type value content → (xs : List Safe) (safes : List SafeRow) (more : List BagRow) (rest : List AttributeRow)
+        → SafesLaid s mid to (length (st .safes) + 1) (length (st .bags) + length rows) xs safes more rest
+        → SafesLaid s from to (length (st .safes)) (length (st .bags)) (safe ∷ xs) (row ∷ safes) (rows ++ more) (own ++ rest)
 
   -- a plain safe
   abbrev PlainHeld : Rows → Cursor → Rows → Cursor → List ℕ → Type 0
@@ -125,9 +137,9 @@ module _ (s : List ℕ) (bytes : Bytes s) where
         spelled = λ xs. refl;
         counted = λ xs. omega arith;
         grown = grown-then st (addSafe st (safeRow Plain noParts) 4) st′ (safeRow Plain noParts ∷ []) [] [] (q .rows) [] (q .own) 4 _ (grown-safe st (safeRow Plain noParts) 4 room) (q .grown);
-        laid = λ par l xs safes more rest r.
-            one-plain (rangeOf (a .octets)) (q .body) (record { value = a .value; content = l; string = rw y at (a .string); element = q .child }) (q .laid)
-            (rw (laid-bags-long s (q .body) _ _ v (q .rows) (q .own) (q .laid) .0) at r);
+        laid = λ from mid to l xs safes more rest r.
+            one-plain (rangeOf (a .octets)) (q .body) (record { value = a .value; content = l; string = rw y at (a .string); element = laid-to (a .octets .end) (a .filled) (q .child) }) (q .laid)
+            (rw (laid-bags-long s _ _ _ _ v (q .rows) (q .own) (q .laid) .0) at r);
       }
     where
       q : ContentsIs s bytes levels (place (length (st .safes)) Enclosing.None) (addSafe st (safeRow Plain noParts) 4) (rangeOf (a .octets)) (a .octets) st′ (a .rest)
@@ -164,7 +176,8 @@ module _ (s : List ℕ) (bytes : Bytes s) where
   unfolding safesBytes safeBytes ValidSafes safesCount
   sealed-is body st m v e p k f room h d a z =
       let x : List ℕ = encryptedBytes s bytes (a .value) in
-      let u = closed s body m contextTag v e x h d (span-to s (v .at) (f .at) (v .end) x (finished (rangeOf v) f (a .past) z) (a .whole)) in
+      let filled : f .at ≡ v .end = finished (rangeOf v) f (a .past) z in
+      let u = closed s body m contextTag v e x h d (span-to s (v .at) (f .at) (v .end) x filled (a .whole)) in
       let y : k + 3 ≡ algorithmCount (a .value .algorithm) + 8 = omega (arith, a .count) in
       record {
         content = x;
@@ -181,7 +194,7 @@ module _ (s : List ℕ) (bytes : Bytes s) where
         spelled = λ xs. refl;
         counted = λ xs. refl;
         grown = rw y (grown-safe st (safeRow Encrypted p) _ room);
-        laid = λ par l xs safes more rest r. one-encrypted p (rangeOf v) l (a .laid) (rw (add-zero (length (st .bags))) at r);
+        laid = λ from mid to l xs safes more rest r. one-encrypted p (rangeOf v) l (rw filled at (a .laid)) (rw (add-zero (length (st .bags))) at r);
       }
 
   sealed-of : (body : Range) (st : Rows) (m : Cursor) → length (st .safes) < safeRows → In body m → OfWalked (RestIs body encryptedType st m) (sealedSafeAt s st m)
@@ -204,7 +217,7 @@ module _ (s : List ℕ) (bytes : Bytes s) where
     end : Cursor
     rest : RestIs body type st from st′ end
     whole : Span s (c .at) (n .at) (contentInfo type (rest .content))
-    laid : ContentLaid s par type (rest .value) (rest .content)
+    laid : ContentLaid s (c .at) (n .at) type (rest .value) (rest .content)
     past : In par n
 
   safe-is : (par : Range) (st : Rows) (c b n : Cursor) (t : ℕ) (i m : Cursor) (type : List ℕ) (st′ : Rows) (e : Cursor) → In par c
@@ -223,7 +236,7 @@ module _ (s : List ℕ) (bytes : Bytes s) where
         end = e;
         rest = a;
         whole = u .whole;
-        laid = record { body = rangeOf b; element = u .child; context = a .context };
+        laid = record { body = rangeOf b; name = rangeOf i; rest = m .at; element = u .child; named = rw y at (w .child); context = laid-to (b .end) (finished (rangeOf b) e (a .past) z) (a .context) };
         past = u .past;
       }
 
@@ -274,7 +287,7 @@ module _ (s : List ℕ) (bytes : Bytes s) where
     pub rows : List BagRow
     pub own : List AttributeRow
     pub valid : ValidSafes value
-    pub laid : SafesLaid s par (length (st .safes)) (length (st .bags)) value safes rows own
+    pub laid : SafesLaid s at (par .end) (length (st .safes)) (length (st .bags)) value safes rows own
     pub grown : Grown st st′ safes rows own (safesCount value)
     pub whole : Span s at (par .end) (safesBytes value)
 
@@ -287,7 +300,7 @@ module _ (s : List ℕ) (bytes : Bytes s) where
         rows = o .rows ++ r .rows;
         own = o .own ++ r .own;
         valid = o .valid (r .value) (r .valid);
-        laid = o .laid par (a .laid) (r .value) (r .safes) (r .rows) (r .own)
+        laid = o .laid (c .at) (n .at) (par .end) (a .laid) (r .value) (r .safes) (r .rows) (r .own)
             (rw (grown-bags st st′ _ (o .rows) (o .own) _ (o .grown), grown-safes st st′ (o .row ∷ []) (o .rows) (o .own) _ (o .grown)) at (r .laid));
         grown = rw (o .counted (r .value)) (grown-then st st′ st″ (o .row ∷ []) (r .safes) (o .rows) (r .rows) (o .own) (r .own) _ _ (o .grown) (r .grown));
         whole = rw (o .spelled (r .value)) (span-join s _ _ _ _ _ (a .whole) (r .whole));
