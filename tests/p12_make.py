@@ -1,5 +1,5 @@
 #!/usr/bin/env python3
-"""Makes test files for PKCS #12 readers, from 01-scope.md and RFC 7292.
+"""Makes test files for PKCS #12 readers, from the scope (document 01) and RFC 7292.
 
     p12_make.py FOLDER [SEED COUNT]    writes NAME.p12 for every file, and with
                                        SEED COUNT the damaged ones too
@@ -8,7 +8,7 @@ cases()               a list of Case: name, file, and the answer that 01 asks
                       for (None: accepted; otherwise number and place), worked
                       out from the tree and not by any reader
 files()               a list of (name, bytes)
-damaged(seed, count)  accepted files with one byte changed, cut off or put in
+damaged(seed, count)  accepted files with one byte changed or put in, or cut short
 mended(seed, count)   one node of an accepted tree changed, and the lengths of
                       all that enclose it made to fit again
 The same call always gives the same bytes.

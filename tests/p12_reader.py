@@ -1,8 +1,9 @@
 #!/usr/bin/env python3
 """An independent reader for PKCS #12 files (password integrity mode, DER).
 
-Written from two documents alone: 01-scope.md (the exact rules) and source 003
-(RFC 7292).  The functions stand in the order of 01; the comments quote it.
+Written from two documents alone, the scope (document 01, the exact rules) and
+RFC 7292, with the choices that docs/DECISIONS.md lists where 01 is open.  The
+functions stand in the order of 01; the comments quote it.
 
     p12_reader.py FILE ..      the listing of each file
     p12_reader.py --hex HEX    the listing of the bytes that HEX spells

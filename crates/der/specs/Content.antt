@@ -33,7 +33,7 @@ identifierBody (b ∷ bs) = parts true (b ∷ bs)
 abbrev pub bytesOf : List ℕ → Cursor → List ℕ
 bytesOf s b = slice (b .at) (b .end) s
 
--- an OBJECT IDENTIFIER; "another breach is refused (5)", at its tag
+-- an OBJECT IDENTIFIER; "Another breach is refused (5)", at its tag
 unfoldable pub identifierAt : List ℕ → Cursor → Element
 identifierAt s c =
     onElement (expectAt identifierTag s c)

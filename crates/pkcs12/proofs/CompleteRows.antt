@@ -27,7 +27,7 @@ use Rattle.pkcs12.specs.Syntax.{Leaf, key, shrouded, typed, certificate,
 use Rattle.pkcs12.specs.Encode.{integer, sequence, octetString, contentInfo, dataBytes, attributeBytes, attributesBytes, setBytes, leafBytes, bagBytes, bagsBytes, encryptedInfo, safeBytes, safesBytes, macBytes, encode}
 use Rattle.pkcs12.specs.Valid.{ValidLeaf, ValidAttribute, ValidAttributes, ValidSet, ValidBags, ValidSealed, ValidContents, ValidSafe, ValidSafes, bagsIn, attributesOf, attributesIn, bagsInSafe, attributesInSafe, bagsInSafes, attributesInSafes, Valid}
 use Rattle.pkcs12.specs.Table.{Rows}
-use Rattle.pkcs12.specs.Walk.{rangeOf, keyAt, sealedAt, typedAt, encryptedAt, macAt, Walked, Refused, Went, goOn, run, counting, attributeAt, setAt, Place, leafAt, contentAt, bagAt, safeContentsAt, dataAt, plainAt, sealedSafeAt, safeAt, safeValueAt, safesAt, outerAt, outerValueAt, bodyAt, pfxAt, readFile}
+use Rattle.pkcs12.specs.Walk.{rangeOf, keyAt, sealedAt, typedAt, encryptedAt, macAt, Walked, Refused, Went, goOn, run, counting, attributeAt, setAt, Place, leafAt, contentAt, bagAt, safeContentsAt, dataAt, plainAt, sealedSafeAt, safeAt, safeValueAt, safesAt, startRows, outerAt, outerValueAt, bodyAt, pfxAt, readFile}
 use Rattle.pkcs12.specs.Accepted.{IsAccepted}
 use Rattle.pkcs12.specs.declared.BagKind.{BagKind}
 use Rattle.pkcs12.specs.declared.BagKind.the-variants.{Key, ShroudedKey, Certificate, Crl, Secret, Nested}
@@ -239,6 +239,15 @@ module _ (s : List ℕ) (small : length s ≤ fileBytes) where
       expect-then s small octetStringTag b e e body refl refl q (omega arith) (q .inside)
       (λ a g r. walked-then (inner (cursor a e)) (cursor e e) x y z (each a r) (λ st o n. rw (f, g, o, finished e) (refl, n))))
 
+  -- safe contents with l levels left
+  levels-pass : (l : ℕ) (xs : Bags) (w : Place) (at e : ℕ) (st : Rows) (x y z : ℕ) → ValidContents l xs → Span s at e (sequence (bagsBytes xs))
+      → Sizes st x y z → y + bagsIn xs ≤ bagRows → z + attributesIn xs ≤ attributeRows
+      → Reaches (safeContentsAt l s w st (cursor at e)) (cursor e e) x (y + bagsIn xs) (z + attributesIn xs)
+  levels-pass zero xs w at e st x y z v p n room more = absurd v
+  levels-pass (suc l) xs w at e st x y z v p n room more =
+      contents-pass l w st (bagsBytes xs) at e x (y + bagsIn xs) (z + attributesIn xs) p
+      (λ b r. bags-pass xs l w b e (e - b) _ x y z v r (record { safes = n .safes; bags = n .bags; attributes = n .attributes }) room more (omega arith))
+
   -- what stands behind the type of a plain safe
   plain-passes : (xs : Bags) (at e : ℕ) (st : Rows) (x y z : ℕ) → ValidContents levels xs
       → Span s at e (tlv contextTag (octetString (sequence (bagsBytes xs)))) → Sizes st x y z → y + bagsIn xs ≤ bagRows
@@ -247,10 +256,8 @@ module _ (s : List ℕ) (small : length s ≤ fileBytes) where
   plain-passes xs at e st x y z v p n room more =
       data-passes _ (sequence (bagsBytes xs)) at e (x + 1) (y + bagsIn xs) (z + attributesIn xs) p
       (λ a q.
-      contents-pass 7 _ _ (bagsBytes xs) a e (x + 1) (y + bagsIn xs) (z + attributesIn xs) q
-      (λ b r.
-      bags-pass xs 7 _ b e (e - b) _ (x + 1) y z v r
-      (record { safes = one-more (st .safes) _ x (n .safes); bags = n .bags; attributes = n .attributes }) room more (omega arith)))
+      levels-pass levels xs _ a e _ (x + 1) y z v q
+      (record { safes = one-more (st .safes) _ x (n .safes); bags = n .bags; attributes = n .attributes }) room more)
 
   -- and of an encrypted one
   sealed-safe-passes : (v : Sealed) (at e : ℕ) (st : Rows) (x y z : ℕ) → ValidSealed v
@@ -308,7 +315,7 @@ module _ (s : List ℕ) (small : length s ≤ fileBytes) where
       (λ b f q.
       walked-then (run (safeAt s) _ (cursor b e)) (cursor e e) _ _ _
       (run-is (safeAt s) b e _ _ _ _
-      (safes-pass (v .safes) b e (e - b) (record { safes = []; bags = []; attributes = []; input = rangeOf (cursor at e); count = 7 }) 0 0 0 (r .safes) q
+      (safes-pass (v .safes) b e (e - b) (startRows (cursor at e)) 0 0 0 (r .safes) q
       (record { safes = refl; bags = refl; attributes = refl })
       (omega (arith, r .safe-room)) (omega (arith, r .bag-room)) (omega (arith, r .attribute-room)) (omega arith)))
       (λ st g n. rw (f, g) (refl, n)))

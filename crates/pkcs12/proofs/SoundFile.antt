@@ -21,7 +21,7 @@ use Rattle.pkcs12.specs.Encode.{integer, identifier, octetString, sequen
 use Rattle.pkcs12.specs.Valid.{Valid, ValidSafes, ValidMac}
 use Rattle.pkcs12.specs.Elements.{safesCount, elements}
 use Rattle.pkcs12.specs.Table.{range, Rows, tableOf}
-use Rattle.pkcs12.specs.Walk.{rangeOf, Walked, Refused, Went, run, counting, dataAt, safeAt, safesAt, outerValueAt, outerAt, macAt, bodyAt, refused, onAnswer, alone, pfxAt, readFile}
+use Rattle.pkcs12.specs.Walk.{rangeOf, Walked, Refused, Went, run, counting, dataAt, safeAt, safesAt, startRows, outerValueAt, outerAt, macAt, bodyAt, refused, onAnswer, alone, pfxAt, readFile}
 use Rattle.pkcs12.specs.Laid.{ElementLaid, DataLaid, SafesLaid, MacLaid, PfxLaid}
 use Rattle.pkcs12.specs.Accepted.{IsAccepted}
 use Rattle.pkcs12.specs.declared.Range.{Range}
@@ -38,15 +38,11 @@ use Rattle.pkcs12.proofs.SoundOuter.{MacIs, mac-of, by-mac}
 use Rattle.pkcs12.proofs.SoundAttributes.{OfWalked, by-walked}
 use Rattle.pkcs12.proofs.SoundSafes.{Spelt, DataIs, data-of, SafesRun, safes-run}
 
--- the rows at the start of the AuthenticatedSafe
-abbrev start : Cursor → Rows
-start o = record { safes = []; bags = []; attributes = []; input = rangeOf o; count = 7 }
-
 module _ (s : List ℕ) (bytes : Bytes s) where
   -- the AuthenticatedSafe that fills the OCTET STRING's body o
   record SafesHeld (o : Cursor) (st : Rows) (g : Cursor) (x : List ℕ) : Type 0 where
     body : Range
-    run : SafesRun s bytes body (start o) (body .start) st
+    run : SafesRun s bytes body (startRows o) (body .start) st
     child : ElementLaid s (o .at) (g .at) sequenceTag body (safesBytes (run .value))
     spelled : x ≡ sequence (safesBytes (run .value))
 
@@ -55,7 +51,7 @@ module _ (s : List ℕ) (bytes : Bytes s) where
   safes-of o h =
       by-expect s bytes Good _ (λ f. tt) o sequenceTag _
       (λ b n d.
-      by-walked Good _ (λ f. tt) (λ st f. SafesRun s bytes (rangeOf b) (start o) (b .at) st) _
+      by-walked Good _ (λ f. tt) (λ st f. SafesRun s bytes (rangeOf b) (startRows o) (b .at) st) _
       (λ st f a.
       let u = closed s (rangeOf o) o sequenceTag b n (safesBytes (a .value)) h d (a .whole) in
       record {
@@ -64,7 +60,7 @@ module _ (s : List ℕ) (bytes : Bytes s) where
         whole = u .whole;
         past = u .past;
       })
-      (run (safeAt s) (start o) b) (safes-run s bytes (rangeOf b) (start o) b (d .body .inside) (in-body s o sequenceTag b n d)))
+      (run (safeAt s) (startRows o) b) (safes-run s bytes (rangeOf b) (startRows o) b (d .body .inside) (in-body s o sequenceTag b n d)))
     where
       Good : Walked → Type 0
       Good = OfWalked (Spelt s bytes SafesHeld o)

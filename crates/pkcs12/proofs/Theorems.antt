@@ -25,7 +25,8 @@ use Rattle.pkcs12.specs.declared.BagRow.{BagRow}
 use Rattle.pkcs12.specs.declared.AttributeRow.{AttributeRow}
 use Rattle.pkcs12.specs.declared.Mac.{Mac}
 use Rattle.pkcs12.specs.declared.Answer.{Answer}
-use Rattle.pkcs12.specs.Bench.{Holds, benchCases, slipCases}
+use Rattle.pkcs12.specs.Bench.{Holds, benchCases}
+use Rattle.pkcs12.specs.Telling.{slipCases, numberCases}
 use Rattle.pkcs12.proofs.Bench as bench
 use Rattle.pkcs12.proofs.Rows as rows
 use Rattle.pkcs12.proofs.Stored as stored
@@ -74,7 +75,7 @@ refused-table-empty = refusals.refused-empty
 pub same-reading-iff-same-file : (f g : List ℕ) → Bytes f → Bytes g → IsAccepted f → IsAccepted g → readingFrom f ≡ readingFrom g ↔ f ≡ g
 same-reading-iff-same-file f g p q a b = (corollaries.same-reading f g p q a b, corollaries.same-file f g)
 
--- and so are the elements of an attribute, one by one, where its values are equal
+-- An attribute's values that are equal bytes are equally many equal elements, one by one.
 pub same-values-same-elements : (x : List ℕ) (o p : Opaques x) → o .as-trees ≡ p .as-trees
 same-values-same-elements = corollaries.same-elements
 
@@ -109,9 +110,13 @@ stored-attribute-is-last = stored.stored-attribute
 
 -- ---- the bench set
 
--- Cases (a) to (j) of the scope, and files that tell its tempting slips: what reading each gives, with every field of the table.
+-- Cases (a) to (j) of the scope, files that tell its tempting slips, and files that tell a wrong number: what reading each gives, with every field of
+-- the table.
 pub bench-table : Holds benchCases
 bench-table = bench.bench
 
 pub slips-table : Holds slipCases
 slips-table = bench.slips
+
+pub numbers-table : Holds numberCases
+numbers-table = bench.numbers

@@ -18,7 +18,8 @@ use Rattle.pkcs12.specs.declared.Answer.the-variants.{Accepted}
 abbrev pub IsAccepted : List ℕ → Type 0
 IsAccepted f = readFile f .answer ≡ Accepted
 
--- a file follows the standard, in the DER subset and limits of the scope: it is what a valid reading x is written as
+-- "Reading accepts a file exactly when it is one PFX, with no byte after it, that keeps every rule above.": the file is what a valid reading x is
+-- written as, and has at most 65,535 bytes
 pub record Follows (f : List ℕ) (x : Pfx) : Type 0 where
   pub valid : Valid x
   pub written : encode x ≡ f

@@ -1,5 +1,5 @@
--- The bench set: files and what reading each gives (scope, "Bench set"), and files that tell the scope's tempting slips.
-use mathlib.Core.Bool.{true, false}
+-- The bench set: files and what reading each gives (scope, "Bench set").
+use mathlib.Core.Bool.{false}
 use mathlib.Core.Path.{_≡_}
 use mathlib.Core.List.{List, [], _∷_, _++_, map}
 use Prim.Native.Nat.{ℕ}
@@ -7,16 +7,14 @@ use lib.ListN.{take, drop, replicate}
 use lib.Seq.{slice}
 use Rattle.der.specs.Numbers.{missing, overrun, lengthForm, content, leftOver}
 use Rattle.der.specs.Element.{fault}
-use Rattle.pkcs12.specs.Table.{range, noRange, parts, noParts, safeRow, bagRow, attributeRow, macFields, Rows, tableOf}
+use Rattle.pkcs12.specs.Table.{range, parts, noParts, safeRow, macFields, tableOf}
 use Rattle.pkcs12.specs.Walk.{refused, readFile}
 use Rattle.pkcs12.specs.declared.Range.{Range}
 use Rattle.pkcs12.specs.declared.Mac.{Mac}
 use Rattle.pkcs12.specs.declared.SafeKind.{SafeKind}
 use Rattle.pkcs12.specs.declared.SafeKind.the-variants.{Plain}
 use Rattle.pkcs12.specs.declared.BagKind.{BagKind}
-use Rattle.pkcs12.specs.declared.BagKind.the-variants.{Key, Nested}
 use Rattle.pkcs12.specs.declared.Enclosing.{Enclosing}
-use Rattle.pkcs12.specs.declared.Enclosing.the-variants.{Bag}
 use Rattle.pkcs12.specs.declared.Table.{Table}
 use Rattle.pkcs12.specs.declared.Answer.the-variants.{Accepted}
 use Rattle.pkcs12.specs.declared.Reading.{Reading}
@@ -26,10 +24,14 @@ pub record Case : Type 0 where
   pub file : List ℕ
   pub gives : Reading
 
-abbrev case : List ℕ → Reading → Case
+-- what reading the files gives is what is said of them
+abbrev pub Holds : List Case → Type 0
+Holds cases = map (λ (c : Case). readFile (c .file)) cases ≡ map (λ (c : Case). c .gives) cases
+
+abbrev pub case : List ℕ → Reading → Case
 case f r = record { file = f; gives = r }
 
-abbrev accepted : Table → Reading
+abbrev pub accepted : Table → Reading
 accepted t = record { answer = Accepted; table = t }
 
 -- "M is 47 bytes": 30 2D, 02 01 03; 30 11, 06 09 data, A0 04, 04 02, 30 00; 30 15, 30 10, 30 0B, 06 09 .., 04 01 AA, 04 01 55
@@ -62,11 +64,11 @@ tableOfM =
     }
 
 -- the table of a file with no safe
-abbrev quiet : Range → Mac → ℕ → Table
+abbrev pub quiet : Range → Mac → ℕ → Table
 quiet input x count = tableOf (record { safes = []; bags = []; attributes = []; input = input; count = count }) x
 
 -- MAC fields
-abbrev digested : Range → Range → Range → Range → ℕ → Mac
+abbrev pub digested : Range → Range → Range → Range → ℕ → Mac
 digested identifier parameters digest salt iterations = macFields (parts identifier parameters digest) salt iterations
 
 -- M with the lengths `outer` and `inner` of the PFX and MacData, and `tail` at its end
@@ -113,44 +115,3 @@ benchCases =
     ∷ case (named 128 1) (refused (fault content 30))
     ∷ case (named 42 134) (refused (fault content 30))
     ∷ []
-
--- M with NULL parameters, 05 00
-abbrev nullParameters : List ℕ
-nullParameters = 48 ∷ 47 ∷ (slice 2 24 m ++ (48 ∷ 23 ∷ 48 ∷ 18 ∷ 48 ∷ 13 ∷ (slice 30 41 m ++ (5 ∷ 0 ∷ drop 41 m))))
-
--- the identifier element of a kind of bag
-abbrev kind : ℕ → List ℕ
-kind last = 6 ∷ 11 ∷ 42 ∷ 134 ∷ 72 ∷ 134 ∷ 247 ∷ 13 ∷ 1 ∷ 12 ∷ 10 ∷ 1 ∷ last ∷ []
-
--- one plain safe with a nested bag, and in it a key with one attribute, whose values are a NULL; `size` is the length of the nested
--- SafeContents, which is 30
-abbrev nestedKey : ℕ → List ℕ
-nestedKey size =
-    48 ∷ 113 ∷ 2 ∷ 1 ∷ 3 ∷ 48 ∷ 85 ∷ (slice 7 18 m ++ (160 ∷ 72 ∷ 4 ∷ 70 ∷ 48 ∷ 68 ∷ 48 ∷ 66 ∷ (slice 7 18 m ++ (160 ∷ 53 ∷ 4 ∷ 51 ∷ 48 ∷ 49
-    ∷ 48 ∷ 47 ∷ (kind 6 ++ (160 ∷ 32 ∷ 48 ∷ size
-    ∷ 48 ∷ 28 ∷ (kind 1 ++ (160 ∷ 2 ∷ 48 ∷ 0 ∷ 49 ∷ 9 ∷ 48 ∷ 7 ∷ 6 ∷ 1 ∷ 85 ∷ 49 ∷ 2 ∷ 5 ∷ 0 ∷ drop 24 m))))))))
-
--- the bags and the attribute: the attribute is that of the key
-abbrev nestedRows : Rows
-nestedRows =
-    record {
-      safes = safeRow Plain noParts ∷ [];
-      bags = bagRow Nested 0 Enclosing.None noParts false ∷ bagRow Key 0 (Bag 0) (parts noRange noRange (range 79 81)) true ∷ [];
-      attributes = attributeRow 1 (range 87 88) (range 90 92) ∷ [];
-      input = range 22 92;
-      count = 31;
-    }
-
-unfoldable pub slipCases : List Case
-slipCases =
-    -- "reading absent parameters and NULL as one"
-    case nullParameters (accepted (quiet (range 22 24) (digested (range 32 41) (range 41 43) (range 45 46) (range 48 49) 1) 14))
-    -- "giving a nested bag's attributes to its enclosing bag"
-    ∷ case (nestedKey 30) (accepted (tableOf nestedRows (digested (range 100 109) (range 109 109) (range 111 112) (range 114 115) 1)))
-    -- "bounding a nested body by the file instead of its parent"
-    ∷ case (nestedKey 31) (refused (fault overrun 60))
-    ∷ []
-
--- what reading the files gives is what is said of them
-abbrev pub Holds : List Case → Type 0
-Holds cases = map (λ (c : Case). readFile (c .file)) cases ≡ map (λ (c : Case). c .gives) cases

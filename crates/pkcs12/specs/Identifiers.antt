@@ -1,4 +1,4 @@
--- The identifiers that the scope names, by their body bytes.
+-- The identifiers that reading a file goes by, as body bytes.
 use mathlib.Core.Bool.{Bool, true, false}
 use mathlib.Core.List.{List, [], _∷_}
 use Prim.Native.Nat.{ℕ}
@@ -27,7 +27,7 @@ encryptedType = pkcs7 6
 unfoldable pub x509Certificate : List ℕ
 x509Certificate = 42 ∷ 134 ∷ 72 ∷ 134 ∷ 247 ∷ 13 ∷ 1 ∷ 9 ∷ 22 ∷ 1 ∷ []
 
--- "each kind of bag has its own identifier bytes: 2A 86 48 86 F7 0D 01 0C 0A 01 and then 01 .. 06"
+-- "each kind of bag has its own identifier bytes: 2A 86 48 86 F7 0D 01 0C 0A 01 and then" 01 to 06
 abbrev pub bagType : ℕ → List ℕ
 bagType last = 42 ∷ 134 ∷ 72 ∷ 134 ∷ 247 ∷ 13 ∷ 1 ∷ 12 ∷ 10 ∷ 1 ∷ last ∷ []
 

@@ -13,3 +13,4 @@ pub mod Laid
 pub mod Accepted
 pub mod Sound
 pub mod Bench
+pub mod Telling

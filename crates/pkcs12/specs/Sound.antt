@@ -51,7 +51,8 @@ pub record RangesLie (s : List ℕ) (st : Rows) (m : Mac) : Type 0 where
   pub salt : Lies s (m .salt)
 
 -- "A table is sound when its counts are within the sizes, its rows stand in the order a reading gives, attributes belong only to bags with a
--- set, its ranges lie anywhere in the bytes, and what it shows follows every rule above": it shows a reading, and that is valid.
+-- set, its ranges lie anywhere in the bytes, and what it shows follows every rule above, the file's size and the length forms of the headers to be
+-- written aside": it shows a reading, and that is valid.
 -- "Rows past the counts, the opened count, the MAC input range and fields that a row's kind doesn't use are ignored."
 pub record Sound (t : Table) (s : List ℕ) : Type 0 where
   pub safe-count : t .«safe_count» ≤ safeRows

@@ -54,6 +54,9 @@ pub record MacData : Type 0 where
   pub salt : List ℕ
   pub iterations : ℕ
 
+-- "The reading is: the MAC algorithm, parameters, digest, salt and iterations; the safes in order; for an encrypted safe its algorithm, parameters and
+-- ciphertext; for a plain one its tree of bags. A bag gives kind, body parts as bytes, whether a set stands there, and its attributes with their
+-- elements."
 pub record Pfx : Type 0 where
   pub safes : List Safe
   pub mac : MacData

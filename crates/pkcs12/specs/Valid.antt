@@ -29,15 +29,17 @@ abbrev pub AtMostOne : List ℕ → Type 0
 AtMostOne [] = Unit {0}
 AtMostOne (b ∷ bs) = Opaque (b ∷ bs)
 
--- an opaque element with this tag
+-- "an opaque SEQUENCE": an opaque element with this tag
 pub record OpaqueWith (tag : ℕ) (x : List ℕ) : Type 0 where
   pub opaque : Opaque x
   pub due : getD x 0 0 ≡ tag
 
+-- "AlgorithmIdentifier: SEQUENCE of an identifier and at most one opaque element."
 pub record ValidAlgorithm (a : Algorithm) : Type 0 where
   pub identifier : IdentifierRule (a .identifier)
   pub parameters : AtMostOne (a .parameters)
 
+-- "SEQUENCE of AlgorithmIdentifier and OCTET STRING"; "AlgorithmIdentifier, and tag 80 with the ciphertext": any octets
 abbrev pub ValidSealed : Sealed → Type 0
 ValidSealed x = ValidAlgorithm (x .algorithm)
 
@@ -47,11 +49,13 @@ ValueRule certificate type x = type ≡ x509Certificate → getD x 0 0 ≡ octet
 ValueRule crl type x = Unit {0}
 ValueRule secret type x = Unit {0}
 
+-- "01 key: an opaque SEQUENCE", "02 shrouded key", "03 certificate, 04 CRL, 05 secret: SEQUENCE of an identifier and A0 with one opaque element"
 abbrev pub ValidLeaf : Leaf → Type 0
 ValidLeaf (key v) = OpaqueWith sequenceTag v
 ValidLeaf (shrouded x) = ValidSealed x
 ValidLeaf (typed k t v) = IdentifierRule t × Opaque v × ValueRule k t v
 
+-- "Attribute: SEQUENCE of an identifier and SET of zero or more opaque elements."
 pub record ValidAttribute (a : Attribute) : Type 0 where
   pub identifier : IdentifierRule (a .identifier)
   pub values : Opaques (a .values)
@@ -60,6 +64,7 @@ unfoldable pub ValidAttributes : List Attribute → Type 0
 ValidAttributes [] = Unit {0}
 ValidAttributes (a ∷ xs) = ValidAttribute a × ValidAttributes xs
 
+-- "and optionally SET (31) of attributes"
 abbrev pub ValidSet : Set → Type 0
 ValidSet absent = Unit {0}
 ValidSet (present xs) = ValidAttributes xs
@@ -71,11 +76,12 @@ ValidBags l (bag x set xs) = ValidLeaf x × ValidSet set × ValidBags l xs
 ValidBags zero (nest inner set xs) = ⊥
 ValidBags (suc l) (nest inner set xs) = ValidBags l inner × ValidSet set × ValidBags (suc l) xs
 
--- the bags of safe contents with l levels left, their own among them
+-- "Safe contents nest to level 8": the bags of safe contents with l levels left, their own among them
 abbrev pub ValidContents : ℕ → Bags → Type 0
 ValidContents zero xs = ⊥
 ValidContents (suc l) xs = ValidBags l xs
 
+-- "those of a plain safe are level 1"
 abbrev pub ValidSafe : Safe → Type 0
 ValidSafe (plain xs) = ValidContents levels xs
 ValidSafe (encrypted x) = ValidSealed x

@@ -145,10 +145,11 @@ abbrev pub onWalked : {A : Type 0} → Walked → (Fault → A) → (Rows → Cu
 onWalked (Refused f) bad good = bad f
 onWalked (Went st n) bad good = good st n
 
--- one after another, each by `step`, up to the cursor's end
+-- the loop goes on from where a part ended
 abbrev pub goOn : Walked → (Rows → ℕ → Walked) → Walked
 goOn x next = onWalked x Refused (λ st n. next st (n .at))
 
+-- one after another, each by `step`, up to the cursor's end
 unfoldable pub run : (Rows → Cursor → Walked) → Rows → Cursor → Walked
 run step st c =
     many goOn (λ st at. Went st (cursor at (c .end))) (λ st at. step st (cursor at (c .end))) (c .end - c .at) (c .end) st (c .at)
@@ -166,7 +167,7 @@ addBag st r k = record { safes = st .safes; bags = st .bags ++ (r ∷ []); attri
 abbrev pub addAttribute : Rows → AttributeRow → ℕ → Rows
 addAttribute st r k = record { safes = st .safes; bags = st .bags; attributes = st .attributes ++ (r ∷ []); input = st .input; count = st .count + k }
 
--- "Attribute: SEQUENCE of an identifier and SET of zero or more opaque elements", of bag n; a row too many is 8
+-- "Attribute: SEQUENCE of an identifier and SET of zero or more opaque elements", of the bag with this number; a row too many is 8
 unfoldable pub attributeAt : List ℕ → ℕ → Rows → Cursor → Walked
 attributeAt s number st c =
     onElement (expectAt sequenceTag s c) Refused
@@ -296,13 +297,17 @@ safeAt s st c =
     onWalked (safeValueAt s (bytesOf s i) (b .at) st m) Refused
     (λ st e. onChecked (finishAt e) Refused (λ z g. Went st n))))
 
--- the AuthenticatedSafe in the body of the outer OCTET STRING: "That body is the MAC input". Counted so far: PFX, version, ContentInfo, its identifier,
--- [0] and OCTET STRING, and this SEQUENCE.
+-- no row yet, in the body c of the outer OCTET STRING: "That body is the MAC input". Counted so far: PFX, version, ContentInfo, its identifier, [0] and
+-- OCTET STRING, and the SEQUENCE of the AuthenticatedSafe.
+abbrev pub startRows : Cursor → Rows
+startRows c = record { safes = []; bags = []; attributes = []; input = rangeOf c; count = 7 }
+
+-- the AuthenticatedSafe in that body
 unfoldable pub safesAt : List ℕ → Cursor → Walked
 safesAt s c =
     onElement (expectAt sequenceTag s c) Refused
     (λ t b n.
-    onWalked (run (safeAt s) (record { safes = []; bags = []; attributes = []; input = rangeOf c; count = 7 }) b) Refused
+    onWalked (run (safeAt s) (startRows c) b) Refused
     (λ st e. Went st n))
 
 -- what stands behind the outer type, which stands at `at`: "The outer type is data"; "outer signedData" is 7, another is 5
