@@ -22,6 +22,10 @@ use Rattle.der.specs.declared.Integer.the-variants.{Value}
 use Rattle.der.specs.declared.Extent.{Extent}
 use Rattle.der.specs.declared.Extent.the-variants.{Body}
 
+-- a bool is not both
+pub never : {A : Type 0} → false ≡ true → A
+never e = let z : _≡_ {A = ℕ} 0 1 = cc in absurd (omega arith)
+
 module _ {A : Type 0} where
   -- a test that is a bool: u is what the code learnt of it, its own or what a callee gave
   pub told-true : (t u : Bool) (r x y : A) → u ≡ t → u ≡ true → r ≡ x → r ≡ (if t then x else y)

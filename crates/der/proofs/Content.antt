@@ -13,25 +13,23 @@ use lib.ListN.{length, getD, take, length-take, drop-of-length-le}
 use lib.Seq.{slice, slice-cons, length-slice, getD-take, getD-drop}
 use borrow.Author.Tests.{ltb-true, ltb-false, leb-true, leb-false, eqb-true, eqb-false, lt-ltb, le-ltb, le-leb, lt-leb, eq-eqb, ne-eqb}
 use Rattle.der.specs.Choice.{if_then_else_}
+use Rattle.der.proofs.Choices.{never}
 use Rattle.der.specs.Content.{breaks, parts, identifierBody, bytesOf, integerBody, andDigit, integerValue, IntegerAt}
 use Rattle.der.specs.Octets.{number, numberFrom, IntegerRule, IdentifierRule}
 use Rattle.der.specs.declared.Cursor.{Cursor}
 
 -- What a choice with a constant arm tells of its test and of its other arm.
-no-false : {A : Type 0} → false ≡ true → A
-no-false e = let z : _≡_ {A = ℕ} 0 1 = cc in absurd (omega arith)
-
 both : (t v : Bool) → (if t then false else v) ≡ true → (t ≡ false) × (v ≡ true)
-both true v e = no-false e
+both true v e = never e
 both false v e = (refl, e)
 
 either : (t v : Bool) → (if t then true else v) ≡ true → t ≡ false → v ≡ true
-either true v e f = no-false (sym f)
+either true v e f = never (sym f)
 either false v e f = e
 
 if-so : (t v : Bool) → (if t then v else true) ≡ true → t ≡ true → v ≡ true
 if-so true v e f = e
-if-so false v e f = no-false f
+if-so false v e f = never f
 
 -- The bytes bs that stand behind p: the last of p and bs is below 128, and a byte behind one below 128 is not 128.
 record Tail (p : ℕ) (bs : List ℕ) : Type 0 where
@@ -39,7 +37,7 @@ record Tail (p : ℕ) (bs : List ℕ) : Type 0 where
   later : (i : ℕ) → i < length bs → getD (p ∷ bs) i 0 < 128 → getD bs i 0 ≡ 128 → ⊥
 
 unbroken : (p b : ℕ) → breaks (ltb p 128) b ≡ false → p < 128 → b ≡ 128 → ⊥
-unbroken p b e h q = let z : false ≡ true = sym e ∙ rw (lt-ltb p 128 h, eq-eqb b 128 q) in no-false z
+unbroken p b e h q = let z : false ≡ true = sym e ∙ rw (lt-ltb p 128 h, eq-eqb b 128 q) in never z
 
 breaks-not : (p b : ℕ) (t : Bool) → ltb p 128 ≡ t → (p < 128 → b ≡ 128 → ⊥) → breaks t b ≡ false
 breaks-not p b true e h = ne-eqb b 128 (h (ltb-true p 128 e))
@@ -71,7 +69,7 @@ parts-of p (b ∷ bs) t =
 -- The rule of an identifier's body: its first byte is not 128, and the others stand behind it.
 pub identifier-rule : (body : List ℕ) → identifierBody body ≡ true → IdentifierRule body
 unfolding identifierBody parts
-identifier-rule [] e = no-false e
+identifier-rule [] e = never e
 identifier-rule (b ∷ bs) e =
     let q = both (eqb b 128) (parts (ltb b 128) bs) e in
     let t = tail-of b bs (q .1) in

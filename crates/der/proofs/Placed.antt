@@ -19,7 +19,7 @@ use Rattle.der.specs.declared.Element.{Element}
 use Rattle.der.specs.declared.Element.the-variants.{Found}
 use Rattle.der.specs.declared.Extent.{Extent}
 use Rattle.der.specs.declared.Extent.the-variants.{Body}
-use Rattle.der.proofs.Choices.{by-test, by-lt, by-le, by-eq}
+use Rattle.der.proofs.Choices.{never, by-test, by-lt, by-le, by-eq}
 use Rattle.der.proofs.Octets.{octets-short, octets-one, octets-two}
 
 pub byte-at : (s : List ℕ) → Bytes s → (i : ℕ) → getD s i 0 < 256
@@ -38,10 +38,7 @@ left-none s c h = by-test (λ u. u ≡ true) _ _ (ltb (length s) (c .end)) (λ k
 
 left-of : (s : List ℕ) (c : Cursor) → noByteLeft s c ≡ false → (c .at < c .end) × (c .end ≤ length s)
 unfolding noByteLeft
-left-of s c = by-lt (λ u. u ≡ false → (c .at < c .end) × (c .end ≤ length s)) _ _ _ _ (λ k e. never e) (λ k e. (leb-false _ _ e, k))
-  where
-    never : {A : Type 0} → true ≡ false → A
-    never e = let z : _≡_ {A = ℕ} 0 1 = cc in absurd (omega arith)
+left-of s c = by-lt (λ u. u ≡ false → (c .at < c .end) × (c .end ≤ length s)) _ _ _ _ (λ k e. never (sym e)) (λ k e. (leb-false _ _ e, k))
 
 -- the same of a test u that the code made
 pub left-within : (s : List ℕ) (c : Cursor) (u : Bool) → u ≡ noByteLeft s c → u ≡ false → (c .at < c .end) × (c .end ≤ length s)

@@ -1,7 +1,7 @@
 -- The laws of opaque elements as trees: how long they are, and that their bytes stand for one tree alone.
 use mathlib.Core.Path.{_≡_, refl, sym, ap}
 use mathlib.Core.List.{List, [], _++_, append-assoc, append-nil}
-use Prim.Native.Nat.{ℕ, _+_, _*_, _≤_}
+use Prim.Native.Nat.{ℕ, _*_, _≤_}
 use native.Mathlib.Omega.{arith}
 use lib.ListN.{length, length-append}
 use Rattle.der.specs.Tree.{Tree, primitive, constructed, Trees, none, more, encode, encodes, elements, elementsIn, depth, deepest, Formed, AllFormed, siblings}

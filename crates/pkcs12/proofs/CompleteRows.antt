@@ -21,19 +21,20 @@ use Rattle.der.proofs.Spans.{span-split, span-whole}
 use Rattle.der.proofs.Header.{tag-none}
 use Rattle.der.proofs.Values.{integer-then}
 use Rattle.der.proofs.Grammar.{elements-complete}
+use Rattle.der.proofs.Choices.{never}
 use Rattle.pkcs12.specs.Numbers.{safeRows, bagRows, attributeRows, levels, fileBytes, sequenceTag, setTag, contextTag, pfxVersion, encryptedVersion}
 use Rattle.pkcs12.specs.Identifiers.{dataType, encryptedType, x509Certificate, identifierOf}
 use Rattle.pkcs12.specs.Syntax.{Leaf, key, shrouded, typed, certificate, crl, secret, Attribute, Set, absent, present, Bags, none, bag, nest, Safe, plain, encrypted, Sealed, Pfx, kindOfLeaf}
 use Rattle.pkcs12.specs.Encode.{integer, sequence, octetString, contentInfo, dataBytes, attributeBytes, attributesBytes, setBytes, leafBytes, bagBytes, bagsBytes, encryptedInfo, safeBytes, safesBytes, macBytes, encode}
 use Rattle.pkcs12.specs.Valid.{ValidLeaf, ValidAttribute, ValidAttributes, ValidSet, ValidBags, ValidSealed, ValidContents, ValidSafe, ValidSafes, bagsIn, attributesOf, attributesIn, bagsInSafe, attributesInSafe, bagsInSafes, attributesInSafes, Valid}
 use Rattle.pkcs12.specs.Table.{Rows}
-use Rattle.pkcs12.specs.Walk.{rangeOf, keyAt, sealedAt, typedAt, encryptedAt, macAt, Walked, Refused, Went, goOn, run, counting, attributeAt, setAt, Place, leafAt, contentAt, bagAt, safeContentsAt, dataAt, plainAt, sealedSafeAt, safeAt, safeValueAt, safesAt, startRows, outerAt, outerValueAt, bodyAt, pfxAt, readFile}
+use Rattle.pkcs12.specs.Walk.{keyAt, sealedAt, typedAt, encryptedAt, macAt, Walked, Refused, Went, goOn, run, counting, attributeAt, setAt, Owner, leafAt, contentAt, bagAt, safeContentsAt, dataAt, plainAt, sealedSafeAt, safeAt, safeValueAt, safesAt, startRows, outerAt, outerValueAt, bodyAt, pfxAt, readFile}
 use Rattle.pkcs12.specs.Accepted.{IsAccepted}
 use Rattle.pkcs12.specs.declared.BagKind.{BagKind}
 use Rattle.pkcs12.specs.declared.BagKind.the-variants.{Key, ShroudedKey, Certificate, Crl, Secret, Nested}
 use Rattle.pkcs12.specs.declared.PartsAt.{PartsAt}
 use Rattle.pkcs12.specs.declared.Answer.the-variants.{Accepted}
-use Rattle.pkcs12.proofs.SameBytes.{never, same-self, same-is}
+use Rattle.pkcs12.proofs.SameBytes.{same-self, same-is}
 use Rattle.pkcs12.proofs.Named.{data-rule, encrypted-rule, other-type, Served, on-kind, kind-named}
 use Rattle.pkcs12.proofs.CompleteParts.{Ends, parts-then, mac-then, attribute-some, bag-some, safe-some, mac-some, finished, expect-then, tag-of, sequence-then, named-then, sealed-passes, key-passes, typed-passes, encrypted-passes, mac-passes}
 
@@ -65,7 +66,7 @@ leaf-served (typed crl t v) = refl
 leaf-served (typed secret t v) = refl
 
 -- a bag that holds no bags is a row more
-leaf-of : (p : PartsAt) (kind : BagKind) (w : Place) (h : Bool) (st : Rows) (n : Cursor) (x y z : ℕ) → Ends p n → Sizes st x y z
+leaf-of : (p : PartsAt) (kind : BagKind) (w : Owner) (h : Bool) (st : Rows) (n : Cursor) (x y z : ℕ) → Ends p n → Sizes st x y z
     → Reaches (leafAt p kind w h st) n x (y + 1) z
 leaf-of (PartsAt.Refused f) kind w h st n x y z o r = absurd o
 leaf-of (PartsAt.Found p m e) kind w h st n x y z o r =
@@ -144,7 +145,7 @@ module _ (s : List ℕ) (small : length s ≤ fileBytes) where
       (λ st′ g m. rw (tag-of s small setTag at e e (attributesBytes xs) p (omega arith) (p .inside), f, g, finished e) (refl, m)))
 
   -- a SafeBag around any content that is read, whether or not a set is said to stand
-  bag-passes : (inner : Place → Rows → Cursor → Walked) (kind : BagKind) (content : List ℕ) (set : Set) (w : Place) (at e end : ℕ) (st : Rows)
+  bag-passes : (inner : Owner → Rows → Cursor → Walked) (kind : BagKind) (content : List ℕ) (set : Set) (w : Owner) (at e end : ℕ) (st : Rows)
       (x y z x′ y′ z′ : ℕ) → Served kind → ValidSet set → Span s at e (bagBytes kind content set) → Sizes st x y z → y < bagRows
       → z′ + attributesOf set ≤ attributeRows
       → ((h : Bool) (a m : ℕ) → Span s a m content → Reaches (contentAt inner s kind w h st (cursor a m)) (cursor m m) x′ y′ z′)
@@ -166,7 +167,7 @@ module _ (s : List ℕ) (small : length s ≤ fileBytes) where
       (refl, n″))))))
 
   -- the content of a bag that holds no bags
-  leaf-passes : (leaf : Leaf) (inner : Place → Rows → Cursor → Walked) (w : Place) (h : Bool) (st : Rows) (at e : ℕ) (x y z : ℕ) → ValidLeaf leaf
+  leaf-passes : (leaf : Leaf) (inner : Owner → Rows → Cursor → Walked) (w : Owner) (h : Bool) (st : Rows) (at e : ℕ) (x y z : ℕ) → ValidLeaf leaf
       → Span s at e (leafBytes leaf) → Sizes st x y z → Reaches (contentAt inner s (kindOfLeaf leaf) w h st (cursor at e)) (cursor e e) x (y + 1) z
   unfolding leafBytes
   leaf-passes (key v) inner w h st at e x y z r p n =
@@ -184,7 +185,7 @@ module _ (s : List ℕ) (small : length s ≤ fileBytes) where
       (typed-passes s small false t v at e e (r .0) (r .1) never p (omega arith) (p .inside)) n
 
   -- a SafeContents whose bags are read
-  contents-pass : (l : ℕ) (w : Place) (st : Rows) (body : List ℕ) (at e x y z : ℕ) → Span s at e (sequence body)
+  contents-pass : (l : ℕ) (w : Owner) (st : Rows) (body : List ℕ) (at e x y z : ℕ) → Span s at e (sequence body)
       → ((b : ℕ) → Span s b e body → Reaches (looped (bagAt (safeContentsAt l s) s w) e (e - b) (counting st 1) b) (cursor e e) x y z)
       → Reaches (safeContentsAt (suc l) s w st (cursor at e)) (cursor e e) x y z
   unfolding safeContentsAt
@@ -196,7 +197,7 @@ module _ (s : List ℕ) (small : length s ≤ fileBytes) where
       (λ st′ g n. rw (f, g) (refl, n)))
 
   -- the bags of a SafeContents below which l more levels may stand
-  bags-pass : (xs : Bags) (l : ℕ) (w : Place) (at end fuel : ℕ) (st : Rows) (x y z : ℕ) → ValidBags l xs → Span s at end (bagsBytes xs)
+  bags-pass : (xs : Bags) (l : ℕ) (w : Owner) (at end fuel : ℕ) (st : Rows) (x y z : ℕ) → ValidBags l xs → Span s at end (bagsBytes xs)
       → Sizes st x y z → y + bagsIn xs ≤ bagRows → z + attributesIn xs ≤ attributeRows → end ≤ at + fuel
       → Reaches (looped (bagAt (safeContentsAt l s) s w) end fuel st at) (cursor end end) x (y + bagsIn xs) (z + attributesIn xs)
   unfolding ValidBags bagsBytes bagsIn attributesIn
@@ -240,7 +241,7 @@ module _ (s : List ℕ) (small : length s ≤ fileBytes) where
       (λ a g r. walked-then (inner (cursor a e)) (cursor e e) x y z (each a r) (λ st o n. rw (f, g, o, finished e) (refl, n))))
 
   -- safe contents with l levels left
-  levels-pass : (l : ℕ) (xs : Bags) (w : Place) (at e : ℕ) (st : Rows) (x y z : ℕ) → ValidContents l xs → Span s at e (sequence (bagsBytes xs))
+  levels-pass : (l : ℕ) (xs : Bags) (w : Owner) (at e : ℕ) (st : Rows) (x y z : ℕ) → ValidContents l xs → Span s at e (sequence (bagsBytes xs))
       → Sizes st x y z → y + bagsIn xs ≤ bagRows → z + attributesIn xs ≤ attributeRows
       → Reaches (safeContentsAt l s w st (cursor at e)) (cursor e e) x (y + bagsIn xs) (z + attributesIn xs)
   levels-pass zero xs w at e st x y z v p n room more = absurd v
@@ -317,7 +318,7 @@ module _ (s : List ℕ) (small : length s ≤ fileBytes) where
       (run-is (safeAt s) b e _ _ _ _
       (safes-pass (v .safes) b e (e - b) (startRows (cursor at e)) 0 0 0 (r .safes) q
       (record { safes = refl; bags = refl; attributes = refl })
-      (omega (arith, r .safe-room)) (omega (arith, r .bag-room)) (omega (arith, r .attribute-room)) (omega arith)))
+      (omega (arith, r .safe-count)) (omega (arith, r .bag-count)) (omega (arith, r .attribute-count)) (omega arith)))
       (λ st g n. rw (f, g) (refl, n)))
 
   -- the outer ContentInfo

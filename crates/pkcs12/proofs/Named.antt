@@ -5,13 +5,13 @@ use mathlib.Core.List.{List}
 use Prim.Native.Nat.{ℕ}
 use Rattle.der.specs.Content.{parts, identifierBody}
 use Rattle.der.specs.Octets.{IdentifierRule}
-use Rattle.der.proofs.Choices.{by-test}
+use Rattle.der.proofs.Choices.{never, by-test}
 use Rattle.der.proofs.Content.{identifier-rule}
 use Rattle.pkcs12.specs.Identifiers.{dataType, encryptedType, identifierOf, kindOf, sameBytes}
 use Rattle.pkcs12.specs.Walk.{onKind}
 use Rattle.pkcs12.specs.declared.BagKind.{BagKind}
 use Rattle.pkcs12.specs.declared.BagKind.the-variants.{Key, ShroudedKey, Certificate, Crl, Secret, Nested}
-use Rattle.pkcs12.proofs.SameBytes.{never, same-is}
+use Rattle.pkcs12.proofs.SameBytes.{same-is}
 
 -- the types of content keep the rule of an identifier
 pub data-rule : IdentifierRule dataType

@@ -10,16 +10,13 @@ use lib.ListN.{length, getD, drop, drop-of-length-le}
 use lib.Seq.{drop-cons}
 use borrow.Author.Tests.{eq-eqb, ne-eqb}
 use Rattle.der.specs.Choice.{if_then_else_}
-use Rattle.der.proofs.Choices.{by-eq}
+use Rattle.der.proofs.Choices.{never, by-eq}
 use Rattle.pkcs12.specs.Identifiers.{sameBytes}
 
 pub same-self : (x : List ℕ) → sameBytes x x ≡ true
 unfolding sameBytes
 same-self [] = refl
 same-self (a ∷ x) = rw (eq-eqb a a refl) (same-self x)
-
-pub never : {A : Type 0} → false ≡ true → A
-never e = let z : _≡_ {A = ℕ} 0 1 = cc in absurd (omega arith)
 
 pub same-is : (x y : List ℕ) → sameBytes x y ≡ true → x ≡ y
 unfolding sameBytes

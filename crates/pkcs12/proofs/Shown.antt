@@ -10,7 +10,7 @@ use Rattle.pkcs12.specs.Syntax.{Sealed, Typed, certificate, crl, secret,
 use Rattle.pkcs12.specs.Valid.{bagsIn, attributesOf, attributesIn, bagsInSafes, attributesInSafes}
 use Rattle.pkcs12.specs.Values.{SafeValue, Content, leaf, BagValue, AttributeValue, bagValue, bagValues, ownValues, setValues, attributeValues, safeValues, bagsOfSafes, attributesOfSafes, rowsOf}
 use Rattle.pkcs12.specs.Table.{Rows, bytesIn, sealedIn, contentIn, safeShown, bagShown, attributeShown, shown}
-use Rattle.pkcs12.specs.Walk.{Place, place}
+use Rattle.pkcs12.specs.Walk.{Owner, owner}
 use Rattle.pkcs12.specs.Laid.{ElementLaid, PieceLaid, AlgorithmLaid, LeafLaid, AttributesLaid, no-attribute, one-attribute, SetLaid, no-set, one-set, BagLaid, BagsLaid, no-bag, one-bag, one-nest, SafesLaid, no-safe, one-plain, one-encrypted, PfxLaid}
 use Rattle.pkcs12.specs.Accepted.{Each}
 use Rattle.pkcs12.specs.Sound.{Lies, SealedLies, PartsLie, SafeLies, RangesLie}
@@ -116,13 +116,13 @@ set-shows s from to n absent own no-set = shows-none
 set-shows s from to n (present xs) own (one-set body e l) = attributes-show s _ _ n xs own l
 
 -- one bag more
-bag-shows : {s : List ℕ} {from to : ℕ} {w : Place} {n : ℕ} {k : BagKind} {p : Parts} {value : Range} {x : List ℕ} {set : Set} {row : BagRow} {own : List AttributeRow} {v : Content} {rows : List BagRow} {vs : List BagValue} {m : ℕ}
+bag-shows : {s : List ℕ} {from to : ℕ} {w : Owner} {n : ℕ} {k : BagKind} {p : Parts} {value : Range} {x : List ℕ} {set : Set} {row : BagRow} {own : List AttributeRow} {v : Content} {rows : List BagRow} {vs : List BagValue} {m : ℕ}
     → BagLaid s from to w n k p value x set row own → (contentIn s k p ≡ v) × PartsLie s k p → BagsShow s rows vs m
     → BagsShow s (row ∷ rows) (bagValue (w .safe) (w .enclosing) v set ∷ vs) (1 + m)
 bag-shows b h r = rw (b .shows) (shows-more (rw (h .0) refl) (h .1) r refl)
 
 -- bags, at any level, and their attributes
-bags-show : (s : List ℕ) (from to : ℕ) (w : Place) (n : ℕ) (x : Bags) (rows : List BagRow) (own : List AttributeRow) → BagsLaid s from to w n x rows own
+bags-show : (s : List ℕ) (from to : ℕ) (w : Owner) (n : ℕ) (x : Bags) (rows : List BagRow) (own : List AttributeRow) → BagsLaid s from to w n x rows own
     → BagsShow s rows (bagValues (w .safe) (w .enclosing) n x) (bagsIn x) × AttributesShow s own (attributeValues n x) (attributesIn x)
 unfolding bagValues attributeValues bagsIn attributesIn
 bags-show s from to w n none rows own no-bag = (shows-none, shows-none)
@@ -130,14 +130,14 @@ bags-show s from to w n (bag x set xs) rows own (one-bag p value b l m) =
     let q = bags-show s _ _ w (n + 1) xs _ _ m in
     (bag-shows b (leaf-held s _ _ p x l) (q .0), shows-join (set-shows s _ _ n set _ (b .attributes)) (q .1))
 bags-show s from to w n (nest inner set xs) rows own (one-nest value body b e l m) =
-    let d = bags-show s _ _ (place (w .safe) (Bag n)) (n + 1) inner _ _ l in
+    let d = bags-show s _ _ (owner (w .safe) (Bag n)) (n + 1) inner _ _ l in
     let q = bags-show s _ _ w (n + 1 + bagsIn inner) xs _ _ m in (
       bag-shows b (refl, tt) (shows-join (d .0) (q .0)),
       shows-join (d .1) (shows-join (set-shows s _ _ n set _ (b .attributes)) (q .1)),
     )
 
 -- as many rows as bags, and as many attribute rows as attributes
-pub laid-bags-long : (s : List ℕ) (from to : ℕ) (w : Place) (n : ℕ) (x : Bags) (rows : List BagRow) (own : List AttributeRow) → BagsLaid s from to w n x rows own
+pub laid-bags-long : (s : List ℕ) (from to : ℕ) (w : Owner) (n : ℕ) (x : Bags) (rows : List BagRow) (own : List AttributeRow) → BagsLaid s from to w n x rows own
     → (length rows ≡ bagsIn x) × (length own ≡ attributesIn x)
 laid-bags-long s from to w n x rows own l = let q = bags-show s from to w n x rows own l in (q .0 .long, q .1 .long)
 
@@ -153,7 +153,7 @@ safes-show : (s : List ℕ) (from to k n : ℕ) (xs : List Safe) (safes : List S
 unfolding safeValues bagsOfSafes attributesOfSafes bagsInSafes attributesInSafes
 safes-show s from to k n [] safes rows own no-safe = record { in-safes = shows-none; in-bags = shows-none; in-attributes = shows-none }
 safes-show s from to k n (plain x ∷ xs) safes rows own (one-plain octets inner d l m) =
-    let b = bags-show s _ _ (place k Enclosing.None) n x _ _ l in
+    let b = bags-show s _ _ (owner k Enclosing.None) n x _ _ l in
     let q = safes-show s _ _ (k + 1) (n + bagsIn x) xs _ _ _ m in
     record {
       in-safes = shows-more refl tt (q .in-safes) (omega arith);

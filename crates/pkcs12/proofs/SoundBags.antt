@@ -22,7 +22,7 @@ use Rattle.pkcs12.specs.Encode.{identifier, sequence, setBytes, leafByte
 use Rattle.pkcs12.specs.Valid.{ValidSet, ValidBags, ValidContents, bagsIn}
 use Rattle.pkcs12.specs.Elements.{leafCount, setCount, bagsCount}
 use Rattle.pkcs12.specs.Table.{noParts, bagRow, Rows}
-use Rattle.pkcs12.specs.Walk.{rangeOf, Walked, Refused, Went, run, counting, addBag, setAt, Place, place, leafAt, contentAt, bagAt, safeContentsAt, keyAt, sealedAt, typedAt}
+use Rattle.pkcs12.specs.Walk.{rangeOf, Walked, Refused, Went, run, counting, addBag, setAt, Owner, owner, leafAt, contentAt, bagAt, safeContentsAt, keyAt, sealedAt, typedAt}
 use Rattle.pkcs12.specs.Laid.{ElementLaid, LeafLaid, BagLaid, BagsLaid, no-bag, one-bag, one-nest}
 use Rattle.pkcs12.specs.declared.Range.{Range}
 use Rattle.pkcs12.specs.declared.Parts.{Parts}
@@ -41,7 +41,7 @@ use Rattle.pkcs12.proofs.SoundAttributes.{OfWalked, by-walked, run-of, 
 
 module _ (s : List ℕ) (bytes : Bytes s) where
   -- What stands in the body `v` of a bag's [0], from c to f: its bytes, the rows that it adds behind the bag's own, and the bag in front of others.
-  record ContentIs (l : ℕ) (w : Place) (k : BagKind) (h : Bool) (st : Rows) (v : Range) (c : Cursor) (st′ : Rows) (f : Cursor) : Type 0 where
+  record ContentIs (l : ℕ) (w : Owner) (k : BagKind) (h : Bool) (st : Rows) (v : Range) (c : Cursor) (st′ : Rows) (f : Cursor) : Type 0 where
     content : List ℕ
     p : Parts
     below : List BagRow
@@ -62,7 +62,7 @@ module _ (s : List ℕ) (bytes : Bytes s) where
   leaf-at : (from to start end : ℕ) (p : Parts) (x : Leaf) → from ≡ start → to ≡ end → LeafLaid s from to p x → LeafLaid s start end p x
   leaf-at from to start end p x d e l = rw (d, e) at l
 
-  leaf-of : (l : ℕ) (w : Place) (k : BagKind) (h : Bool) (st : Rows) (v : Range) (c : Cursor) → length (st .bags) < bagRows → (x : PartsAt)
+  leaf-of : (l : ℕ) (w : Owner) (k : BagKind) (h : Bool) (st : Rows) (v : Range) (c : Cursor) → length (st .bags) < bagRows → (x : PartsAt)
       → OfParts (LeafIs s bytes k v c) x → OfWalked (ContentIs l w k h st v c) (leafAt x k w h st)
   unfolding bagsBytes bagsCount ValidBags
   leaf-of l w k h st v c room (PartsAt.Refused f) q = tt
@@ -90,7 +90,7 @@ module _ (s : List ℕ) (bytes : Bytes s) where
           }
 
   -- a SafeContents in the body `par`, with l levels left, from c to n
-  pub record ContentsIs (l : ℕ) (w : Place) (st : Rows) (par : Range) (c : Cursor) (st′ : Rows) (n : Cursor) : Type 0 where
+  pub record ContentsIs (l : ℕ) (w : Owner) (st : Rows) (par : Range) (c : Cursor) (st′ : Rows) (n : Cursor) : Type 0 where
     pub value : Bags
     pub body : Range
     pub rows : List BagRow
@@ -107,8 +107,8 @@ module _ (s : List ℕ) (bytes : Bytes s) where
   valid-nest zero inner set xs a b d = a
   valid-nest (suc l) inner set xs a b d = (a, b, d)
 
-  nest-of : (l : ℕ) (w : Place) (h : Bool) (st : Rows) (v : Range) (c : Cursor) → length (st .bags) < bagRows → (x : Walked)
-      → OfWalked (ContentsIs l (place (w .safe) (Bag (length (st .bags)))) (addBag st (bagRow Nested (w .safe) (w .enclosing) noParts h) 3) v c) x
+  nest-of : (l : ℕ) (w : Owner) (h : Bool) (st : Rows) (v : Range) (c : Cursor) → length (st .bags) < bagRows → (x : Walked)
+      → OfWalked (ContentsIs l (owner (w .safe) (Bag (length (st .bags)))) (addBag st (bagRow Nested (w .safe) (w .enclosing) noParts h) 3) v c) x
       → OfWalked (ContentIs l w Nested h st v c) x
   unfolding bagsBytes bagsCount
   nest-of l w h st v c room (Refused f) q = tt
@@ -139,9 +139,9 @@ module _ (s : List ℕ) (bytes : Bytes s) where
       later = omega (arith, laid-bags-long s _ _ _ _ (q .value) (q .rows) (q .own) (q .laid) .0)
 
   -- what a bag's [0] holds, by the bag's kind, where the SafeContents of a nested bag are read soundly
-  module _ (l : ℕ) (inner : Place → Rows → Cursor → Walked)
-      (inner-of : (w : Place) (st : Rows) (par : Range) (c : Cursor) → In par c → OfWalked (ContentsIs l w st par c) (inner w st c)) where
-    content-of : (w : Place) (k : BagKind) (h : Bool) (st : Rows) (v : Range) (c : Cursor) → length (st .bags) < bagRows → In v c
+  module _ (l : ℕ) (inner : Owner → Rows → Cursor → Walked)
+      (inner-of : (w : Owner) (st : Rows) (par : Range) (c : Cursor) → In par c → OfWalked (ContentsIs l w st par c) (inner w st c)) where
+    content-of : (w : Owner) (k : BagKind) (h : Bool) (st : Rows) (v : Range) (c : Cursor) → length (st .bags) < bagRows → In v c
         → OfWalked (ContentIs l w k h st v c) (contentAt inner s k w h st c)
     content-of w BagKind.None h st v c room i = tt
     content-of w Key h st v c room i = leaf-of l w Key h st v c room (keyAt s c) (key-of s bytes v c i)
@@ -152,7 +152,7 @@ module _ (s : List ℕ) (bytes : Bytes s) where
     content-of w Nested h st v c room i = nest-of l w h st v c room (inner _ _ c) (inner-of _ _ v c i)
 
     -- a bag in the body `par`, from c to n: it stands in front of any bags that follow
-    record BagStep (w : Place) (par : Range) (st : Rows) (c : Cursor) (st′ : Rows) (n : Cursor) : Type 0 where
+    record BagStep (w : Owner) (par : Range) (st : Rows) (c : Cursor) (st′ : Rows) (n : Cursor) : Type 0 where
       front : Bags → Bags
       spelling : List ℕ
       rows : List BagRow
@@ -167,7 +167,7 @@ module _ (s : List ℕ) (bytes : Bytes s) where
       whole : Span s (c .at) (n .at) (sequence spelling)
       past : In par n
 
-    bag-is : (w : Place) (par : Range) (st : Rows) (c b n : Cursor) (t : ℕ) (i m : Cursor) (k : BagKind) (v e : Cursor) (st′ : Rows) (f : Cursor) (st″ : Rows) (g : Cursor)
+    bag-is : (w : Owner) (par : Range) (st : Rows) (c b n : Cursor) (t : ℕ) (i m : Cursor) (k : BagKind) (v e : Cursor) (st′ : Rows) (f : Cursor) (st″ : Rows) (g : Cursor)
         → In par c → HeaderIs s c sequenceTag b n → IdentifierIs s b t i m → bytesOf s i ≡ identifierOf k → HeaderIs s m contextTag v e
         → ContentIs l w k (ltb (e .at) (e .end)) st (rangeOf v) v st′ f → f .end ≤ f .at → SetIs s bytes (rangeOf b) (length (st .bags)) st′ e st″ g
         → BagStep w par st c st″ n
@@ -213,7 +213,7 @@ module _ (s : List ℕ) (bytes : Bytes s) where
         whole-of : Closed s par c sequenceTag b n x
         whole-of = closed s par c sequenceTag b n x h d (span-join s _ _ _ _ _ first (span-join s _ _ _ _ _ (context .whole) (o .whole)))
 
-    bag-of : (w : Place) (par : Range) (st : Rows) (c : Cursor) → In par c → OfWalked (BagStep w par st c) (bagAt inner s w st c)
+    bag-of : (w : Owner) (par : Range) (st : Rows) (c : Cursor) → In par c → OfWalked (BagStep w par st c) (bagAt inner s w st c)
     unfolding bagAt
     bag-of w par st c h =
         by-expect s bytes Good _ (λ f. tt) c sequenceTag _
@@ -243,7 +243,7 @@ module _ (s : List ℕ) (bytes : Bytes s) where
         Good = OfWalked (BagStep w par st c)
 
     -- the bags from `at` to the end of the body `par`
-    pub record BagsRun (w : Place) (par : Range) (st : Rows) (at : ℕ) (st′ : Rows) : Type 0 where
+    pub record BagsRun (w : Owner) (par : Range) (st : Rows) (at : ℕ) (st′ : Rows) : Type 0 where
       pub value : Bags
       pub rows : List BagRow
       pub own : List AttributeRow
@@ -252,7 +252,7 @@ module _ (s : List ℕ) (bytes : Bytes s) where
       pub grown : Grown st st′ [] rows own (bagsCount value)
       pub whole : Span s at (par .end) (bagsBytes value)
 
-    run-more : (w : Place) (par : Range) (st : Rows) (c : Cursor) (st′ : Rows) (n : Cursor) (st″ : Rows) → BagStep w par st c st′ n
+    run-more : (w : Owner) (par : Range) (st : Rows) (c : Cursor) (st′ : Rows) (n : Cursor) (st″ : Rows) → BagStep w par st c st′ n
         → BagsRun w par st′ (n .at) st″ → BagsRun w par st (c .at) st″
     run-more w par st c st′ n st″ a r =
         record {
@@ -265,7 +265,7 @@ module _ (s : List ℕ) (bytes : Bytes s) where
           whole = rw (a .spelled (r .value)) (span-join s _ _ _ _ _ (a .whole) (r .whole));
         }
 
-    bags-of : (w : Place) (par : Range) (st : Rows) (c : Cursor) → par .end ≤ length s → In par c
+    bags-of : (w : Owner) (par : Range) (st : Rows) (c : Cursor) → par .end ≤ length s → In par c
         → OfWalked (λ st′ n. BagsRun w par st (c .at) st′) (run (bagAt inner s w) st c)
     unfolding bagsBytes bagsCount ValidBags
     bags-of w par st c i =
@@ -275,9 +275,9 @@ module _ (s : List ℕ) (bytes : Bytes s) where
         (λ st c st′ n st″ j a r. run-more w par st c st′ n st″ a r)
         st c
 
-  contents-is : (l : ℕ) (inner : Place → Rows → Cursor → Walked)
-      (inner-of : (w : Place) (st : Rows) (par : Range) (c : Cursor) → In par c → OfWalked (ContentsIs l w st par c) (inner w st c))
-      (w : Place) (st : Rows) (par : Range) (c b n : Cursor) (st′ : Rows) → In par c → HeaderIs s c sequenceTag b n
+  contents-is : (l : ℕ) (inner : Owner → Rows → Cursor → Walked)
+      (inner-of : (w : Owner) (st : Rows) (par : Range) (c : Cursor) → In par c → OfWalked (ContentsIs l w st par c) (inner w st c))
+      (w : Owner) (st : Rows) (par : Range) (c b n : Cursor) (st′ : Rows) → In par c → HeaderIs s c sequenceTag b n
       → BagsRun l inner inner-of w (rangeOf b) (counting st 1) (b .at) st′ → ContentsIs (suc l) w st par c st′ n
   contents-is l inner inner-of w st par c b n st′ h d a =
       let u = closed s par c sequenceTag b n (bagsBytes (a .value)) h d (a .whole) in
@@ -294,7 +294,7 @@ module _ (s : List ℕ) (bytes : Bytes s) where
         past = u .past;
       }
 
-  pub contents-of : (l : ℕ) (w : Place) (st : Rows) (par : Range) (c : Cursor) → In par c → OfWalked (ContentsIs l w st par c) (safeContentsAt l s w st c)
+  pub contents-of : (l : ℕ) (w : Owner) (st : Rows) (par : Range) (c : Cursor) → In par c → OfWalked (ContentsIs l w st par c) (safeContentsAt l s w st c)
   unfolding safeContentsAt
   contents-of zero w st par c h = by-expect s bytes (OfWalked (ContentsIs zero w st par c)) _ (λ f. tt) c sequenceTag _ (λ b n d. tt)
   contents-of (suc l) w st par c h =

@@ -1,6 +1,6 @@
 -- A file that was accepted, in a list of bytes: its reading, by the rules, where it stands, its elements, and that it is what the reading is written as.
 use mathlib.Core.Path.{_≡_, refl}
-use mathlib.Core.List.{List, [], _++_}
+use mathlib.Core.List.{List, _++_}
 use Prim.Native.Nat.{ℕ, _+_, _≤_}
 use native.Mathlib.Omega.{arith}
 use lib.ListN.{length}
@@ -245,9 +245,9 @@ module _ (s : List ℕ) (bytes : Bytes s) where
         valid = record {
           safes = a .valid-safes;
           mac = a .valid-mac;
-          safe-room = omega (arith, sizes .0, a .fits .safes);
-          bag-room = omega (arith, sizes .1, a .fits .bags);
-          attribute-room = omega (arith, sizes .2, a .fits .attributes);
+          safe-count = omega (arith, sizes .0, a .fits .safes);
+          bag-count = omega (arith, sizes .1, a .fits .bags);
+          attribute-count = omega (arith, sizes .2, a .fits .attributes);
         };
         fits = a .fits;
         laid = l;

@@ -16,7 +16,7 @@ use Rattle.der.specs.declared.Fault.{Fault}
 use Rattle.der.specs.declared.Cursor.{Cursor}
 use Rattle.der.specs.declared.Checked.{Checked}
 use Rattle.der.specs.declared.Checked.the-variants.{Passed}
-use Rattle.der.proofs.Choices.{by-lt}
+use Rattle.der.proofs.Choices.{never, by-lt}
 use Rattle.der.proofs.Opaque.{by-checked}
 use Rattle.der.proofs.Grammar.{opaque-sound}
 use Rattle.der.proofs.Spans.{span-empty, span-join, span-to}
@@ -34,7 +34,7 @@ use Rattle.pkcs12.specs.declared.Parts.{Parts}
 use Rattle.pkcs12.specs.declared.PartsAt.{PartsAt}
 use Rattle.pkcs12.specs.declared.BagKind.{BagKind}
 use Rattle.pkcs12.specs.declared.BagKind.the-variants.{Key, ShroudedKey}
-use Rattle.pkcs12.proofs.SameBytes.{same-self, never}
+use Rattle.pkcs12.proofs.SameBytes.{same-self}
 use Rattle.pkcs12.proofs.Parents.{by-expect, by-identifier, by-opaque, by-finish, In, in-body, finished, laid-to, closed, closed-any, closed-identifier, settled, first-byte, some-byte, nothing-count, at-most-one, Is}
 
 -- what holds of parts that were found; a refusal has nothing to hold

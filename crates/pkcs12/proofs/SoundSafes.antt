@@ -21,7 +21,7 @@ use Rattle.pkcs12.specs.Encode.{identifier, octetString, sequence, conte
 use Rattle.pkcs12.specs.Valid.{ValidSafes}
 use Rattle.pkcs12.specs.Elements.{algorithmCount, bagsCount, safesCount}
 use Rattle.pkcs12.specs.Table.{noParts, safeRow, Rows}
-use Rattle.pkcs12.specs.Walk.{rangeOf, Walked, Refused, Went, run, addSafe, place, safeContentsAt, dataAt, plainAt, sealedSafeAt, encryptedAt, safeValueAt, safeAt}
+use Rattle.pkcs12.specs.Walk.{rangeOf, Walked, Refused, Went, run, addSafe, owner, safeContentsAt, dataAt, plainAt, sealedSafeAt, encryptedAt, safeValueAt, safeAt}
 use Rattle.pkcs12.specs.Laid.{ElementLaid, ContentLaid, SafesLaid, no-safe, one-plain, one-encrypted}
 use Rattle.pkcs12.specs.declared.Range.{Range}
 use Rattle.pkcs12.specs.declared.Parts.{Parts}
@@ -117,7 +117,7 @@ module _ (s : List ℕ) (bytes : Bytes s) where
   -- a plain safe
   abbrev PlainHeld : Rows → Cursor → Rows → Cursor → List ℕ → Type 0
   PlainHeld st o st′ g x =
-      (q : ContentsIs s bytes levels (place (length (st .safes)) Enclosing.None) (addSafe st (safeRow Plain noParts) 4) (rangeOf o) o st′ g) × (x ≡ sequence (bagsBytes (q .value)))
+      (q : ContentsIs s bytes levels (owner (length (st .safes)) Enclosing.None) (addSafe st (safeRow Plain noParts) 4) (rangeOf o) o st′ g) × (x ≡ sequence (bagsBytes (q .value)))
 
   plain-is : (body : Range) (st : Rows) (m : Cursor) (st′ : Rows) (e : Cursor) → length (st .safes) < safeRows → DataIs (PlainHeld st) body m st′ e → RestIs body dataType st m st′ e
   unfolding safesBytes safeBytes dataBytes ValidSafes safesCount
@@ -142,7 +142,7 @@ module _ (s : List ℕ) (bytes : Bytes s) where
             (rw (laid-bags-long s _ _ _ _ v (q .rows) (q .own) (q .laid) .0) at r);
       }
     where
-      q : ContentsIs s bytes levels (place (length (st .safes)) Enclosing.None) (addSafe st (safeRow Plain noParts) 4) (rangeOf (a .octets)) (a .octets) st′ (a .rest)
+      q : ContentsIs s bytes levels (owner (length (st .safes)) Enclosing.None) (addSafe st (safeRow Plain noParts) 4) (rangeOf (a .octets)) (a .octets) st′ (a .rest)
       q = a .held .0
 
       v : Bags
@@ -160,13 +160,13 @@ module _ (s : List ℕ) (bytes : Bytes s) where
       go (Went st′ e) q = plain-is body st m st′ e room q
 
       spelt : (o : Cursor) (x : Walked)
-          → OfWalked (ContentsIs s bytes levels (place (length (st .safes)) Enclosing.None) (addSafe st (safeRow Plain noParts) 4) (rangeOf o) o) x
+          → OfWalked (ContentsIs s bytes levels (owner (length (st .safes)) Enclosing.None) (addSafe st (safeRow Plain noParts) 4) (rangeOf o) o) x
           → OfWalked (Spelt (PlainHeld st) o) x
       spelt o (Refused f) q = tt
       spelt o (Went st′ g) q = record { x = sequence (bagsBytes (q .value)); held = (q, refl); whole = q .whole; past = q .past }
 
       inner : (o : Cursor) → In (rangeOf o) o
-          → OfWalked (Spelt (PlainHeld st) o) (safeContentsAt levels s (place (length (st .safes)) Enclosing.None) (addSafe st (safeRow Plain noParts) 4) o)
+          → OfWalked (Spelt (PlainHeld st) o) (safeContentsAt levels s (owner (length (st .safes)) Enclosing.None) (addSafe st (safeRow Plain noParts) 4) o)
       inner o i = spelt o (safeContentsAt levels s _ _ o) (contents-of s bytes levels _ _ (rangeOf o) o i)
 
   -- an encrypted safe

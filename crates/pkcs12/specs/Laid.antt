@@ -15,7 +15,7 @@ use Rattle.pkcs12.specs.Encode.{integer, octetString, identifier, sequen
 use Rattle.pkcs12.specs.Valid.{bagsIn}
 use Rattle.pkcs12.specs.Values.{stands}
 use Rattle.pkcs12.specs.Table.{noRange, parts, noParts, safeRow, bagRow, Rows}
-use Rattle.pkcs12.specs.Walk.{Place, place}
+use Rattle.pkcs12.specs.Walk.{Owner, owner}
 use Rattle.pkcs12.specs.declared.Range.{Range}
 use Rattle.pkcs12.specs.declared.Parts.{Parts}
 use Rattle.pkcs12.specs.declared.SafeKind.the-variants.{Plain, Encrypted}
@@ -100,7 +100,7 @@ pub data SetLaid (s : List ℕ) (n : ℕ) : ℕ → ℕ → Set → List Attribu
       → ElementLaid s from to setTag body (attributesBytes xs) → AttributesLaid s n (body .start) (body .end) xs rs → SetLaid s n from to (present xs) rs
 
 -- one bag, row n: its identifier, [0] whose body `value` holds x, and its set
-pub record BagLaid (s : List ℕ) (from to : ℕ) (w : Place) (n : ℕ) (k : BagKind) (p : Parts) (value : Range) (x : List ℕ) (set : Set) (row : BagRow) (own : List AttributeRow) : Type 0 where
+pub record BagLaid (s : List ℕ) (from to : ℕ) (w : Owner) (n : ℕ) (k : BagKind) (p : Parts) (value : Range) (x : List ℕ) (set : Set) (row : BagRow) (own : List AttributeRow) : Type 0 where
   pub shows : row ≡ bagRow k (w .safe) (w .enclosing) p (stands set)
   pub body : Range
   pub name : Range
@@ -112,16 +112,16 @@ pub record BagLaid (s : List ℕ) (from to : ℕ) (w : Place) (n : ℕ) (k : Bag
   pub attributes : SetLaid s n after (body .end) set own
 
 -- bags one behind another, the first of which is row n, with their rows and attribute rows
-pub data BagsLaid (s : List ℕ) : ℕ → ℕ → Place → ℕ → Bags → List BagRow → List AttributeRow → Type 0 where
-  no-bag : {at : ℕ} {w : Place} {n : ℕ} → BagsLaid s at at w n none [] []
-  one-bag : {from mid to : ℕ} {w : Place} {n : ℕ} {x : Leaf} {set : Set} {xs : Bags} {row : BagRow} {rows : List BagRow} {own rest : List AttributeRow} (p : Parts) (value : Range)
+pub data BagsLaid (s : List ℕ) : ℕ → ℕ → Owner → ℕ → Bags → List BagRow → List AttributeRow → Type 0 where
+  no-bag : {at : ℕ} {w : Owner} {n : ℕ} → BagsLaid s at at w n none [] []
+  one-bag : {from mid to : ℕ} {w : Owner} {n : ℕ} {x : Leaf} {set : Set} {xs : Bags} {row : BagRow} {rows : List BagRow} {own rest : List AttributeRow} (p : Parts) (value : Range)
       → BagLaid s from mid w n (kindOfLeaf x) p value (leafBytes x) set row own → LeafLaid s (value .start) (value .end) p x
       → BagsLaid s mid to w (n + 1) xs rows rest
       → BagsLaid s from to w n (bag x set xs) (row ∷ rows) (own ++ rest)
-  one-nest : {from mid to : ℕ} {w : Place} {n : ℕ} {inner : Bags} {set : Set} {xs : Bags} {row : BagRow} {below rows : List BagRow} {deep own rest : List AttributeRow} (value body : Range)
+  one-nest : {from mid to : ℕ} {w : Owner} {n : ℕ} {inner : Bags} {set : Set} {xs : Bags} {row : BagRow} {below rows : List BagRow} {deep own rest : List AttributeRow} (value body : Range)
       → BagLaid s from mid w n Nested noParts value (sequence (bagsBytes inner)) set row own
       → ElementLaid s (value .start) (value .end) sequenceTag body (bagsBytes inner)
-      → BagsLaid s (body .start) (body .end) (place (w .safe) (Bag n)) (n + 1) inner below deep
+      → BagsLaid s (body .start) (body .end) (owner (w .safe) (Bag n)) (n + 1) inner below deep
       → BagsLaid s mid to w (n + 1 + bagsIn inner) xs rows rest
       → BagsLaid s from to w n (nest inner set xs) (row ∷ (below ++ rows)) (deep ++ (own ++ rest))
 
@@ -160,7 +160,7 @@ pub record DataLaid (s : List ℕ) (from to : ℕ) (octets inner : Range) (x : L
 pub data SafesLaid (s : List ℕ) : ℕ → ℕ → ℕ → ℕ → List Safe → List SafeRow → List BagRow → List AttributeRow → Type 0 where
   no-safe : {at k n : ℕ} → SafesLaid s at at k n [] [] [] []
   one-plain : {from mid to k n : ℕ} {x : Bags} {xs : List Safe} {safes : List SafeRow} {below rows : List BagRow} {deep rest : List AttributeRow} (octets inner : Range)
-      → DataLaid s from mid octets inner (bagsBytes x) → BagsLaid s (inner .start) (inner .end) (place k Enclosing.None) n x below deep
+      → DataLaid s from mid octets inner (bagsBytes x) → BagsLaid s (inner .start) (inner .end) (owner k Enclosing.None) n x below deep
       → SafesLaid s mid to (k + 1) (n + bagsIn x) xs safes rows rest
       → SafesLaid s from to k n (plain x ∷ xs) (safeRow Plain noParts ∷ safes) (below ++ rows) (deep ++ rest)
   one-encrypted : {from mid to k n : ℕ} {x : Sealed} {xs : List Safe} {safes : List SafeRow} {rows : List BagRow} {rest : List AttributeRow} (p : Parts) (value : Range)

@@ -131,6 +131,6 @@ attributesInSafes (x ∷ xs) = attributesInSafe x + attributesInSafes xs
 pub record Valid (x : Pfx) : Type 0 where
   pub safes : ValidSafes (x .safes)
   pub mac : ValidMac (x .mac)
-  pub safe-room : length (x .safes) ≤ safeRows
-  pub bag-room : bagsInSafes (x .safes) ≤ bagRows
-  pub attribute-room : attributesInSafes (x .safes) ≤ attributeRows
+  pub safe-count : length (x .safes) ≤ safeRows
+  pub bag-count : bagsInSafes (x .safes) ≤ bagRows
+  pub attribute-count : attributesInSafes (x .safes) ≤ attributeRows

@@ -194,22 +194,22 @@ setAt s number st c =
     (λ z g. Went st n))) else
     onChecked (finishAt c) Refused (λ z g. Went st c)
 
--- where a bag stands: its safe, and its enclosing bag or none
-pub record Place : Type 0 where
+-- what a bag belongs to: its safe, and its enclosing bag or none
+pub record Owner : Type 0 where
   pub safe : ℕ
   pub enclosing : Enclosing
 
-abbrev pub place : ℕ → Enclosing → Place
-place k e = record { safe = k; enclosing = e }
+abbrev pub owner : ℕ → Enclosing → Owner
+owner k e = record { safe = k; enclosing = e }
 
 -- a bag of a kind that holds no bags: its value's parts, then its row
-abbrev pub leafAt : PartsAt → BagKind → Place → Bool → Rows → Walked
+abbrev pub leafAt : PartsAt → BagKind → Owner → Bool → Rows → Walked
 leafAt x kind w has-set st =
     onParts x Refused (λ p k f. Went (addBag st (bagRow kind (w .safe) (w .enclosing) p has-set) (k + 3)) f)
 
 -- what stands in [0] of a bag, by its kind; `inner` reads the SafeContents of a nested bag. The bag's SEQUENCE, bagId and [0] are counted with its
 -- row. (`None` doesn't come here: the bagId was refused.)
-abbrev pub contentAt : (Place → Rows → Cursor → Walked) → List ℕ → BagKind → Place → Bool → Rows → Cursor → Walked
+abbrev pub contentAt : (Owner → Rows → Cursor → Walked) → List ℕ → BagKind → Owner → Bool → Rows → Cursor → Walked
 contentAt inner s BagKind.None w h st c = Refused (fault notServed (c .at))
 contentAt inner s Key w h st c = leafAt (keyAt s c) Key w h st
 contentAt inner s ShroudedKey w h st c = leafAt (sealedAt s c) ShroudedKey w h st
@@ -217,7 +217,7 @@ contentAt inner s Certificate w h st c = leafAt (typedAt true s c) Certificate w
 contentAt inner s Crl w h st c = leafAt (typedAt false s c) Crl w h st
 contentAt inner s Secret w h st c = leafAt (typedAt false s c) Secret w h st
 contentAt inner s Nested w h st c =
-    inner (place (w .safe) (Bag (length (st .bags)))) (addBag st (bagRow Nested (w .safe) (w .enclosing) noParts h) 3) c
+    inner (owner (w .safe) (Bag (length (st .bags)))) (addBag st (bagRow Nested (w .safe) (w .enclosing) noParts h) 3) c
 
 abbrev pub onKind : {A : Type 0} → BagKind → A → A → A
 onKind BagKind.None bad good = bad
@@ -229,7 +229,7 @@ onKind Secret bad good = good
 onKind Nested bad good = good
 
 -- "SafeBag: SEQUENCE of bagId, [0] (A0) with one element, and optionally SET (31) of attributes." A set stands there if [0] doesn't end the bag.
-unfoldable pub bagAt : (Place → Rows → Cursor → Walked) → List ℕ → Place → Rows → Cursor → Walked
+unfoldable pub bagAt : (Owner → Rows → Cursor → Walked) → List ℕ → Owner → Rows → Cursor → Walked
 bagAt inner s w st c =
     onElement (expectAt sequenceTag s c) Refused
     (λ t b n.
@@ -246,7 +246,7 @@ bagAt inner s w st c =
     onWalked (setAt s (length (st .bags)) st′ e) Refused (λ st″ h. Went st″ n)))))))
 
 -- "SafeContents: SEQUENCE of zero or more SafeBag", with l levels left; "safe contents of level 9" are 8
-unfoldable pub safeContentsAt : ℕ → List ℕ → Place → Rows → Cursor → Walked
+unfoldable pub safeContentsAt : ℕ → List ℕ → Owner → Rows → Cursor → Walked
 safeContentsAt zero s w st c = onElement (expectAt sequenceTag s c) Refused (λ t b n. Refused (fault tooMany (c .at)))
 safeContentsAt (suc l) s w st c =
     onElement (expectAt sequenceTag s c) Refused
@@ -267,7 +267,7 @@ dataAt inner s c =
 
 -- a plain safe: its row, counted with its SEQUENCE, identifier, [0] and OCTET STRING; then its bags
 unfoldable pub plainAt : List ℕ → Rows → Cursor → Walked
-plainAt s st c = dataAt (safeContentsAt levels s (place (length (st .safes)) Enclosing.None) (addSafe st (safeRow Plain noParts) 4)) s c
+plainAt s st c = dataAt (safeContentsAt levels s (owner (length (st .safes)) Enclosing.None) (addSafe st (safeRow Plain noParts) 4)) s c
 
 -- an encrypted safe: its parts, then its row, counted with its SEQUENCE, identifier and [0]
 unfoldable pub sealedSafeAt : List ℕ → Rows → Cursor → Walked
