@@ -2,20 +2,22 @@
 use mathlib.Core.Path.{_≡_, refl, sym, ap, _∙_}
 use mathlib.Core.List.{List, [], _∷_, _++_, append-nil}
 use mathlib.Core.Option.{some}
-use Prim.Native.Nat.{ℕ, _*_, _≤_}
+use Prim.Native.Nat.{ℕ, _*_, _≤_, _+_}
 use native.Mathlib.Omega.{arith}
 use lib.ListN.{length, take, length-append}
 use Rattle.der.specs.Span.{Bytes}
 use Rattle.der.specs.Tree.{elementsIn}
+use Rattle.der.proofs.Octets.{tlv-long}
 use Rattle.der.proofs.Trees.{trees-unique}
 use Rattle.pkcs12.specs.Syntax.{Pfx}
 use Rattle.pkcs12.specs.Encode.{encode}
 use Rattle.pkcs12.specs.Valid.{Valid, Opaques}
 use Rattle.pkcs12.specs.Elements.{opaqueCount, elements}
 use Rattle.pkcs12.specs.Table.{Rows, tableOf, rowsIn, valuesOf, readingOf}
-use Rattle.pkcs12.specs.Laid.{PfxLaid}
+use Rattle.pkcs12.specs.Laid.{ElementLaid, PfxLaid}
 use Rattle.pkcs12.specs.Accepted.{IsAccepted, Follows, tableFrom, readingFrom, endToEnd, Each}
 use Rattle.pkcs12.specs.Sound.{Sound}
+use Rattle.pkcs12.specs.declared.Range.{Range}
 use Rattle.pkcs12.specs.declared.Mac.{Mac}
 use Rattle.pkcs12.specs.declared.Table.{Table}
 use Rattle.pkcs12.proofs.Rows.{rows-tree}
@@ -179,3 +181,11 @@ opaque-elements x o = rw (← (o .whole)) (opaques-count (o .as-trees) (o .forme
 
 pub same-elements : (x : List ℕ) (o p : Opaques x) → o .as-trees ≡ p .as-trees
 same-elements x o p = trees-unique (o .as-trees) (p .as-trees) (o .formed) (p .formed) (o .whole ∙ sym (p .whole))
+
+-- ---- where an element stands
+
+pub element-within : (s : List ℕ) (from to t : ℕ) (r : Range) (x : List ℕ) → ElementLaid s from to t r x
+    → (from + 2 ≤ r .start) × (r .start ≤ r .end) × (r .end ≤ to)
+element-within s from to t r x l =
+    let n = tlv-long t x in
+    (omega (arith, l .element .size, l .body .size, l .ends), omega (arith, l .body .size), omega (arith, l .ends))

@@ -5,7 +5,7 @@ use mathlib.Core.Logic.{_↔_}
 use mathlib.Core.Path.{_≡_}
 use mathlib.Core.List.{List, [], _++_}
 use mathlib.Core.Option.{some}
-use Prim.Native.Nat.{ℕ, _*_, _≤_, _<_}
+use Prim.Native.Nat.{ℕ, _+_, _*_, _≤_, _<_}
 use lib.ListN.{length}
 use Rattle.der.specs.Span.{Bytes}
 use Rattle.der.specs.Tree.{elementsIn}
@@ -17,9 +17,10 @@ use Rattle.pkcs12.specs.Elements.{opaqueCount, elements}
 use Rattle.pkcs12.specs.Values.{Values, rowsOf, treeOf}
 use Rattle.pkcs12.specs.Table.{Rows, tableOf, emptyTable, withSafe, withBag, withAttribute, rowsIn}
 use Rattle.pkcs12.specs.Walk.{addSafe, addBag, addAttribute, readFile}
-use Rattle.pkcs12.specs.Laid.{PfxLaid}
+use Rattle.pkcs12.specs.Laid.{ElementLaid, PfxLaid}
 use Rattle.pkcs12.specs.Accepted.{IsAccepted, Follows, tableFrom, readingFrom, endToEnd, Each}
 use Rattle.pkcs12.specs.Sound.{Sound}
+use Rattle.pkcs12.specs.declared.Range.{Range}
 use Rattle.pkcs12.specs.declared.SafeRow.{SafeRow}
 use Rattle.pkcs12.specs.declared.BagRow.{BagRow}
 use Rattle.pkcs12.specs.declared.AttributeRow.{AttributeRow}
@@ -43,9 +44,14 @@ accepted-iff-follows f b = (corollaries.accepted-follows f b, λ p. corollaries.
 pub table-shows-reading : (f : List ℕ) → Bytes f → (x : Pfx) → Follows f x → readingFrom f ≡ some x
 table-shows-reading = corollaries.follows-reading
 
--- Every range lies within its parent's body, and holds what the reading has there.
+-- Every range lies within its parent's body, and holds what the reading has there: elements fill their parent's body one behind another, and an
+-- element's own body lies behind its header and within the places that the element fills.
 pub ranges-within-parents : (f : List ℕ) → Bytes f → (x : Pfx) → Follows f x → PfxLaid f (rowsIn (tableFrom f)) (tableFrom f .mac) x
 ranges-within-parents = corollaries.follows-laid
+
+pub body-within-element : (s : List ℕ) (from to t : ℕ) (r : Range) (x : List ℕ) → ElementLaid s from to t r x
+    → (from + 2 ≤ r .start) × (r .start ≤ r .end) × (r .end ≤ to)
+body-within-element = corollaries.element-within
 
 -- The element count is that of the reading, and at most half the length.
 pub element-count : (f : List ℕ) → Bytes f → (x : Pfx) → Follows f x → tableFrom f .elements ≡ elements x
