@@ -113,7 +113,7 @@ pub laid-at : {s : List ℕ} {from to t : ℕ} {r : Range} {x : List ℕ} (start
 laid-at start end d e l = rw (d, e) at l
 
 pub laid-to : {s : List ℕ} {from to t : ℕ} {r : Range} {x : List ℕ} (end : ℕ) → to ≡ end → ElementLaid s from to t r x → ElementLaid s from end t r x
-laid-to end e l = rw e at l
+laid-to end e l = laid-at _ end refl e l
 
 -- an element whose body isn't looked at
 pub closed-any : (s : List ℕ) (par : Range) (c : Cursor) (t : ℕ) (b n : Cursor) → In par c → HeaderIs s c t b n → Closed s par c t b n (bytesOf s b)

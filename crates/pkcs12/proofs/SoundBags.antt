@@ -34,7 +34,7 @@ use Rattle.pkcs12.specs.declared.BagRow.{BagRow}
 use Rattle.pkcs12.specs.declared.AttributeRow.{AttributeRow}
 use Rattle.pkcs12.proofs.Named.{by-kind}
 use Rattle.pkcs12.proofs.Parents.{by-expect, by-identifier, by-finish, In, in-body, finished, laid-at, Closed, closed, closed-any, closed-identifier}
-use Rattle.pkcs12.proofs.Grown.{Grown, grown-counting, grown-none, grown-then, grown-as, grown-bag, grown-bags}
+use Rattle.pkcs12.proofs.Grown.{Grown, grown-counting, grown-none, grown-then, grown-as, grown-bag, longer-length}
 use Rattle.pkcs12.proofs.Shown.{laid-bags-long}
 use Rattle.pkcs12.proofs.SoundParts.{OfParts, LeafIs, key-of, shrouded-of, typed-of}
 use Rattle.pkcs12.proofs.SoundAttributes.{OfWalked, by-walked, run-of, SetIs, set-of}
@@ -260,7 +260,7 @@ module _ (s : List ℕ) (bytes : Bytes s) where
           rows = a .rows ++ r .rows;
           own = a .own ++ r .own;
           valid = a .valid (r .value) (r .valid);
-          laid = a .laid (par .end) (r .value) (r .rows) (r .own) (rw (grown-bags st st′ [] (a .rows) (a .own) _ (a .grown)) at (r .laid));
+          laid = a .laid (par .end) (r .value) (r .rows) (r .own) (rw (longer-length bagRows _ _ (a .rows) (a .grown .bags)) at (r .laid));
           grown = rw (a .counted (r .value)) (grown-then st st′ st″ [] [] (a .rows) (r .rows) (a .own) (r .own) _ _ (a .grown) (r .grown));
           whole = rw (a .spelled (r .value)) (span-join s _ _ _ _ _ (a .whole) (r .whole));
         }

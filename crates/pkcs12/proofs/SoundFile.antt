@@ -106,8 +106,8 @@ module _ (s : List ℕ) (bytes : Bytes s) where
           string = rw (q .spelled) at (a .string);
           element = laid-to (a .octets .end) (a .filled) (q .child);
         };
-        laid = rw (g .safes, g .bags, g .attributes) (q .run .laid);
-        fits = g .fits (record { safes = omega arith; bags = omega arith; attributes = omega arith });
+        laid = rw (g .safes .lists, g .bags .lists, g .attributes .lists) (q .run .laid);
+        fits = record { safes = g .safes .fits (omega arith); bags = g .bags .fits (omega arith); attributes = g .attributes .fits (omega arith) };
         count = g .count;
         whole = u .whole;
         past = u .past;

@@ -14,7 +14,7 @@ use Rattle.der.specs.declared.Cursor.{Cursor}
 use Rattle.der.proofs.Choices.{by-test, by-le}
 use Rattle.der.proofs.Octets.{tlv-long}
 use Rattle.der.proofs.Spans.{span-empty, span-join, span-to}
-use Rattle.pkcs12.specs.Numbers.{safeRows, levels, sequenceTag, contextTag}
+use Rattle.pkcs12.specs.Numbers.{safeRows, bagRows, levels, sequenceTag, contextTag}
 use Rattle.pkcs12.specs.Identifiers.{dataType, encryptedType, envelopedType, sameBytes}
 use Rattle.pkcs12.specs.Syntax.{Bags, Safe, plain, encrypted}
 use Rattle.pkcs12.specs.Encode.{identifier, octetString, sequence, contentInfo, dataBytes, bagsBytes, safeBytes, safesBytes}
@@ -32,7 +32,7 @@ use Rattle.pkcs12.specs.declared.BagRow.{BagRow}
 use Rattle.pkcs12.specs.declared.AttributeRow.{AttributeRow}
 use Rattle.pkcs12.proofs.SameBytes.{same-is}
 use Rattle.pkcs12.proofs.Parents.{by-expect, by-identifier, by-finish, In, in-body, finished, laid-to, closed, closed-identifier}
-use Rattle.pkcs12.proofs.Grown.{Grown, grown-none, grown-then, grown-safe, grown-bags, grown-safes}
+use Rattle.pkcs12.proofs.Grown.{Grown, grown-none, grown-then, grown-safe, longer-length}
 use Rattle.pkcs12.proofs.Shown.{laid-bags-long}
 use Rattle.pkcs12.proofs.SoundParts.{by-parts}
 use Rattle.pkcs12.proofs.SoundOuter.{encryptedBytes, EncryptedIs, encrypted-of}
@@ -301,7 +301,7 @@ module _ (s : List ℕ) (bytes : Bytes s) where
         own = o .own ++ r .own;
         valid = o .valid (r .value) (r .valid);
         laid = o .laid (c .at) (n .at) (par .end) (a .laid) (r .value) (r .safes) (r .rows) (r .own)
-            (rw (grown-bags st st′ _ (o .rows) (o .own) _ (o .grown), grown-safes st st′ (o .row ∷ []) (o .rows) (o .own) _ (o .grown)) at (r .laid));
+            (rw (longer-length bagRows _ _ (o .rows) (o .grown .bags), longer-length safeRows _ _ (o .row ∷ []) (o .grown .safes)) at (r .laid));
         grown = rw (o .counted (r .value)) (grown-then st st′ st″ (o .row ∷ []) (r .safes) (o .rows) (r .rows) (o .own) (r .own) _ _ (o .grown) (r .grown));
         whole = rw (o .spelled (r .value)) (span-join s _ _ _ _ _ (a .whole) (r .whole));
       }
