@@ -35,6 +35,12 @@ identifier-of s c =
     (λ t b n p. by-test (OfIdentifier s c) _ _ (identifierBody (bytesOf s b)) (λ h. (p, h)) (λ h. tt))
     (expectAt identifierTag s c) refl
 
+-- an identifier that was accepted is an element that was found
+pub identified : (s : List ℕ) (c : Cursor) (w : Element) (t : ℕ) (b n : Cursor) → w ≡ identifierAt s c → w ≡ Found t b n → elementAt s c ≡ Found t b n
+identified s c w t b n p q =
+    let o = rw (sym p ∙ q) at (identifier-of s c) in
+    expected identifierTag s c (expectAt identifierTag s c) t b n refl (o .0) .1
+
 pub identifier-sound : (s : List ℕ) (c : Cursor) (t : ℕ) (b n : Cursor) → Bytes s → identifierAt s c ≡ Found t b n → IdentifierIs s c t b n
 identifier-sound s c t b n bs e =
     let p = rw e at (identifier-of s c) in

@@ -33,6 +33,27 @@ pub const CONTEXT_0: u8 = 0xA0;
 
 pub const CIPHERTEXT: u8 = 0x80;
 
+// The versions of a PFX and of EncryptedData; that of an EncryptedData with attributes, which isn't served.
+pub const PFX_VERSION: u32 = 3;
+
+pub const ENCRYPTED_VERSION: u32 = 0;
+
+pub const ATTRIBUTED_VERSION: u32 = 2;
+
+// The iterations where none are written.
+pub const DEFAULT_ITERATIONS: u32 = 1;
+
+// The identifiers of content types, and of the type of an X.509 certificate, by their bodies.
+pub const DATA: [u8; 9] = *b"\x2A\x86\x48\x86\xF7\x0D\x01\x07\x01";
+
+pub const SIGNED_DATA: [u8; 9] = *b"\x2A\x86\x48\x86\xF7\x0D\x01\x07\x02";
+
+pub const ENVELOPED_DATA: [u8; 9] = *b"\x2A\x86\x48\x86\xF7\x0D\x01\x07\x03";
+
+pub const ENCRYPTED_DATA: [u8; 9] = *b"\x2A\x86\x48\x86\xF7\x0D\x01\x07\x06";
+
+pub const X509_CERTIFICATE: [u8; 10] = *b"\x2A\x86\x48\x86\xF7\x0D\x01\x09\x16\x01";
+
 // A range start..end has the bytes start up to end-1.
 pub struct Range {
     pub start: u16,

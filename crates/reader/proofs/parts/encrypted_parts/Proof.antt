@@ -1,0 +1,37 @@
+use borrow.Author.Needs.{needs}
+use Rattle.der.proofs.Choices.{choices}
+use Rattle.reader.specs.Steps.{encryptedPartsAt}
+use Rattle.reader.proofs.Rules.{answers, rooms}
+use Rattle.reader.proofs.parts.encrypted_parts.Statement.{statement}
+use Rattle.reader.proofs.parts.encrypted_parts.Tie as tie
+
+algorithm-requires : tie.Need-algorithm-requires
+algorithm-requires c κs = search needs
+
+enum-known-f : tie.Need-enum-known-f
+enum-known-f c = search needs
+
+enum-known-parts : tie.Need-enum-known-parts
+enum-known-parts c = search needs
+
+ciphertext-requires : tie.Need-ciphertext-requires
+ciphertext-requires c κs = search (needs, rooms)
+
+returns : tie.Need-returns
+unfolding encryptedPartsAt
+returns c = search (choices, answers) depth 14
+
+returns-2 : tie.Need-returns-2
+unfolding encryptedPartsAt
+returns-2 c = search (choices, answers) depth 14
+
+pub encrypted-parts-spec : {M : Type 1} → statement M
+encrypted-parts-spec =
+    tie.close
+    (tie.spec
+    algorithm-requires
+    enum-known-f
+    enum-known-parts
+    ciphertext-requires
+    returns
+    returns-2)

@@ -1,0 +1,58 @@
+use borrow.Author.Needs.{needs}
+use Rattle.der.proofs.Choices.{choices}
+use Rattle.reader.specs.Steps.{octetsAt}
+use Rattle.reader.proofs.Rules.{answers, rooms}
+use Rattle.reader.proofs.parts.octets.Statement.{statement}
+use Rattle.reader.proofs.parts.octets.Tie as tie
+
+octet-string-requires : tie.Need-octet-string-requires
+octet-string-requires c κs = search needs
+
+enum-known-f : tie.Need-enum-known-f
+enum-known-f c = search needs
+
+enum-known-body : tie.Need-enum-known-body
+enum-known-body c = search needs
+
+finish-requires : tie.Need-finish-requires
+finish-requires c κs = search needs
+
+enum-known-f-2 : tie.Need-enum-known-f-2
+enum-known-f-2 c = search needs
+
+enum-told : tie.Need-enum-told
+enum-told c = search needs
+
+range-of-requires : tie.Need-range-of-requires
+range-of-requires c κs = search (needs, rooms)
+
+add-more : tie.Need-add-more
+add-more c = search needs
+
+returns : tie.Need-returns
+unfolding octetsAt
+returns c = search (choices, answers) depth 14
+
+returns-2 : tie.Need-returns-2
+unfolding octetsAt
+returns-2 c = search (choices, answers) depth 14
+
+returns-3 : tie.Need-returns-3
+unfolding octetsAt
+returns-3 c = search (choices, answers) depth 14
+
+pub octets-spec : {M : Type 1} → statement M
+octets-spec =
+    tie.close
+    (tie.spec
+    octet-string-requires
+    enum-known-f
+    enum-known-body
+    finish-requires
+    enum-known-f-2
+    enum-told
+    range-of-requires
+    add-more
+    returns
+    returns-2
+    returns-3)

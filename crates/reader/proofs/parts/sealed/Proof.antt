@@ -1,0 +1,55 @@
+use borrow.Author.Needs.{needs}
+use Rattle.der.proofs.Choices.{choices}
+use Rattle.pkcs12.specs.Walk.{sealedAt}
+use Rattle.reader.specs.Steps.{octetsAt}
+use Rattle.reader.proofs.Rules.{answers, rooms}
+use Rattle.reader.proofs.parts.sealed.Statement.{statement}
+use Rattle.reader.proofs.parts.sealed.Tie as tie
+
+expect-requires : tie.Need-expect-requires
+expect-requires c κs = search needs
+
+enum-known-f : tie.Need-enum-known-f
+enum-known-f c = search needs
+
+enum-known-body : tie.Need-enum-known-body
+enum-known-body c = search needs
+
+algorithm-requires : tie.Need-algorithm-requires
+algorithm-requires c κs = search needs
+
+enum-known-f-2 : tie.Need-enum-known-f-2
+enum-known-f-2 c = search needs
+
+enum-known-parts : tie.Need-enum-known-parts
+enum-known-parts c = search needs
+
+octets-requires : tie.Need-octets-requires
+octets-requires c κs = search (needs, rooms)
+
+returns : tie.Need-returns
+unfolding sealedAt octetsAt
+returns c = search (choices, answers) depth 14
+
+returns-2 : tie.Need-returns-2
+unfolding sealedAt octetsAt
+returns-2 c = search (choices, answers) depth 14
+
+returns-3 : tie.Need-returns-3
+unfolding sealedAt octetsAt
+returns-3 c = search (choices, answers) depth 14
+
+pub sealed-spec : {M : Type 1} → statement M
+sealed-spec =
+    tie.close
+    (tie.spec
+    expect-requires
+    enum-known-f
+    enum-known-body
+    algorithm-requires
+    enum-known-f-2
+    enum-known-parts
+    octets-requires
+    returns
+    returns-2
+    returns-3)

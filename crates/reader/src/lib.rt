@@ -1,0 +1,2 @@
+// Reads a PKCS #12 file into a table.
+mod parts;
