@@ -321,7 +321,9 @@ impl Cursor {
     {
         let at = self.at;
         let end = self.end;
-        if no_byte_left(s, self) {
+        // two numbers, not `self`: then they stay in registers
+        let here = Cursor { at, end };
+        if no_byte_left(s, here) {
             return Element::Refused(Fault {
                 number: MISSING,
                 offset: end,

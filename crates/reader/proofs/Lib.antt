@@ -1,2 +1,3 @@
 pub mod Past
 pub mod Rules
+pub mod Heads

@@ -6,10 +6,10 @@ use mathlib.Core.List.{List, [], _∷_}
 use Prim.Native.Nat.{ℕ, zero, suc, _+_, _-_, _≤_}
 use native.Mathlib.Omega.{arith}
 use native.Mathlib.Numerals.{unary-clauses}
-use lib.Dec.{leb}
+use lib.Dec.{leb, eqb}
 use lib.ListN.{length, take, drop}
 use lib.Seq.{slice}
-use borrow.Author.Tests.{leb-true}
+use borrow.Author.Tests.{leb-true, eq-eqb, ne-eqb}
 use mir.Val.{Fits}
 use mir.Syntax.{w64}
 use Rattle.der.specs.Choice.{if_then_else_}
@@ -28,7 +28,7 @@ use Rattle.der.proofs.Values.{identified}
 use Rattle.der.proofs.Opaque.{Went as One, went}
 use Rattle.pkcs12.specs.Numbers.{fileBytes, sequenceTag, contextTag}
 use Rattle.pkcs12.specs.Identifiers.{sameBytes, x509Certificate}
-use Rattle.pkcs12.specs.Walk.{onParts, onMac, algorithmAt, valueAt, typedAt, encryptedInfoAt}
+use Rattle.pkcs12.specs.Walk.{onParts, onMac, algorithmAt, valueAt, typedAt, encryptedInfoAt, iterationsAt}
 use Rattle.pkcs12.specs.Table.{parts}
 use Rattle.pkcs12.specs.declared.Range.{Range}
 use Rattle.pkcs12.specs.declared.Parts.{Parts}
@@ -56,6 +56,23 @@ module _ {A : Type 0} where
       → w ≡ v → w ≡ MacAt.Found x k n → r ≡ good x k n → r ≡ onMac v bad good
   mac-found v w x k n r bad good p q e = rw (sym p ∙ q) e
 
+
+-- a test of what a callee gave: u is its answer
+module _ {A : Type 0} where
+  pub given-eq : (a b u : ℕ) (r x y : A) → u ≡ a → u ≡ b → r ≡ x → r ≡ (if eqb a b then x else y)
+  given-eq a b u r x y p q e = rw (eq-eqb a b (sym p ∙ q)) e
+
+  pub given-ne : (a b u : ℕ) (r x y : A) → u ≡ a → (u ≡ b → ⊥) → r ≡ y → r ≡ (if eqb a b then x else y)
+  given-ne a b u r x y p q e = rw (ne-eqb a b (λ z. q (p ∙ z))) e
+
+  -- the iterations behind a salt, whose range the code made
+  pub salted-refused : (s : List ℕ) (p : Parts) (x y : Range) (k : ℕ) (c : Cursor) (w : MacAt) (f : Fault) (r : A) (bad : Fault → A) (good : Mac → ℕ → Cursor → A)
+      → w ≡ iterationsAt s p x k c → x ≡ y → w ≡ MacAt.Refused f → r ≡ bad f → r ≡ onMac (iterationsAt s p y k c) bad good
+  salted-refused s p x y k c w f r bad good e z q h = rw (← z, ← e, q) h
+
+  pub salted-found : (s : List ℕ) (p : Parts) (x y : Range) (k : ℕ) (c : Cursor) (w : MacAt) (m : Mac) (j : ℕ) (n : Cursor) (r : A) (bad : Fault → A) (good : Mac → ℕ → Cursor → A)
+      → w ≡ iterationsAt s p x k c → x ≡ y → w ≡ MacAt.Found m j n → r ≡ good m j n → r ≡ onMac (iterationsAt s p y k c) bad good
+  salted-found s p x y k c w m j n r bad good e z q h = rw (← z, ← e, q) h
 
 -- The body of an element in a file that isn't too long has room in a range.
 module _ (s : List ℕ) (c : Cursor) (w : Element) (t : ℕ) (b n : Cursor) where
@@ -113,7 +130,7 @@ module _ (s : List ℕ) (c : Cursor) (w : Checked) (m : ℕ) (n : Cursor) where
   value-fits u k p q h l = one-fits s c m n (valued u s c w m n p q) h k l
 
 -- the count of parts that were found, in such a file
-small : (s : List ℕ) (c : Cursor) (k : ℕ) (n : Cursor) → Past s c 0 k n → length s ≤ fileBytes → k ≤ fileBytes
+pub small : (s : List ℕ) (c : Cursor) (k : ℕ) (n : Cursor) → Past s c 0 k n → length s ≤ fileBytes → k ≤ fileBytes
 small s c k n p h = omega (arith, p .long, p .within, p .inside)
 
 module _ (s : List ℕ) (c : Cursor) (w : PartsAt) (p : Parts) (k : ℕ) (n : Cursor) where

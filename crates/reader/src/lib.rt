@@ -1,2 +1,5 @@
 // Reads a PKCS #12 file into a table.
+mod bags;
+mod file;
 mod parts;
+mod safes;

@@ -1,0 +1,161 @@
+-- The same rules for what stands before rows: bags, sets, safes and the file around them.
+use mathlib.Core.Path.{_≡_, refl, sym, _∙_}
+use mathlib.Core.Bool.{Bool, true, false}
+use mathlib.Core.List.{List}
+use Prim.Native.Nat.{ℕ, _+_, _≤_}
+use native.Mathlib.Omega.{arith}
+use lib.Dec.{leb}
+use lib.ListN.{length}
+use borrow.Author.Tests.{leb-true}
+use mir.Val.{Fits}
+use mir.Syntax.{w64}
+use Rattle.der.specs.Choice.{if_then_else_}
+use Rattle.der.specs.Numbers.{opaqueLevels}
+use Rattle.der.specs.Element.{fault, expectAt}
+use Rattle.der.specs.Opaque.{elementsAt}
+use Rattle.der.specs.declared.Fault.{Fault}
+use Rattle.der.specs.declared.Cursor.{Cursor}
+use Rattle.der.specs.declared.Element.{Element}
+use Rattle.der.specs.declared.Element.the-variants.{Found}
+use Rattle.der.specs.declared.Checked.{Checked}
+use Rattle.der.specs.declared.Checked.the-variants.{Passed}
+use Rattle.der.proofs.Placed.{found, expected}
+use Rattle.der.proofs.Opaque.{ran}
+use Rattle.pkcs12.specs.Numbers.{fileBytes, notServed}
+use Rattle.pkcs12.specs.Walk.{sealedAt, keyAt, typedAt, encryptedAt, onKind, onAnswer}
+use Rattle.pkcs12.specs.declared.Parts.{Parts}
+use Rattle.pkcs12.specs.declared.PartsAt.{PartsAt}
+use Rattle.pkcs12.specs.declared.BagKind.{BagKind}
+use Rattle.pkcs12.specs.declared.BagKind.the-variants.{Key, ShroudedKey, Certificate, Crl, Secret, Nested}
+use Rattle.pkcs12.specs.declared.Answer.{Answer}
+use Rattle.pkcs12.specs.declared.Answer.the-variants.{Accepted}
+use Rattle.reader.specs.Steps.{SmallParts, onSet, onBag, leafOf, bagValueAt, onOctets, onContents, onOuter, onOpened}
+use Rattle.reader.specs.declared.bags.Set.{Set}
+use Rattle.reader.specs.declared.bags.Bag.{Bag}
+use Rattle.reader.specs.declared.safes.Octets.{Octets}
+use Rattle.reader.specs.declared.safes.Contents.{Contents}
+use Rattle.reader.specs.declared.file.Outer.{Outer}
+use Rattle.reader.specs.declared.file.Opened.{Opened}
+use Rattle.reader.proofs.Past.{Past, key-past, sealed-past, typed-past, encrypted-past}
+use Rattle.reader.proofs.Rules.{small}
+
+module _ {A : Type 0} (r : A) (bad : Fault → A) where
+  pub set-refused : (v w : Set) (f : Fault) (none : A) (good : Cursor → Cursor → A) → w ≡ v → w ≡ Set.Refused f → r ≡ bad f → r ≡ onSet v bad none good
+  set-refused v w f none good p q e = rw (sym p ∙ q) e
+
+  pub set-none : (v w : Set) (none : A) (good : Cursor → Cursor → A) → w ≡ v → w ≡ Set.None → r ≡ none → r ≡ onSet v bad none good
+  set-none v w none good p q e = rw (sym p ∙ q) e
+
+  pub set-found : (v w : Set) (b n : Cursor) (none : A) (good : Cursor → Cursor → A) → w ≡ v → w ≡ Set.Found b n → r ≡ good b n → r ≡ onSet v bad none good
+  set-found v w b n none good p q e = rw (sym p ∙ q) e
+
+  pub octets-refused : (v w : Octets) (f : Fault) (good : Cursor → Cursor → Cursor → A) → w ≡ v → w ≡ Octets.Refused f → r ≡ bad f → r ≡ onOctets v bad good
+  octets-refused v w f good p q e = rw (sym p ∙ q) e
+
+  pub octets-found : (v w : Octets) (o f e : Cursor) (good : Cursor → Cursor → Cursor → A) → w ≡ v → w ≡ Octets.Found o f e → r ≡ good o f e → r ≡ onOctets v bad good
+  octets-found v w o f e good p q h = rw (sym p ∙ q) h
+
+  pub outer-refused : (v w : Outer) (f : Fault) (good : Cursor → Cursor → A) → w ≡ v → w ≡ Outer.Refused f → r ≡ bad f → r ≡ onOuter v bad good
+  outer-refused v w f good p q e = rw (sym p ∙ q) e
+
+  pub outer-found : (v w : Outer) (m n : Cursor) (good : Cursor → Cursor → A) → w ≡ v → w ≡ Outer.Found m n → r ≡ good m n → r ≡ onOuter v bad good
+  outer-found v w m n good p q e = rw (sym p ∙ q) e
+
+  pub answer-refused : (a : Answer) (f : Fault) (good : A) → a ≡ Answer.Refused f → r ≡ bad f → r ≡ onAnswer a bad good
+  answer-refused a f good p e = rw p e
+
+  pub answer-accepted : (a : Answer) (good : A) → a ≡ Accepted → r ≡ good → r ≡ onAnswer a bad good
+  answer-accepted a good p e = rw p e
+
+pub ruleset heads = (set-refused, set-none, set-found, octets-refused, octets-found, outer-refused, outer-found, answer-refused, answer-accepted)
+
+-- the values of an attribute, in a file that isn't too long: their count with k more
+pub elements-fits : (s : List ℕ) (due : ℕ) (c : Cursor) (x : Element) (t : ℕ) (b n : Cursor) (w : Checked) (m : ℕ) (e : Cursor) (k : ℕ)
+    → w ≡ elementsAt opaqueLevels s b → w ≡ Passed m e → x ≡ expectAt due s c → x ≡ Found t b n → length s ≤ fileBytes → leb k 16 ≡ true → Fits w64 (m + k)
+elements-fits s due c x t b n w m e k p q f g h l =
+    let o = found s c _ t b n refl (expected due s c x t b n f g .1) in
+    let r = ran opaqueLevels s b w m e p q in
+    omega (arith, o .body .size, o .body .within, o .inside, r .long, r .stop (o .body .size), leb-true k 16 l)
+
+-- the value of a bag of each kind has room for three more
+module _ (s : List ℕ) (c : Cursor) (w : PartsAt) (h : length s ≤ fileBytes) where
+  past-small : ((p : Parts) (k : ℕ) (n : Cursor) → w ≡ PartsAt.Found p k n → Past s c 0 k n) → SmallParts w
+  past-small past = go w refl
+    where
+      go : (x : PartsAt) → w ≡ x → SmallParts x
+      go (PartsAt.Refused f) e = tt
+      go (PartsAt.Found p k n) e = small s c k n (past p k n e) h
+
+module _ (s : List ℕ) (c : Cursor) (w : PartsAt) where
+  pub key-small : w ≡ keyAt s c → length s ≤ fileBytes → SmallParts w
+  key-small e h = past-small s c w h (λ p k n f. key-past s c w p k n e f)
+
+  pub sealed-small : w ≡ sealedAt s c → length s ≤ fileBytes → SmallParts w
+  sealed-small e h = past-small s c w h (λ p k n f. sealed-past s c w p k n e f)
+
+  pub typed-small : (u : Bool) → w ≡ typedAt u s c → length s ≤ fileBytes → SmallParts w
+  typed-small u e h = past-small s c w h (λ p k n f. typed-past u s c w p k n e f)
+
+pub ruleset small-values = (key-small, sealed-small, typed-small)
+
+pub leaf-fits : (w : PartsAt) (p : Parts) (k : ℕ) (n : Cursor) → SmallParts w → w ≡ PartsAt.Found p k n → Fits w64 (k + 3)
+leaf-fits w p k n h e = let o : k ≤ fileBytes = rw e at h in omega (arith, o)
+
+pub encrypted-fits : (s : List ℕ) (c : Cursor) (w : PartsAt) (p : Parts) (k : ℕ) (n : Cursor) → w ≡ encryptedAt s c → w ≡ PartsAt.Found p k n → length s ≤ fileBytes → Fits w64 (k + 3)
+encrypted-fits s c w p k n e f h = let o = small s c k n (encrypted-past s c w p k n e f) h in omega (arith, o)
+
+pub sealed-count : (s : List ℕ) (c : Cursor) (w : PartsAt) (p : Parts) (k : ℕ) (n : Cursor) → w ≡ sealedAt s c → w ≡ PartsAt.Found p k n → length s ≤ fileBytes → k ≤ fileBytes
+sealed-count s c w p k n e f h = small s c k n (sealed-past s c w p k n e f) h
+
+-- what stands in [0], by the kind that the code matched on; x is what was read there
+module _ (s : List ℕ) (kind : BagKind) (v e n : Cursor) (r : Bag) where
+  pub value-none : kind ≡ BagKind.None → r ≡ Bag.Refused (fault notServed (v .at)) → r ≡ bagValueAt s kind v e n
+  unfolding bagValueAt
+  value-none p q = rw p q
+
+  pub value-nested : kind ≡ Nested → r ≡ Bag.Nested v e n → r ≡ bagValueAt s kind v e n
+  unfolding bagValueAt
+  value-nested p q = rw p q
+
+  module _ (x : PartsAt) where
+    pub value-key : kind ≡ Key → x ≡ keyAt s v → r ≡ leafOf kind x e n → r ≡ bagValueAt s kind v e n
+    unfolding bagValueAt
+    value-key p y q = rw p (q ∙ rw (p, y))
+
+    pub value-shrouded : kind ≡ ShroudedKey → x ≡ sealedAt s v → r ≡ leafOf kind x e n → r ≡ bagValueAt s kind v e n
+    unfolding bagValueAt
+    value-shrouded p y q = rw p (q ∙ rw (p, y))
+
+    pub value-certificate : kind ≡ Certificate → x ≡ typedAt true s v → r ≡ leafOf kind x e n → r ≡ bagValueAt s kind v e n
+    unfolding bagValueAt
+    value-certificate p y q = rw p (q ∙ rw (p, y))
+
+    pub value-crl : kind ≡ Crl → x ≡ typedAt false s v → r ≡ leafOf kind x e n → r ≡ bagValueAt s kind v e n
+    unfolding bagValueAt
+    value-crl p y q = rw p (q ∙ rw (p, y))
+
+    pub value-secret : kind ≡ Secret → x ≡ typedAt false s v → r ≡ leafOf kind x e n → r ≡ bagValueAt s kind v e n
+    unfolding bagValueAt
+    value-secret p y q = rw p (q ∙ rw (p, y))
+
+pub ruleset values = (value-none, value-nested, value-key, value-shrouded, value-certificate, value-crl, value-secret)
+
+-- the kind kd that a bagId named, and what the code found out about it
+kind-cases : {A : Type 0} (kd : BagKind) (bad good : A) → onKind kd bad good ≡ (if onKind kd true false then bad else good)
+kind-cases BagKind.None bad good = refl
+kind-cases Key bad good = refl
+kind-cases ShroudedKey bad good = refl
+kind-cases Certificate bad good = refl
+kind-cases Crl bad good = refl
+kind-cases Secret bad good = refl
+kind-cases Nested bad good = refl
+
+module _ {A : Type 0} where
+  pub kind-none : (k kd : BagKind) (u : Bool) (r bad good : A) → kd ≡ k → u ≡ onKind kd true false → u ≡ true → r ≡ bad → r ≡ onKind k bad good
+  kind-none k kd u r bad good p q t e = rw (← p, kind-cases kd bad good, ← q, t) e
+
+  pub kind-some : (k kd : BagKind) (u : Bool) (r bad good : A) → kd ≡ k → u ≡ onKind kd true false → u ≡ false → r ≡ good → r ≡ onKind k bad good
+  kind-some k kd u r bad good p q t e = rw (← p, kind-cases kd bad good, ← q, t) e
+
+pub kind-given : (s : List ℕ) (k kd : BagKind) (v e n : Cursor) (r : Bag) → kd ≡ k → r ≡ bagValueAt s kd v e n → r ≡ bagValueAt s k v e n
+kind-given s k kd v e n r p q = rw (← p) q

@@ -1,0 +1,80 @@
+use borrow.Author.Needs.{needs}
+use Rattle.der.proofs.Choices.{choices}
+use Rattle.reader.specs.Steps.{attributeValuesAt}
+use Rattle.reader.proofs.Rules.{answers, rooms}
+use Rattle.reader.proofs.Heads.{elements-fits}
+use Rattle.reader.proofs.bags.attribute_values.Statement.{statement}
+use Rattle.reader.proofs.bags.attribute_values.Tie as tie
+
+expect-requires : tie.Need-expect-requires
+expect-requires c κs = search needs
+
+enum-known-f : tie.Need-enum-known-f
+enum-known-f c = search needs
+
+enum-known-body : tie.Need-enum-known-body
+enum-known-body c = search needs
+
+elements-requires : tie.Need-elements-requires
+elements-requires c κs = search needs
+
+enum-known-f-2 : tie.Need-enum-known-f-2
+enum-known-f-2 c = search needs
+
+enum-known-count : tie.Need-enum-known-count
+enum-known-count c = search needs
+
+finish-requires : tie.Need-finish-requires
+finish-requires c κs = search needs
+
+enum-known-f-3 : tie.Need-enum-known-f-3
+enum-known-f-3 c = search needs
+
+enum-told : tie.Need-enum-told
+enum-told c = search needs
+
+range-of-requires : tie.Need-range-of-requires
+range-of-requires c κs = search needs
+
+range-of-requires-2 : tie.Need-range-of-requires-2
+range-of-requires-2 c κs = search (needs, rooms)
+
+add-more : tie.Need-add-more
+add-more c = search elements-fits
+
+returns : tie.Need-returns
+unfolding attributeValuesAt
+returns c = search (choices, answers) depth 14
+
+returns-2 : tie.Need-returns-2
+unfolding attributeValuesAt
+returns-2 c = search (choices, answers) depth 14
+
+returns-3 : tie.Need-returns-3
+unfolding attributeValuesAt
+returns-3 c = search (choices, answers) depth 14
+
+returns-4 : tie.Need-returns-4
+unfolding attributeValuesAt
+returns-4 c = search (choices, answers) depth 14
+
+pub attribute-values-spec : {M : Type 1} → statement M
+attribute-values-spec =
+    tie.close
+    (tie.spec
+    expect-requires
+    enum-known-f
+    enum-known-body
+    elements-requires
+    enum-known-f-2
+    enum-known-count
+    finish-requires
+    enum-known-f-3
+    enum-told
+    range-of-requires
+    range-of-requires-2
+    add-more
+    returns
+    returns-2
+    returns-3
+    returns-4)

@@ -1,0 +1,217 @@
+// Bags and their attributes up to the rows that they make: each function gives what stands at the cursor, or the first fault.
+ghost use mathlib.Core.Bool.{true, false};
+ghost use mathlib.Core.Path.{_≡_};
+ghost use Prim.Native.Nat.{_≤_};
+ghost use lib.ListN.{length};
+ghost use Rattle.der.specs.Content.{bytesOf};
+ghost use Rattle.pkcs12.specs.Numbers.{fileBytes};
+ghost use Rattle.pkcs12.specs.Identifiers.{kindOf};
+ghost use Rattle.pkcs12.specs.Walk.{onKind};
+ghost use Rattle.reader.specs.Steps.{SmallParts, attributeValuesAt, attributePartsAt, setHeadAt, leafOf, bagValueAt, bagOfAt, bagHeadAt};
+use crate::parts;
+use der::Checked;
+use der::Cursor;
+use der::Element;
+use der::Fault;
+use pkcs12::BagKind;
+use pkcs12::Parts;
+use pkcs12::PartsAt;
+use pkcs12::Range;
+
+// What stands in a bag before its attributes.
+enum Bag {
+    Leaf {
+        kind: BagKind,
+        parts: Parts,
+        count: usize,
+        end: Cursor,
+        set: Cursor,
+        next: Cursor,
+    },
+    Nested {
+        content: Cursor,
+        set: Cursor,
+        next: Cursor,
+    },
+    Refused(Fault),
+}
+
+// Where the attributes of a bag stand.
+enum Set {
+    None,
+    Found { body: Cursor, next: Cursor },
+    Refused(Fault),
+}
+
+// The values of an attribute whose identifier has body i; n is past the attribute.
+fn attribute_values(s: &[u8], i: Cursor, m: Cursor, n: Cursor) -> PartsAt
+    requires { ⌜ (length (now s) ≤ fileBytes) × (i .at ≤ i .end) × (i .end ≤ length (now s)) ⌝ }
+    ensures { λ r. ⌜ r ≡ attributeValuesAt (now (s .entry)) i m n ⌝ }
+{
+    match m.expect(s, pkcs12::SET) {
+        Element::Refused(f) => PartsAt::Refused(f),
+        Element::Found { tag: _, body, next } => match body.elements(s, der::OPAQUE_LEVELS) {
+            Checked::Refused(f) => PartsAt::Refused(f),
+            Checked::Passed { count, next: _ } => match next.finish() {
+                Checked::Refused(f) => PartsAt::Refused(f),
+                Checked::Passed { count: _, next: _ } => {
+                    let identifier = parts::range_of(i);
+                    let parameters = Range::EMPTY;
+                    let value = parts::range_of(body);
+                    let parts = Parts { identifier, parameters, value };
+                    let more = count + 3;
+                    PartsAt::Found { parts, count: more, next: n }
+                }
+            },
+        },
+    }
+}
+
+// An attribute, where the table has room for it.
+fn attribute(s: &[u8], full: bool, c: Cursor) -> PartsAt
+    requires { ⌜ length (now s) ≤ fileBytes ⌝ }
+    ensures { λ r. ⌜ r ≡ attributePartsAt (now (s .entry)) full c ⌝ }
+{
+    match c.expect(s, pkcs12::SEQUENCE) {
+        Element::Refused(f) => PartsAt::Refused(f),
+        Element::Found { tag: _, body, next } => {
+            if full {
+                let at = c.at;
+                return PartsAt::Refused(Fault {
+                    number: der::TOO_MANY,
+                    offset: at,
+                });
+            }
+            match body.identifier(s) {
+                Element::Refused(f) => PartsAt::Refused(f),
+                Element::Found { tag: _, body: i, next: m } => attribute_values(s, i, m, next),
+            }
+        }
+    }
+}
+
+// Where the set stands behind [0], whose element ends at e.
+fn set_at(s: &[u8], e: Cursor, c: Cursor) -> Set
+    ensures { λ r. ⌜ r ≡ setHeadAt (now (s .entry)) e c ⌝ }
+{
+    match e.finish() {
+        Checked::Refused(f) => Set::Refused(f),
+        Checked::Passed { count: _, next: _ } => {
+            if c.tag(s) == pkcs12::SET {
+                return match c.expect(s, pkcs12::SET) {
+                    Element::Refused(f) => Set::Refused(f),
+                    Element::Found { tag: _, body, next } => Set::Found { body, next },
+                };
+            }
+            match c.finish() {
+                Checked::Refused(f) => Set::Refused(f),
+                Checked::Passed { count: _, next: _ } => Set::None,
+            }
+        }
+    }
+}
+
+// A bag that holds no bags, from the parts of its value.
+fn leaf(kind: BagKind, value: PartsAt, set: Cursor, next: Cursor) -> Bag
+    requires { ⌜ SmallParts value ⌝ }
+    ensures { λ r. ⌜ r ≡ leafOf kind value set next ⌝ }
+{
+    match value {
+        PartsAt::Refused(f) => Bag::Refused(f),
+        PartsAt::Found { parts, count, next: end } => {
+            let more = count + 3;
+            Bag::Leaf { kind, parts, count: more, end, set, next }
+        }
+    }
+}
+
+// What stands in [0], with body v, of a bag of this kind.
+fn bag_value(s: &[u8], kind: BagKind, v: Cursor, set: Cursor, next: Cursor) -> Bag
+    requires { ⌜ length (now s) ≤ fileBytes ⌝ }
+    ensures { λ r. ⌜ r ≡ bagValueAt (now (s .entry)) kind v set next ⌝ }
+{
+    match kind {
+        BagKind::None => {
+            let at = v.at;
+            Bag::Refused(Fault {
+                number: pkcs12::NOT_SERVED,
+                offset: at,
+            })
+        }
+        BagKind::Key => leaf(kind, parts::key(s, v), set, next),
+        BagKind::ShroudedKey => leaf(kind, parts::sealed(s, v), set, next),
+        BagKind::Certificate => leaf(kind, parts::typed(true, s, v), set, next),
+        BagKind::Crl => leaf(kind, parts::typed(false, s, v), set, next),
+        BagKind::Secret => leaf(kind, parts::typed(false, s, v), set, next),
+        BagKind::Nested => Bag::Nested { content: v, set, next },
+    }
+}
+
+// The kind that a bagId names, with body i.
+fn kind_of(s: &[u8], i: Cursor) -> BagKind
+    requires { ⌜ (i .at ≤ i .end) × (i .end ≤ length (now s)) ⌝ }
+    ensures { λ r. ⌜ r ≡ kindOf (bytesOf (now (s .entry)) i) ⌝ }
+{
+    let from = i.at;
+    let to = i.end;
+    BagKind::of(&s[from..to])
+}
+
+// Whether a bagId names no kind.
+fn is_none(kind: BagKind) -> bool
+    ensures { λ r. ⌜ r ≡ onKind kind true false ⌝ }
+{
+    match kind {
+        BagKind::None => true,
+        BagKind::Key => false,
+        BagKind::ShroudedKey => false,
+        BagKind::Certificate => false,
+        BagKind::Crl => false,
+        BagKind::Secret => false,
+        BagKind::Nested => false,
+    }
+}
+
+// The bag whose bagId stands at `at`, with body i; n is past the bag.
+fn bag_of(s: &[u8], at: usize, i: Cursor, m: Cursor, n: Cursor) -> Bag
+    requires { ⌜ (length (now s) ≤ fileBytes) × (i .at ≤ i .end) × (i .end ≤ length (now s)) ⌝ }
+    ensures { λ r. ⌜ r ≡ bagOfAt (now (s .entry)) at i m n ⌝ }
+{
+    let kind = kind_of(s, i);
+    if is_none(kind) {
+        return Bag::Refused(Fault {
+            number: pkcs12::NOT_SERVED,
+            offset: at,
+        });
+    }
+    match m.expect(s, pkcs12::CONTEXT_0) {
+        Element::Refused(f) => Bag::Refused(f),
+        Element::Found { tag: _, body, next } => bag_value(s, kind, body, next, n),
+    }
+}
+
+// A bag up to its attributes, where the table has room for it.
+fn bag_at(s: &[u8], full: bool, c: Cursor) -> Bag
+    requires { ⌜ length (now s) ≤ fileBytes ⌝ }
+    ensures { λ r. ⌜ r ≡ bagHeadAt (now (s .entry)) full c ⌝ }
+{
+    match c.expect(s, pkcs12::SEQUENCE) {
+        Element::Refused(f) => Bag::Refused(f),
+        Element::Found { tag: _, body, next } => {
+            if full {
+                let at = c.at;
+                return Bag::Refused(Fault {
+                    number: der::TOO_MANY,
+                    offset: at,
+                });
+            }
+            match body.identifier(s) {
+                Element::Refused(f) => Bag::Refused(f),
+                Element::Found { tag: _, body: i, next: m } => {
+                    let at = body.at;
+                    bag_of(s, at, i, m, next)
+                }
+            }
+        }
+    }
+}
