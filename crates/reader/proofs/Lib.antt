@@ -1,3 +1,9 @@
 pub mod Past
 pub mod Rules
 pub mod Heads
+pub mod Bridge
+pub mod BridgeRows
+pub mod BridgeFile
+pub mod Stores
+pub mod Loops
+pub mod Attributes

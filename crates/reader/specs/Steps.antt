@@ -2,11 +2,13 @@
 -- `readFile`, and each piece is proved to be a part of it.
 use mathlib.Core.Bool.{Bool, true, false}
 use mathlib.Core.List.{List}
+use mathlib.Core.Path.{_≡_}
 use Prim.Native.Nat.{ℕ, _+_, _≤_}
 use lib.Dec.{leb, ltb, eqb}
+use lib.ListN.{length}
 use Rattle.der.specs.Choice.{if_then_else_}
 use Rattle.der.specs.Numbers.{content, tooMany, opaqueLevels, octetStringTag}
-use Rattle.der.specs.Element.{fault, tagAt, finishAt, expectAt, onElement}
+use Rattle.der.specs.Element.{cursor, fault, tagAt, finishAt, expectAt, onElement}
 use Rattle.der.specs.Content.{bytesOf, identifierAt, integerAt, onInteger}
 use Rattle.der.specs.Opaque.{onChecked, opaqueAt, elementsAt}
 use Rattle.der.specs.declared.Fault.{Fault}
@@ -14,16 +16,19 @@ use Rattle.der.specs.declared.Cursor.{Cursor}
 use Rattle.der.specs.declared.Checked.{Checked}
 use Rattle.pkcs12.specs.Numbers.{fileBytes, notServed, sequenceTag, setTag, contextTag, ciphertextTag, pfxVersion}
 use Rattle.pkcs12.specs.Identifiers.{sameBytes, dataType, signedType, envelopedType, encryptedType, kindOf}
-use Rattle.pkcs12.specs.Table.{range, noRange, parts}
-use Rattle.pkcs12.specs.Walk.{rangeOf, onParts, algorithmAt, withValue, sealedAt, keyAt, valueAt, typedAt, encryptedInfoAt, encryptedAt, onKind, onMac, iterationsAt, macAt, onAnswer}
+use Rattle.pkcs12.specs.Table.{range, noRange, parts, noMac, Rows, tableOf, emptyTable, rowsIn}
+use Rattle.pkcs12.specs.Walk.{rangeOf, onParts, algorithmAt, withValue, sealedAt, keyAt, valueAt, typedAt, encryptedInfoAt, encryptedAt, Walked, Refused, Went, onWalked, setAt, onKind, onMac, iterationsAt, macAt, onAnswer}
 use Rattle.pkcs12.specs.declared.Parts.{Parts}
 use Rattle.pkcs12.specs.declared.PartsAt.{PartsAt}
 use Rattle.pkcs12.specs.declared.BagKind.{BagKind}
 use Rattle.pkcs12.specs.declared.BagKind.the-variants.{Key, ShroudedKey, Certificate, Crl, Secret, Nested}
 use Rattle.pkcs12.specs.declared.MacAt.{MacAt}
 use Rattle.pkcs12.specs.declared.Answer.{Answer}
+use Rattle.pkcs12.specs.declared.Answer.the-variants.{Accepted}
+use Rattle.pkcs12.specs.declared.Table.{Table}
 use Rattle.reader.specs.declared.bags.Set.{Set}
 use Rattle.reader.specs.declared.bags.Bag.{Bag}
+use Rattle.reader.specs.declared.rows.Progress.{Progress}
 use Rattle.reader.specs.declared.safes.Octets.{Octets}
 use Rattle.reader.specs.declared.safes.Contents.{Contents}
 use Rattle.reader.specs.declared.file.Outer.{Outer}
@@ -262,3 +267,25 @@ lastAt s c file =
 unfoldable pub closeAt : List ℕ → Answer → Cursor → Cursor → Cursor → Cursor → Cursor → MacAt
 closeAt s a safes string content mac file =
     onChecked (closedAt a safes string content) MacAt.Refused (λ z g. lastAt s mac file)
+
+-- ---- rows
+
+-- a bag's end: [0], in whose body e is left, is finished; then its attributes, at c; n is past the bag
+unfoldable pub bagEndAt : List ℕ → ℕ → Rows → Cursor → Cursor → Cursor → Walked
+bagEndAt s number st e c n =
+    onChecked (finishAt e) Refused (λ z g. onWalked (setAt s number st c) Refused (λ st′ h. Went st′ n))
+
+-- what the code holds of the walk so far
+abbrev pub progress : Walked → Progress
+progress (Refused f) = record { answer = Answer.Refused f; table = emptyTable; next = cursor 0 0 }
+progress (Went st n) = record { answer = Accepted; table = tableOf st noMac; next = n }
+
+-- The elements that stand before the first safe are counted at its start.
+unfoldable pub startCount : ℕ
+startCount = 7
+
+-- what the code asks of the bytes and of the table at an offset
+pub record Ready (s : List ℕ) (t : Table) (at : ℕ) : Type 0 where
+  pub short : length s ≤ fileBytes
+  pub rows : t ≡ tableOf (rowsIn t) noMac
+  pub counted : t .elements ≤ at + startCount

@@ -19,7 +19,7 @@ use pkcs12::PartsAt;
 use pkcs12::Range;
 
 // What stands in a bag before its attributes.
-enum Bag {
+pub(crate) enum Bag {
     Leaf {
         kind: BagKind,
         parts: Parts,
@@ -37,7 +37,7 @@ enum Bag {
 }
 
 // Where the attributes of a bag stand.
-enum Set {
+pub(crate) enum Set {
     None,
     Found { body: Cursor, next: Cursor },
     Refused(Fault),
@@ -68,7 +68,7 @@ fn attribute_values(s: &[u8], i: Cursor, m: Cursor, n: Cursor) -> PartsAt
 }
 
 // An attribute, where the table has room for it.
-fn attribute(s: &[u8], full: bool, c: Cursor) -> PartsAt
+pub(crate) fn attribute(s: &[u8], full: bool, c: Cursor) -> PartsAt
     requires { ⌜ length (now s) ≤ fileBytes ⌝ }
     ensures { λ r. ⌜ r ≡ attributePartsAt (now (s .entry)) full c ⌝ }
 {
@@ -91,7 +91,7 @@ fn attribute(s: &[u8], full: bool, c: Cursor) -> PartsAt
 }
 
 // Where the set stands behind [0], whose element ends at e.
-fn set_at(s: &[u8], e: Cursor, c: Cursor) -> Set
+pub(crate) fn set_at(s: &[u8], e: Cursor, c: Cursor) -> Set
     ensures { λ r. ⌜ r ≡ setHeadAt (now (s .entry)) e c ⌝ }
 {
     match e.finish() {
@@ -191,7 +191,7 @@ fn bag_of(s: &[u8], at: usize, i: Cursor, m: Cursor, n: Cursor) -> Bag
 }
 
 // A bag up to its attributes, where the table has room for it.
-fn bag_at(s: &[u8], full: bool, c: Cursor) -> Bag
+pub(crate) fn bag_at(s: &[u8], full: bool, c: Cursor) -> Bag
     requires { ⌜ length (now s) ≤ fileBytes ⌝ }
     ensures { λ r. ⌜ r ≡ bagHeadAt (now (s .entry)) full c ⌝ }
 {

@@ -2,4 +2,5 @@
 mod bags;
 mod file;
 mod parts;
+mod rows;
 mod safes;
