@@ -7,3 +7,5 @@ pub mod BridgeFile
 pub mod Stores
 pub mod Loops
 pub mod Attributes
+pub mod OneBag
+pub mod Nesting

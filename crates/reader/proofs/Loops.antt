@@ -21,7 +21,7 @@ elements-of : (st : Rows) → tableOf st noMac .elements ≡ st .count
 unfolding tableOf
 elements-of st = refl
 
-count-of : (t : Table) → rowsIn t .count ≡ t .elements
+pub count-of : (t : Table) → rowsIn t .count ≡ t .elements
 unfolding rowsIn
 count-of t = refl
 

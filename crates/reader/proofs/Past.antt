@@ -49,20 +49,20 @@ pub record Past (s : List ℕ) (c : Cursor) (i j : ℕ) (n : Cursor) : Type 0 wh
   pub end : n .end ≡ c .end
 
 -- an element found at c, of any tag: its body b, and n past it
-record Head (s : List ℕ) (c b n : Cursor) : Type 0 where
-  past : c .at + 2 ≤ b .at
-  size : b .at ≤ b .end
-  stop : n .at ≡ b .end
-  within : b .end ≤ c .end
-  inside : c .end ≤ length s
-  end : n .end ≡ c .end
+pub record Head (s : List ℕ) (c b n : Cursor) : Type 0 where
+  pub past : c .at + 2 ≤ b .at
+  pub size : b .at ≤ b .end
+  pub stop : n .at ≡ b .end
+  pub within : b .end ≤ c .end
+  pub inside : c .end ≤ length s
+  pub end : n .end ≡ c .end
 
 head-of : (s : List ℕ) (c : Cursor) (t : ℕ) (b n : Cursor) → elementAt s c ≡ Found t b n → Head s c b n
 head-of s c t b n e =
     let p = found s c (elementAt s c) t b n refl e in
     rw (p .next) record { past = p .body .past; size = p .body .size; stop = refl; within = p .body .within; inside = p .inside; end = refl }
 
-expect-head : (due : ℕ) (s : List ℕ) (c : Cursor) (t : ℕ) (b n : Cursor) → expectAt due s c ≡ Found t b n → Head s c b n
+pub expect-head : (due : ℕ) (s : List ℕ) (c : Cursor) (t : ℕ) (b n : Cursor) → expectAt due s c ≡ Found t b n → Head s c b n
 expect-head due s c t b n e = head-of s c t b n (expected due s c (expectAt due s c) t b n refl e .1)
 
 abbrev OfHead : List ℕ → Cursor → Element → Type 0
@@ -105,12 +105,12 @@ opaque-of s c = go (opaqueAt opaqueLevels s c) refl
 
 -- what holds of a refusal and of what was found holds of what is made of them, for each kind of element
 module _ (s : List ℕ) {A : Type 0} (P : A → Type 0) (bad : Fault → A) (refusal : (f : Fault) → P (bad f)) (c : Cursor) where
-  by-expect : (due : ℕ) (good : ℕ → Cursor → Cursor → A) → ((t : ℕ) (b n : Cursor) → Head s c b n → P (good t b n))
+  pub by-expect : (due : ℕ) (good : ℕ → Cursor → Cursor → A) → ((t : ℕ) (b n : Cursor) → Head s c b n → P (good t b n))
       → P (onElement (expectAt due s c) bad good)
   by-expect due good g =
       by-element P (λ x. expectAt due s c ≡ x) bad good refusal (λ t b n e. g t b n (expect-head due s c t b n e)) (expectAt due s c) refl
 
-  by-identifier : (good : ℕ → Cursor → Cursor → A) → ((t : ℕ) (b n : Cursor) → Head s c b n → P (good t b n))
+  pub by-identifier : (good : ℕ → Cursor → Cursor → A) → ((t : ℕ) (b n : Cursor) → Head s c b n → P (good t b n))
       → P (onElement (identifierAt s c) bad good)
   by-identifier good g = by-element P (OfHead s c) bad good refusal g (identifierAt s c) (identifier-of s c)
 
@@ -376,7 +376,7 @@ record Within (c : Cursor) (i j : ℕ) (n : Cursor) : Type 0 where
   long : c .at + j ≤ n .at + i
   more : i ≤ j
   within : n .at ≤ c .end
-  end : n .end ≡ c .end
+  pub end : n .end ≡ c .end
 
 -- two headers around what `inner` reads; four elements were counted before it
 data-of : (s : List ℕ) (inner : Cursor → Walked) (i : ℕ) → ((o : Cursor) → PastRows s o (i + 4) (inner o)) → (c : Cursor)

@@ -88,3 +88,99 @@ fn attributes(s: &[u8], number: u16, mut table: Table, e: Cursor, c: Cursor, n: 
         }
     }
 }
+
+// A bag of this safe and enclosing bag, with its attributes; safe contents in it have `below` levels left.
+fn bag(s: &[u8], below: u8, safe: u16, enclosing: Enclosing, mut table: Table, c: Cursor) -> Progress
+    requires { ⌜ Ready (now s) table (c .at) ⌝ }
+    ensures { λ r. ⌜ r ≡ progress (bagAt (safeContentsAt below (now (s .entry))) (now (s .entry)) (owner safe enclosing) (rowsIn table) c) ⌝ }
+{
+    let row = table.bag_count;
+    let full = pkcs12::BAG_ROWS <= row;
+    let mut so_far: Progress;
+    match bags::bag_at(s, full, c) {
+        Bag::Refused(f) => {
+            so_far = refused(f);
+            return so_far;
+        }
+        Bag::Leaf { kind, parts, count, end, set, next } => {
+            let number = row as u16;
+            let has_set = set.at < set.end;
+            let elements = table.elements + count;
+            table.bags[row] = BagRow { kind, safe, enclosing, parts, has_set };
+            table.bag_count = row + 1;
+            table.elements = elements;
+            so_far = attributes(s, number, table, end, set, next);
+            return so_far;
+        }
+        Bag::Nested { content, set, next } => {
+            let number = row as u16;
+            let has_set = set.at < set.end;
+            let elements = table.elements + 3;
+            let parts = Parts::EMPTY;
+            table.bags[row] = BagRow { kind: BagKind::Nested, safe, enclosing, parts, has_set };
+            table.bag_count = row + 1;
+            table.elements = elements;
+            so_far = safe_contents(s, below, safe, Enclosing::Bag(number), table, content);
+            let answer = so_far.answer;
+            match answer {
+                Answer::Refused(_) => {
+                    return so_far;
+                }
+                Answer::Accepted => {
+                    let end = so_far.next;
+                    so_far = attributes(s, number, so_far.table, end, set, next);
+                    return so_far;
+                }
+            }
+        }
+    }
+}
+
+// The bags of safe contents, with this many levels left.
+pub(crate) fn safe_contents(s: &[u8], level: u8, safe: u16, enclosing: Enclosing, table: Table, c: Cursor) -> Progress
+    requires { ⌜ Ready (now s) table (c .at) ⌝ }
+    ensures { λ r. ⌜ r ≡ progress (safeContentsAt level (now (s .entry)) (owner safe enclosing) (rowsIn table) c) ⌝ }
+{
+    let mut so_far = Progress {
+        answer: Answer::Accepted,
+        table,
+        next: c,
+    };
+    match c.expect(s, pkcs12::SEQUENCE) {
+        Element::Refused(f) => {
+            so_far = refused(f);
+            return so_far;
+        }
+        Element::Found { tag: _, body, next } => {
+            if level == 0 {
+                let at = c.at;
+                so_far = refused(Fault {
+                    number: der::TOO_MANY,
+                    offset: at,
+                });
+                return so_far;
+            }
+            let below = level - 1;
+            let first = so_far.table.elements + 1;
+            so_far.table.elements = first;
+            let end = body.end;
+            let mut at = body.at;
+            while at < end {
+                let here = Cursor { at, end };
+                so_far = bag(s, below, safe, enclosing, so_far.table, here);
+                let answer = so_far.answer;
+                match answer {
+                    Answer::Refused(_) => {
+                        return so_far;
+                    }
+                    Answer::Accepted => {
+                        let behind = so_far.next;
+                        at = behind.at;
+                    }
+                }
+            }
+            so_far.next = next;
+            so_far
+        }
+    }
+}
