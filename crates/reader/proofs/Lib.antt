@@ -9,3 +9,5 @@ pub mod Loops
 pub mod Attributes
 pub mod OneBag
 pub mod Nesting
+pub mod OneSafe
+pub mod Whole

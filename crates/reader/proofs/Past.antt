@@ -263,12 +263,12 @@ rows-past : (s : List ℕ) (c : Cursor) (i : ℕ) (x : Walked) (st : Rows) (n : 
 rows-past s c i x st n h e = rw e at h
 
 -- what is counted from `at` up to `end`, with i elements before it and j after it
-record Room (at end i j : ℕ) : Type 0 where
-  long : at + j ≤ end + i
+pub record Room (at end i j : ℕ) : Type 0 where
+  pub long : at + j ≤ end + i
   more : i ≤ j
 
 -- a run to the end of the body b of an element
-run-room : (s : List ℕ) (step : Rows → Cursor → Walked) → ((st : Rows) (c : Cursor) → PastRows s c (st .count) (step st c))
+pub run-room : (s : List ℕ) (step : Rows → Cursor → Walked) → ((st : Rows) (c : Cursor) → PastRows s c (st .count) (step st c))
     → (st : Rows) (b : Cursor) → b .at ≤ b .end → OfWalked (λ st′ n. Room (b .at) (b .end) (st .count) (st′ .count)) (run step st b)
 run-room s step each st b h =
     run-of (rangeOf b) step (λ st c st′ n. In (rangeOf b) n × Past s c (st .count) (st′ .count) n) (λ st at st′. Room at (b .end) (st .count) (st′ .count))
@@ -424,7 +424,7 @@ safe-value-of s type at st c =
     (λ y. by-test (PastValue st c) _ _ (sameBytes type encryptedType) (λ z. sealed-safe-of s st c)
     (λ z. by-test (PastValue st c) _ _ (sameBytes type envelopedType) (λ w. tt) (λ w. tt)))
 
-safe-of : (s : List ℕ) (st : Rows) (c : Cursor) → PastRows s c (st .count) (safeAt s st c)
+pub safe-of : (s : List ℕ) (st : Rows) (c : Cursor) → PastRows s c (st .count) (safeAt s st c)
 unfolding safeAt
 safe-of s st c =
     by-expect s Good _ (λ f. tt) c sequenceTag _
@@ -474,7 +474,7 @@ pub iterations-past : (s : List ℕ) (p : Parts) (salt : Range) (k : ℕ) (c : C
     → w ≡ iterationsAt s p salt k c → w ≡ MacAt.Found x j n → (k ≤ j) × (j ≤ k + 1)
 iterations-past s p salt k c w x j n a b = rw (sym a ∙ b) at (iterations-of s p salt k c)
 
-mac-of : (s : List ℕ) (c : Cursor) → OfMac (λ x k n. Past s c 0 k n) (macAt s c)
+pub mac-of : (s : List ℕ) (c : Cursor) → OfMac (λ x k n. Past s c 0 k n) (macAt s c)
 unfolding macAt
 mac-of s c =
     by-expect s Good _ (λ f. tt) c sequenceTag _

@@ -2,13 +2,18 @@
 // read, or the empty table with the first fault. A function keeps what it has so far in one place, and a call's answer goes there: then the
 // table is copied less.
 ghost use mathlib.Core.Path.{_≡_};
-ghost use Rattle.der.specs.Element.{wholeOf};
-ghost use Rattle.pkcs12.specs.Table.{rowsIn};
-ghost use Rattle.pkcs12.specs.Walk.{Refused, owner, bagAt, safeContentsAt};
+ghost use Prim.Native.Nat.{_≤_};
+ghost use lib.ListN.{length};
+ghost use Rattle.pkcs12.specs.Numbers.{fileBytes};
+ghost use Rattle.pkcs12.specs.Table.{noMac, tableOf, rowsIn};
+ghost use Rattle.pkcs12.specs.Walk.{Refused, run, owner, bagAt, safeContentsAt, safeAt, startRows};
 ghost use Rattle.reader.specs.Steps.{bagEndAt, progress, Ready};
 use crate::bags;
 use crate::bags::Bag;
 use crate::bags::Set;
+use crate::parts;
+use crate::safes;
+use crate::safes::Contents;
 use der::Checked;
 use der::Cursor;
 use der::Element;
@@ -20,7 +25,12 @@ use pkcs12::BagRow;
 use pkcs12::Enclosing;
 use pkcs12::Parts;
 use pkcs12::PartsAt;
+use pkcs12::SafeKind;
+use pkcs12::SafeRow;
 use pkcs12::Table;
+
+// The elements that stand before the first safe: PFX, version, ContentInfo, its type, [0], OCTET STRING, and the SEQUENCE of the safes.
+const START_COUNT: usize = 7;
 
 // What was read so far: the rows, and the cursor past the part.
 pub(crate) struct Progress {
@@ -182,5 +192,69 @@ pub(crate) fn safe_contents(s: &[u8], level: u8, safe: u16, enclosing: Enclosing
             so_far.next = next;
             so_far
         }
+    }
+}
+
+// The table at the first safe: the MAC input m, and the elements that stand before.
+fn start(m: Cursor) -> Table
+    requires { ⌜ (m .at ≤ fileBytes) × (m .end ≤ fileBytes) ⌝ }
+    ensures { λ r. ⌜ r ≡ tableOf (startRows m) noMac ⌝ }
+{
+    let input = parts::range_of(m);
+    let mut table = Table::empty();
+    table.mac_input = input;
+    table.elements = START_COUNT;
+    table
+}
+
+// The safes of an AuthenticatedSafe with body b, in the MAC input m.
+pub(crate) fn safes(s: &[u8], m: Cursor, b: Cursor) -> Progress
+    requires { ⌜ (length (now s) ≤ fileBytes) × (m .at ≤ fileBytes) × (m .end ≤ fileBytes) ⌝ }
+    ensures { λ r. ⌜ r ≡ progress (run (safeAt (now (s .entry))) (startRows m) b) ⌝ }
+{
+    let mut table = start(m);
+    let end = b.end;
+    let mut at = b.at;
+    while at < end {
+        let here = Cursor { at, end };
+        let row = table.safe_count;
+        let full = pkcs12::SAFE_ROWS <= row;
+        match safes::safe(s, full, here) {
+            Contents::Refused(f) => {
+                return refused(f);
+            }
+            Contents::Encrypted { parts, count, next } => {
+                let elements = table.elements + count;
+                table.safes[row] = SafeRow { kind: SafeKind::Encrypted, parts };
+                table.safe_count = row + 1;
+                table.elements = elements;
+                at = next.at;
+            }
+            Contents::Plain { body, string, content, next } => {
+                let number = row as u16;
+                let elements = table.elements + 4;
+                let parts = Parts::EMPTY;
+                table.safes[row] = SafeRow { kind: SafeKind::Plain, parts };
+                table.safe_count = row + 1;
+                table.elements = elements;
+                let inner = safe_contents(s, pkcs12::LEVELS, number, Enclosing::None, table, body);
+                let answer = inner.answer;
+                let behind = inner.next;
+                match safes::closed(answer, behind, string, content) {
+                    Checked::Refused(f) => {
+                        return refused(f);
+                    }
+                    Checked::Passed { count: _, next: _ } => {
+                        table = inner.table;
+                        at = next.at;
+                    }
+                }
+            }
+        }
+    }
+    Progress {
+        answer: Answer::Accepted,
+        table,
+        next: Cursor { at, end },
     }
 }

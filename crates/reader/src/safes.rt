@@ -21,7 +21,7 @@ pub(crate) enum Octets {
 }
 
 // A safe up to its bags.
-enum Contents {
+pub(crate) enum Contents {
     Plain { body: Cursor, string: Cursor, content: Cursor, next: Cursor },
     Encrypted { parts: Parts, count: usize, next: Cursor },
     Refused(Fault),
@@ -101,7 +101,7 @@ fn safe_value(s: &[u8], i: Cursor, at: usize, c: Cursor, n: Cursor) -> Contents
 }
 
 // A safe up to its bags, where the table has room for it.
-fn safe(s: &[u8], full: bool, c: Cursor) -> Contents
+pub(crate) fn safe(s: &[u8], full: bool, c: Cursor) -> Contents
     requires { ⌜ length (now s) ≤ fileBytes ⌝ }
     ensures { λ r. ⌜ r ≡ safeHeadAt (now (s .entry)) full c ⌝ }
 {

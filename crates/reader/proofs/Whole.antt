@@ -1,0 +1,183 @@
+-- The whole reading: what the code has learnt of the file at each step, and each way on from there, as the walk goes.
+use mathlib.Core.Path.{_≡_, refl, sym, _∙_}
+use mathlib.Core.List.{List}
+use Prim.Native.Nat.{ℕ, _+_, _≤_, _<_}
+use native.Mathlib.Omega.{arith}
+use lib.ListN.{length}
+use borrow.Author.Tests.{lt-ltb, le-ltb}
+use mir.Val.{Fits}
+use mir.Syntax.{w64}
+use Rattle.der.specs.Numbers.{octetStringTag}
+use Rattle.der.specs.Element.{fault, wholeOf, expectAt, onElement}
+use Rattle.der.specs.Content.{bytesOf}
+use Rattle.der.specs.Opaque.{onChecked}
+use Rattle.der.specs.declared.Fault.{Fault}
+use Rattle.der.specs.declared.Cursor.{Cursor}
+use Rattle.der.specs.declared.Checked.{Checked}
+use Rattle.der.specs.declared.Checked.the-variants.{Passed}
+use Rattle.der.proofs.Choices.{by-test, by-le}
+use Rattle.pkcs12.specs.Numbers.{fileBytes, tooLong, sequenceTag, contextTag}
+use Rattle.pkcs12.specs.Identifiers.{sameBytes, dataType, signedType}
+use Rattle.pkcs12.specs.Table.{Rows, table, noMac, tableOf, emptyTable}
+use Rattle.pkcs12.specs.Walk.{Walked, Refused, Went, onWalked, run, counting, safeAt, startRows, onMac, macAt, refused, readFile}
+use Rattle.pkcs12.specs.declared.Mac.{Mac}
+use Rattle.pkcs12.specs.declared.MacAt.{MacAt}
+use Rattle.pkcs12.specs.declared.Table.{Table}
+use Rattle.pkcs12.specs.declared.Answer.{Answer}
+use Rattle.pkcs12.specs.declared.Answer.the-variants.{Accepted}
+use Rattle.pkcs12.specs.declared.Reading.{Reading}
+use Rattle.pkcs12.proofs.SoundAttributes.{OfWalked}
+use Rattle.pkcs12.proofs.SoundOuter.{OfMac, by-mac}
+use Rattle.reader.specs.Steps.{onOctets, dataHeadAt, bothAt, closedAt, onOuter, pfxHeadAt, onOpened, openedSafesAt, openedValueAt, openedInfoAt, openAt, lastAt, closeAt, progress}
+use Rattle.reader.specs.declared.rows.Progress.{Progress}
+use Rattle.reader.specs.declared.safes.Octets.{Octets}
+use Rattle.reader.specs.declared.file.Outer.{Outer}
+use Rattle.reader.specs.declared.file.Opened.{Opened}
+use Rattle.reader.proofs.Past.{Past, Room, by-expect, by-identifier, run-room, safe-of, mac-of}
+use Rattle.reader.proofs.BridgeFile.{file-law}
+
+-- the table with the MAC and with its k elements
+abbrev pub withMac : Table → Mac → ℕ → Table
+withMac t x k = table (t .safes) (t .«safe_count») (t .bags) (t .«bag_count») (t .attributes) (t .«attribute_count») x (t .«mac_input») (t .elements + k)
+
+-- ---- what is known of an opened file: the MAC input and the AuthenticatedSafe's body stand within the bytes
+
+abbrev OfOpened : List ℕ → Opened → Type 0
+OfOpened s (Opened.Refused f) = Unit {0}
+OfOpened s (Opened.Found input body safes string content mac file) =
+    (input .at ≤ length s) × (input .end ≤ length s) × (body .at ≤ body .end) × (body .end ≤ length s)
+
+abbrev OfOctets : List ℕ → Octets → Type 0
+OfOctets s (Octets.Refused f) = Unit {0}
+OfOctets s (Octets.Found o f e) = (o .at ≤ o .end) × (o .end ≤ length s)
+
+octets-of : (s : List ℕ) (c : Cursor) → OfOctets s (dataHeadAt s c)
+unfolding dataHeadAt
+octets-of s c =
+    by-expect s (OfOctets s) _ (λ f. tt) c contextTag _
+    (λ t v e h. by-expect s (OfOctets s) _ (λ f. tt) v octetStringTag _ (λ t o f q. (q .size, omega (arith, h, q))))
+
+module _ (s : List ℕ) where
+  opened-safes-of : (c mac file : Cursor) → OfOpened s (openedSafesAt s c mac file)
+  unfolding openedSafesAt
+  opened-safes-of c mac file = go (dataHeadAt s c) (octets-of s c)
+    where
+      go : (x : Octets) → OfOctets s x
+          → OfOpened s (onOctets x Opened.Refused (λ o f e. onElement (expectAt sequenceTag s o) Opened.Refused (λ t b n. Opened.Found o b n f e mac file)))
+      go (Octets.Refused f) h = tt
+      go (Octets.Found o f e) h =
+          by-expect s (OfOpened s) _ (λ f. tt) o sequenceTag _
+          (λ t b n q. (omega (arith, h), h .1, q .size, omega (arith, h, q)))
+
+  opened-info-of : (c file : Cursor) → OfOpened s (openedInfoAt s c file)
+  unfolding openedInfoAt openedValueAt
+  opened-info-of c file =
+      by-expect s (OfOpened s) _ (λ f. tt) c sequenceTag _
+      (λ t b n h.
+      by-identifier s (OfOpened s) _ (λ f. tt) b _
+      (λ t i m j.
+      by-test (OfOpened s) _ _ (sameBytes (bytesOf s i) dataType) (λ y. opened-safes-of m n file)
+      (λ y. by-test (OfOpened s) _ _ (sameBytes (bytesOf s i) signedType) (λ z. tt) (λ z. tt))))
+
+  opened-of : (c : Cursor) → OfOpened s (openAt s c)
+  unfolding openAt
+  opened-of c = go (pfxHeadAt s c)
+    where
+      go : (x : Outer) → OfOpened s (onOuter x Opened.Refused (λ m n. openedInfoAt s m n))
+      go (Outer.Refused f) = tt
+      go (Outer.Found m n) = opened-info-of m n
+
+-- ---- what is counted: behind the safes no more than the bytes; in them no more than those of the body, and the seven before them
+
+abbrev Counted : List ℕ → MacAt → Type 0
+Counted s = OfMac (λ x k n. k ≤ length s)
+
+-- what is made of a check holds if it holds of all that a passed one leads to
+by-any : (s : List ℕ) (x : Checked) (good : ℕ → Cursor → MacAt) → ((z : ℕ) (g : Cursor) → Counted s (good z g)) → Counted s (onChecked x MacAt.Refused good)
+by-any s (Checked.Refused f) good p = tt
+by-any s (Passed z g) good p = p z g
+
+last-of : (s : List ℕ) (c file : Cursor) → Counted s (lastAt s c file)
+unfolding lastAt
+last-of s c file =
+    by-le (Counted s) _ _ (c .end) (c .at) (λ l. tt)
+    (λ l.
+    by-mac (Counted s) _ (λ f. tt) (λ x k n. Past s c 0 k n) _
+    (λ x k n a. by-any s (bothAt n file) _ (λ z g. omega (arith, a)))
+    (macAt s c) (mac-of s c))
+
+close-of : (s : List ℕ) (a : Answer) (safes string content mac file : Cursor) → Counted s (closeAt s a safes string content mac file)
+unfolding closeAt
+close-of s a safes string content mac file = by-any s (closedAt a safes string content) _ (λ z g. last-of s mac file)
+
+count-of : (x : Walked) (at end : ℕ) → OfWalked (λ st n. Room at end 7 (st .count)) x → progress x .table .elements ≤ end + 7
+unfolding emptyTable tableOf
+count-of (Refused f) at end r = omega arith
+count-of (Went st n) at end r = omega (arith, r .long)
+
+-- ---- what is done with the answer of what stands behind the safes
+
+abbrev accepted : Table → Mac → ℕ → Cursor → Reading
+accepted t x k n = record { answer = Accepted; table = withMac t x k }
+
+with-mac : (st : Rows) (v : MacAt) → onMac v refused (accepted (tableOf st noMac)) ≡ onMac v refused (λ x k n. record { answer = Accepted; table = tableOf (counting st k) x })
+unfolding tableOf
+with-mac st (MacAt.Refused f) = refl
+with-mac st (MacAt.Found x k n) = refl
+
+close-law : (s : List ℕ) (safes string content mac rest : Cursor) (x : Walked)
+    → onMac (closeAt s (progress x .answer) safes string content mac rest) refused (accepted (progress x .table))
+    ≡ onWalked x refused (λ st z. onMac (closeAt s Accepted safes string content mac rest) refused (λ m k n. record { answer = Accepted; table = tableOf (counting st k) m }))
+unfolding closeAt closedAt
+close-law s safes string content mac rest (Refused f) = refl
+close-law s safes string content mac rest (Went st n) = with-mac st (closeAt s Accepted safes string content mac rest)
+
+-- ---- the reading
+
+pub read-long : (s : List ℕ) (r : Reading) → fileBytes < length s → r ≡ refused (fault tooLong 0) → r ≡ readFile s
+read-long s r h e = e ∙ rw (lt-ltb fileBytes (length s) h) at (file-law s)
+
+module _ (s : List ℕ) (short : length s ≤ fileBytes) (c₀ : Cursor) (start : c₀ ≡ wholeOf s) (w : Opened) (p : w ≡ openAt s c₀) where
+  read-is : onOpened w refused
+      (λ input body safes string content mac rest.
+      onWalked (run (safeAt s) (startRows input) body) refused
+      (λ st z. onMac (closeAt s Accepted safes string content mac rest) refused (λ x k n. record { answer = Accepted; table = tableOf (counting st k) x })))
+      ≡ readFile s
+  read-is = rw (p, start) (rw (le-ltb fileBytes (length s) short) at (file-law s))
+
+  pub read-refused : (f : Fault) (r : Reading) → w ≡ Opened.Refused f → r ≡ refused f → r ≡ readFile s
+  read-refused f r q e = e ∙ rw q at read-is
+
+  module _ (input body safes string content mac rest : Cursor) (q : w ≡ Opened.Found input body safes string content mac rest) where
+    facts : (input .at ≤ length s) × (input .end ≤ length s) × (body .at ≤ body .end) × (body .end ≤ length s)
+    facts = rw (sym p ∙ q) at (opened-of s c₀)
+
+    pub input-from : input .at ≤ fileBytes
+    input-from = omega (arith, facts .0, short)
+
+    pub input-to : input .end ≤ fileBytes
+    input-to = omega (arith, facts .1, short)
+
+    pub body-order : body .at ≤ body .end
+    body-order = facts .2
+
+    pub body-inside : body .end ≤ length s
+    body-inside = facts .3
+
+    -- the safes, which the code holds as y, and what stands behind them
+    module _ (y : Progress) (z : y ≡ progress (run (safeAt s) (startRows input) body)) (v : MacAt) (u : v ≡ closeAt s (y .answer) safes string content mac rest) where
+      closed-is : onMac v refused (accepted (y .table)) ≡ readFile s
+      closed-is = rw (u, z) (close-law s safes string content mac rest (run (safeAt s) (startRows input) body)) ∙ rw q at read-is
+
+      pub close-refused : (f : Fault) (r : Reading) → v ≡ MacAt.Refused f → r ≡ refused f → r ≡ readFile s
+      close-refused f r h e = e ∙ rw h at closed-is
+
+      pub close-fits : (x : Mac) (k : ℕ) (n : Cursor) → v ≡ MacAt.Found x k n → Fits w64 (y .table .elements + k)
+      close-fits x k n h =
+          let i : k ≤ length s = rw (sym u ∙ h) at (close-of s (y .answer) safes string content mac rest) in
+          let j : y .table .elements ≤ body .end + 7 =
+                rw z (count-of (run (safeAt s) (startRows input) body) (body .at) (body .end) (run-room s (safeAt s) (safe-of s) (startRows input) body body-order)) in
+          omega (arith, i, j, body-inside, short)
+
+      pub close-found : (x : Mac) (k : ℕ) (n : Cursor) → v ≡ MacAt.Found x k n → record { answer = Accepted; table = withMac (y .table) x k } ≡ readFile s
+      close-found x k n h = rw h at closed-is

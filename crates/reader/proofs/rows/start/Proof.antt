@@ -1,0 +1,16 @@
+use borrow.Author.Needs.{needs}
+use Rattle.reader.proofs.OneSafe.{started}
+use Rattle.reader.proofs.rows.start.Statement.{statement}
+use Rattle.reader.proofs.rows.start.Tie as tie
+
+range-of-requires : tie.Need-range-of-requires
+range-of-requires c κs = search needs
+
+empty-requires : tie.Need-empty-requires
+empty-requires c κs = search needs
+
+returns : tie.Need-returns
+returns c = started _ _ _ (c .empty .ensures) (c .before .range-of .ensures)
+
+pub start-spec : {M : Type 1} → statement M
+start-spec = tie.close (tie.spec range-of-requires empty-requires returns)
