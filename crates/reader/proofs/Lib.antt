@@ -11,3 +11,4 @@ pub mod OneBag
 pub mod Nesting
 pub mod OneSafe
 pub mod Whole
+pub mod MacInput

@@ -1,6 +1,80 @@
-// Reads a PKCS #12 file into a table.
+// Reads a PKCS #12 file into a table. `read` answers any bytes; `mac_input` gives the part of the file that the MAC is computed over.
+ghost use mathlib.Core.Path.{_≡_};
+ghost use Rattle.pkcs12.specs.Table.{bytesIn};
+ghost use Rattle.pkcs12.specs.Walk.{refused, readFile};
 mod bags;
 mod file;
 mod parts;
 mod rows;
 mod safes;
+use der::Cursor;
+use der::Fault;
+use file::Opened;
+use pkcs12::Answer;
+use pkcs12::MacAt;
+use pkcs12::Reading;
+use pkcs12::Table;
+
+// A refused file has the empty table.
+fn refused(fault: Fault) -> Reading
+    ensures { λ r. ⌜ r ≡ refused fault ⌝ }
+{
+    let table = Table::empty();
+    Reading {
+        answer: Answer::Refused(fault),
+        table,
+    }
+}
+
+// The answer for a file, and its table.
+pub fn read(file: &[u8]) -> Reading
+    ensures { λ r. ⌜ r ≡ readFile (now (file .entry)) ⌝ }
+{
+    if pkcs12::FILE_BYTES < file.len() {
+        return refused(Fault {
+            number: pkcs12::TOO_LONG,
+            offset: 0,
+        });
+    }
+    let whole = Cursor::over(file);
+    match file::open(file, whole) {
+        Opened::Refused(f) => refused(f),
+        Opened::Found { input, body, safes, string, content, mac, file: rest } => {
+            let all = rows::safes(file, input, body);
+            let answer = all.answer;
+            match file::close(file, answer, safes, string, content, mac, rest) {
+                MacAt::Refused(f) => refused(f),
+                MacAt::Found { mac: fields, count, next: _ } => {
+                    let mut table = all.table;
+                    let elements = table.elements + count;
+                    table.elements = elements;
+                    table.mac = fields;
+                    Reading {
+                        answer: Answer::Accepted,
+                        table,
+                    }
+                }
+            }
+        }
+    }
+}
+
+// The unit's MAC input, that part of the caller's own buffer; empty for a refused file's table.
+pub fn mac_input(file: &[u8], table: Table) -> &[u8]
+    ensures { λ r. ⌜ now r ≡ bytesIn (now (file .entry)) (table .«mac_input») ⌝ }
+{
+    let range = table.mac_input;
+    let start = range.start as usize;
+    let end = range.end as usize;
+    let n = file.len();
+    if end <= start {
+        return &file[0..0];
+    }
+    if end <= n {
+        return &file[start..end];
+    }
+    if start <= n {
+        return &file[start..n];
+    }
+    &file[0..0]
+}

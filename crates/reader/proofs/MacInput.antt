@@ -1,0 +1,54 @@
+-- The MAC input: that of an accepted file is its AuthenticatedSafe as it is written, the body of the outer OCTET STRING without its tag and length; a
+-- refused file has none. And the part of the bytes that a range names, as the code takes it.
+use mathlib.Core.Path.{_≡_, sym, _∙_}
+use mathlib.Core.List.{List, []}
+use mathlib.Core.Option.{some}
+use Prim.Native.Nat.{ℕ, _-_, _≤_, _<_}
+use native.Mathlib.Omega.{arith}
+use lib.ListN.{length, take, drop, length-take, drop-of-length-le}
+use lib.Seq.{slice, slice-empty, take-all}
+use Rattle.der.specs.Span.{Bytes}
+use Rattle.der.specs.declared.Fault.{Fault}
+use Rattle.der.proofs.Spans.{slice-span}
+use Rattle.pkcs12.specs.Syntax.{Pfx}
+use Rattle.pkcs12.specs.Encode.{sequence, safesBytes}
+use Rattle.pkcs12.specs.Table.{bytesIn, emptyTable, tableOf, rowsIn}
+use Rattle.pkcs12.specs.Walk.{readFile}
+use Rattle.pkcs12.specs.Accepted.{IsAccepted, Follows, tableFrom, readingFrom}
+use Rattle.pkcs12.specs.declared.Answer.{Answer}
+use Rattle.pkcs12.proofs.Theorems.{accepted-iff-follows, table-shows-reading, ranges-within-parents, refused-table-empty}
+use Rattle.reader.proofs.Rules.{part-slice}
+
+-- ---- of a file
+
+-- The table of a refused file names no byte.
+pub refused-input-empty : (f : List ℕ) (fault : Fault) → readFile f .answer ≡ Answer.Refused fault → bytesIn f (tableFrom f .«mac_input») ≡ []
+unfolding emptyTable tableOf
+refused-input-empty f fault e = rw (refused-table-empty f fault e) (slice-empty 0 f)
+
+follows-input : (f : List ℕ) → Bytes f → (x : Pfx) → Follows f x → bytesIn f (tableFrom f .«mac_input») ≡ sequence (safesBytes (x .safes))
+unfolding rowsIn
+follows-input f b x w = slice-span f _ _ _ (ranges-within-parents f b x w .content .string .body)
+
+some-same : (x y : Pfx) → some x ≡ some y → x ≡ y
+some-same x y e = cc
+
+-- That of an accepted file names exactly the AuthenticatedSafe of the reading x: the SEQUENCE of its safes.
+pub accepted-input : (f : List ℕ) → Bytes f → IsAccepted f → (x : Pfx) → readingFrom f ≡ some x
+    → bytesIn f (tableFrom f .«mac_input») ≡ sequence (safesBytes (x .safes))
+accepted-input f b a x e =
+    let p = accepted-iff-follows f b .0 a in
+    let q = some-same (p .0) x (sym (table-shows-reading f b (p .0) (p .1)) ∙ e) in
+    rw q at (follows-input f b (p .0) (p .1))
+
+-- ---- of a range a..e over bytes l, as the code cuts it
+
+module _ (l : List ℕ) (a e : ℕ) where
+  pub input-backward : e ≤ a → [] ≡ slice a e l
+  input-backward h = sym (drop-of-length-le (take e l) {i = a} (simp length-take (omega arith)))
+
+  pub input-past : length l < a → [] ≡ slice a e l
+  input-past h = sym (drop-of-length-le (take e l) {i = a} (simp length-take (omega arith)))
+
+  pub input-cut : length l < e → take (length l - a) (drop a l) ≡ slice a e l
+  input-cut h = rw (take-all e l (omega arith)) (rw (take-all (length l) l (omega arith)) at (part-slice a (length l) l))

@@ -1,0 +1,78 @@
+use borrow.Author.Needs.{needs}
+use Rattle.reader.proofs.Rules.{part-slice}
+use Rattle.reader.proofs.MacInput.{input-backward, input-past, input-cut}
+use Rattle.reader.proofs.mac_input.Statement.{statement}
+use Rattle.reader.proofs.mac_input.Tie as tie
+
+cast-start : tie.Need-cast-start
+cast-start c = search needs
+
+cast-end : tie.Need-cast-end
+cast-end c = search needs
+
+sub-result : tie.Need-sub-result
+sub-result c = search needs
+
+part-result-start : tie.Need-part-result-start
+part-result-start c = search needs
+
+part-result-end : tie.Need-part-result-end
+part-result-end c = search needs
+
+returns : tie.Need-returns
+returns c = search input-backward
+
+sub-result-2 : tie.Need-sub-result-2
+sub-result-2 c = search needs
+
+part-result-start-2 : tie.Need-part-result-start-2
+part-result-start-2 c = search needs
+
+part-result-end-2 : tie.Need-part-result-end-2
+part-result-end-2 c = search needs
+
+returns-2 : tie.Need-returns-2
+returns-2 c = search part-slice
+
+part-result-start-3 : tie.Need-part-result-start-3
+part-result-start-3 c = search needs
+
+part-result-end-3 : tie.Need-part-result-end-3
+part-result-end-3 c = search needs
+
+returns-3 : tie.Need-returns-3
+returns-3 c = search input-cut
+
+sub-result-3 : tie.Need-sub-result-3
+sub-result-3 c = search needs
+
+part-result-start-4 : tie.Need-part-result-start-4
+part-result-start-4 c = search needs
+
+part-result-end-4 : tie.Need-part-result-end-4
+part-result-end-4 c = search needs
+
+returns-4 : tie.Need-returns-4
+returns-4 c = search input-past
+
+pub mac-input-spec : {M : Type 1} → statement M
+mac-input-spec =
+    tie.close
+    (tie.spec
+    cast-start
+    cast-end
+    sub-result
+    part-result-start
+    part-result-end
+    returns
+    sub-result-2
+    part-result-start-2
+    part-result-end-2
+    returns-2
+    part-result-start-3
+    part-result-end-3
+    returns-3
+    sub-result-3
+    part-result-start-4
+    part-result-end-4
+    returns-4)

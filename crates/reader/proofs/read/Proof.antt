@@ -1,0 +1,74 @@
+-- Each way out is the definition's (Whole), by what the callees gave.
+use borrow.Author.Needs.{needs}
+use Rattle.reader.proofs.Whole.{read-long, read-refused, input-from, input-to, close-refused, close-fits, close-found}
+use Rattle.reader.proofs.read.Statement.{statement}
+use Rattle.reader.proofs.read.Tie as tie
+
+refused-requires : tie.Need-refused-requires
+refused-requires c κs = search needs
+
+returns : tie.Need-returns
+returns c = read-long _ _ (c .before .if1 .taken) (c .refused .ensures)
+
+over-requires : tie.Need-over-requires
+over-requires c κs = search needs
+
+open-requires : tie.Need-open-requires
+open-requires c κs = search needs
+
+enum-known-f : tie.Need-enum-known-f
+enum-known-f c = search needs
+
+refused-requires-2 : tie.Need-refused-requires-2
+refused-requires-2 c κs = search needs
+
+enum-known-input : tie.Need-enum-known-input
+enum-known-input c = search needs
+
+safes-requires : tie.Need-safes-requires
+safes-requires c κs = (c .before .before .before .before .before .if1 .left, input-from _ (c .before .before .before .before .before .if1 .left) _ (c .before .before .before .before .over .ensures) _ (c .before .before .before .«open» .ensures) _ _ _ _ _ _ _ (c .before .input .given .1), input-to _ (c .before .before .before .before .before .if1 .left) _ (c .before .before .before .before .over .ensures) _ (c .before .before .before .«open» .ensures) _ _ _ _ _ _ _ (c .before .input .given .1))
+
+close-requires : tie.Need-close-requires
+close-requires c κs = search needs
+
+enum-known-f-2 : tie.Need-enum-known-f-2
+enum-known-f-2 c = search needs
+
+refused-requires-3 : tie.Need-refused-requires-3
+refused-requires-3 c κs = search needs
+
+enum-known-fields : tie.Need-enum-known-fields
+enum-known-fields c = search needs
+
+add-elements : tie.Need-add-elements
+add-elements c = close-fits _ (c .before .before .before .before .before .before .before .before .before .before .before .before .if1 .left) _ (c .before .before .before .before .before .before .before .before .before .before .before .over .ensures) _ (c .before .before .before .before .before .before .before .before .before .before .«open» .ensures) _ _ _ _ _ _ _ (c .before .before .before .before .before .before .before .before .input .given .1) _ (c .before .before .before .before .before .before .safes .ensures) _ (c .before .before .before .before .before .close .ensures) _ _ _ (c .before .before .before .fields .given .1)
+
+returns-2 : tie.Need-returns-2
+returns-2 c = read-refused _ (c .before .before .before .before .before .before .if1 .left) _ (c .before .before .before .before .before .over .ensures) _ (c .before .before .before .before .«open» .ensures) _ _ (c .before .before .f .given .1) (c .refused2 .ensures)
+
+returns-3 : tie.Need-returns-3
+returns-3 c = close-refused _ (c .before .before .before .before .before .before .before .before .before .before .before .if1 .left) _ (c .before .before .before .before .before .before .before .before .before .before .over .ensures) _ (c .before .before .before .before .before .before .before .before .before .«open» .ensures) _ _ _ _ _ _ _ (c .before .before .before .before .before .before .before .input .given .1) _ (c .before .before .before .before .before .safes .ensures) _ (c .before .before .before .before .close .ensures) _ _ (c .before .before .f2 .given .1) (c .refused3 .ensures)
+
+returns-4 : tie.Need-returns-4
+returns-4 c = close-found _ (c .before .before .before .before .before .before .before .before .before .before .before .before .if1 .left) _ (c .before .before .before .before .before .before .before .before .before .before .before .over .ensures) _ (c .before .before .before .before .before .before .before .before .before .before .«open» .ensures) _ _ _ _ _ _ _ (c .before .before .before .before .before .before .before .before .input .given .1) _ (c .before .before .before .before .before .before .safes .ensures) _ (c .before .before .before .before .before .close .ensures) _ _ _ (c .before .before .before .fields .given .1)
+
+pub read-spec : {M : Type 1} → statement M
+read-spec =
+    tie.close
+    (tie.spec
+    refused-requires
+    returns
+    over-requires
+    open-requires
+    enum-known-f
+    refused-requires-2
+    enum-known-input
+    safes-requires
+    close-requires
+    enum-known-f-2
+    refused-requires-3
+    enum-known-fields
+    add-elements
+    returns-2
+    returns-3
+    returns-4)
