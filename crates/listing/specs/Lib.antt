@@ -1,0 +1,2 @@
+-- How many lines a listing has.
+pub mod Lines

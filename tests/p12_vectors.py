@@ -1,0 +1,72 @@
+#!/usr/bin/env python3
+"""Writes crates/vectors/stdin, a frame for each file, and crates/vectors/stdout, the listings that p12_reader.py gives.
+
+    p12_vectors.py                       # writes both files
+    p12_vectors.py --check               # says whether they are what the files give
+    p12_vectors.py --sources DOCUMENT .. # takes the files out of the documents first, and keeps them as tests/files/source-N.p12
+
+A frame is the file's length in four bytes, high first, and its bytes. The last lines count the kinds of file and the answers; it
+fails unless every number from 1 to 9 is among them.
+"""
+import pathlib
+import sys
+from collections import Counter
+
+import p12_make
+import p12_reader
+import p12_sources
+import p12_tools
+
+ROOT = pathlib.Path(__file__).resolve().parent.parent
+FILES = p12_tools.FILES
+SEED, DAMAGED = 1, 200  # as many damaged and as many mended ones
+
+
+def keep_sources(documents):
+    """Each file that the documents list, once."""
+    found = [data for name in documents for data, _ in p12_sources.pfx_files(pathlib.Path(name).read_text(encoding="utf-8"))]
+    for number, data in enumerate(dict.fromkeys(found), 1):
+        (FILES / ("source-%d.p12" % number)).write_bytes(data)
+
+
+def kinds():
+    """(what they are, the files)"""
+    made = p12_make.files()
+    bench = [data for name, data in made if name.startswith("bench_")]
+    m = dict(made)["bench_a"]
+    yield "listed in the documents", [path.read_bytes() for path in sorted(FILES.glob("source-*.p12"))]
+    yield "M and its variants", bench + [m[:n] for n in range(1, len(m) - 1)]
+    yield "made", [data for name, data in made if not name.startswith("bench_")]
+    yield "of common tools", [data for _, data, _ in p12_tools.stored()]
+    yield "damaged", [data for _, data in p12_make.damaged(SEED, DAMAGED)]
+    yield "damaged with lengths mended", [data for _, data in p12_make.mended(SEED, DAMAGED)]
+
+
+def main(arguments):
+    if arguments[:1] == ["--sources"]:
+        keep_sources(arguments[1:])
+    frames, listings, answers = [], [], Counter()
+    for what, files in kinds():
+        print("%s: %d" % (what, len(files)))
+        for data in files:
+            result = p12_reader.read(data)
+            answers[result.number if isinstance(result, p12_reader.Refusal) else "accepted"] += 1
+            frames.append(len(data).to_bytes(4, "big") + data)
+            listings.append(p12_reader.listing(result))
+    differs = 0
+    for name, data in (("stdin", b"".join(frames)), ("stdout", "".join(listings).encode())):
+        path = ROOT / "crates/vectors" / name
+        if arguments == ["--check"]:
+            differs += path.read_bytes() != data
+        else:
+            path.write_bytes(data)
+    print("files: %d, accepted: %d" % (len(frames), answers["accepted"]))
+    print("refused: " + ", ".join("%d: %d" % (n, answers[n]) for n in range(1, 10)))
+    missing = [n for n in range(1, 10) if not answers[n]]
+    if missing or differs:
+        print("missing: %s" % missing if missing else "the stored files differ")
+    return 1 if missing or differs else 0
+
+
+if __name__ == "__main__":
+    sys.exit(main(sys.argv[1:]))
