@@ -103,7 +103,7 @@ module _ (s : List ℕ) (number : ℕ) (t : Table) (rows : t ≡ tableOf (rowsIn
 module _ (s : List ℕ) (number : ℕ) (t₀ : Table) (e c n : Cursor) (ready : Ready s t₀ (c .at)) (w : Set) (p : w ≡ setHeadAt s e c) where
   end-is : bagEndAt s number (rowsIn t₀) e c n
       ≡ onSet w Refused (Went (rowsIn t₀) n)
-        (λ b m. onWalked (run (attributeAt s number) (counting (rowsIn t₀) 1) b) Refused (λ st′ f. onChecked (finishAt m) Refused (λ z g. Went st′ n)))
+      (λ b m. onWalked (run (attributeAt s number) (counting (rowsIn t₀) 1) b) Refused (λ st′ f. onChecked (finishAt m) Refused (λ z g. Went st′ n)))
   end-is = sym (end-law s number (rowsIn t₀) e c n) ∙ rw (← p)
 
   pub end-refused : (f : Fault) (r : Progress) → w ≡ Set.Refused f → r ≡ progress (Refused f) → r ≡ progress (bagEndAt s number (rowsIn t₀) e c n)

@@ -60,7 +60,7 @@ module _ {A B : Type 0} (F : A → B) where
 -- an attribute: its parts, then its row
 pub attribute-law : (s : List ℕ) (number : ℕ) (st : Rows) (c : Cursor)
     → onParts (attributePartsAt s (leb attributeRows (length (st .attributes))) c) Refused
-      (λ p k n. Went (addAttribute st (attributeRow number (p .identifier) (p .value)) k) n)
+    (λ p k n. Went (addAttribute st (attributeRow number (p .identifier) (p .value)) k) n)
     ≡ attributeAt s number st c
 unfolding attributePartsAt attributeValuesAt attributeAt
 attribute-law s number st c =
@@ -80,7 +80,7 @@ attribute-law s number st c =
 -- the end of a bag: where its set stands, then its attributes
 pub end-law : (s : List ℕ) (number : ℕ) (st : Rows) (e c n : Cursor)
     → onSet (setHeadAt s e c) Refused (Went st n)
-      (λ b m. onWalked (run (attributeAt s number) (counting st 1) b) Refused (λ st′ f. onChecked (finishAt m) Refused (λ z g. Went st′ n)))
+    (λ b m. onWalked (run (attributeAt s number) (counting st 1) b) Refused (λ st′ f. onChecked (finishAt m) Refused (λ z g. Went st′ n)))
     ≡ bagEndAt s number st e c n
 unfolding setHeadAt bagEndAt setAt
 end-law s number st e c n =
@@ -99,7 +99,9 @@ end-law s number st e c n =
   where
     attributes : ℕ → Cursor → Cursor → Walked
     attributes t b m = onWalked (run (attributeAt s number) (counting st 1) b) Refused (λ st′ f. onChecked (finishAt m) Refused (λ z g. Went st′ n))
+
     F : Set → Walked
     F x = onSet x Refused (Went st n) (attributes 0)
+
     G : Walked → Walked
     G x = onWalked x Refused (λ st′ h. Went st′ n)

@@ -124,13 +124,14 @@ safes-law s c mac file =
   where
     F : Octets → Reading
     F y =
-      onOpened
-      (onOctets y Opened.Refused (λ o f e. onElement (expectAt sequenceTag s o) Opened.Refused (λ t b n. Opened.Found o b n f e mac file)))
-      refused (afterOpened s)
+        onOpened
+        (onOctets y Opened.Refused (λ o f e. onElement (expectAt sequenceTag s o) Opened.Refused (λ t b n. Opened.Found o b n f e mac file)))
+        refused (afterOpened s)
+
     G : Cursor → Cursor → Walked → Reading
     G f e w =
-      afterValue s mac file
-      (onWalked w Refused (λ st g. onChecked (finishAt g) Refused (λ z h. onChecked (finishAt f) Refused (λ z i. Went st e))))
+        afterValue s mac file
+        (onWalked w Refused (λ st g. onChecked (finishAt g) Refused (λ z h. onChecked (finishAt f) Refused (λ z i. Went st e))))
 
 -- the outer ContentInfo, by its type
 info-law : (s : List ℕ) (c file : Cursor) → onOpened (openedInfoAt s c file) refused (afterOpened s) ≡ alone file (bodyAt s c)
@@ -161,12 +162,12 @@ pfx-law s c =
 -- the whole reading
 pub file-law : (s : List ℕ)
     → (if ltb fileBytes (length s) then refused (fault tooLong 0) else
-       onOpened (openAt s (wholeOf s)) refused
-       (λ input body safes string content mac file.
-        onWalked (run (safeAt s) (startRows input) body) refused
-        (λ st z.
-         onMac (closeAt s Accepted safes string content mac file) refused
-         (λ x k n. record { answer = Accepted; table = tableOf (counting st k) x }))))
+    onOpened (openAt s (wholeOf s)) refused
+    (λ input body safes string content mac file.
+    onWalked (run (safeAt s) (startRows input) body) refused
+    (λ st z.
+    onMac (closeAt s Accepted safes string content mac file) refused
+    (λ x k n. record { answer = Accepted; table = tableOf (counting st k) x }))))
     ≡ readFile s
 unfolding readFile
 file-law s = through-test (λ x. x) (ltb fileBytes (length s)) _ _ _ _ refl (pfx-law s (wholeOf s))

@@ -76,8 +76,8 @@ module _ (inner : Owner → Rows → Cursor → Walked) (s : List ℕ) (w : Owne
 -- a bag: its head, then its row, its bags and its attributes
 pub bag-law : (inner : Owner → Rows → Cursor → Walked) (s : List ℕ) (w : Owner) (st : Rows) (c : Cursor)
     → onBag (bagHeadAt s (leb bagRows (length (st .bags))) c) Refused
-      (λ kind p k f e n. bagEndAt s (length (st .bags)) (addBag st (bagRow kind (w .safe) (w .enclosing) p (ltb (e .at) (e .end))) k) f e n)
-      (λ v e n. onWalked (inner (owner (w .safe) (Bag (length (st .bags)))) (addBag st (bagRow Nested (w .safe) (w .enclosing) noParts (ltb (e .at) (e .end))) 3) v) Refused (λ st′ f. bagEndAt s (length (st .bags)) st′ f e n))
+    (λ kind p k f e n. bagEndAt s (length (st .bags)) (addBag st (bagRow kind (w .safe) (w .enclosing) p (ltb (e .at) (e .end))) k) f e n)
+    (λ v e n. onWalked (inner (owner (w .safe) (Bag (length (st .bags)))) (addBag st (bagRow Nested (w .safe) (w .enclosing) noParts (ltb (e .at) (e .end))) 3) v) Refused (λ st′ f. bagEndAt s (length (st .bags)) st′ f e n))
     ≡ bagAt inner s w st c
 unfolding bagHeadAt bagOfAt bagAt bagEndAt
 bag-law inner s w st c =
@@ -119,7 +119,7 @@ module _ (s : List ℕ) (st : Rows) where
   abbrev afterSafe : Contents → Walked
   afterSafe x = onContents x Refused
       (λ o f e n. onWalked (safeContentsAt levels s (owner (length (st .safes)) Enclosing.None) (addSafe st (safeRow Plain noParts) 4) o) Refused
-        (λ st′ g. onChecked (closedAt Accepted g f e) Refused (λ z h. Went st′ n)))
+      (λ st′ g. onChecked (closedAt Accepted g f e) Refused (λ z h. Went st′ n)))
       (λ p k n. Went (addSafe st (safeRow Encrypted p) k) n)
 
   -- what the walk does behind [0] of a safe that ends at n
@@ -141,8 +141,10 @@ module _ (s : List ℕ) (st : Rows) where
     where
       H : Octets → Walked
       H x = afterSafe (onOctets x Contents.Refused (λ o f e. Contents.Plain o f e n))
+
       G : Walked → Walked
       G x = afterValue n x
+
       K : Rows → Checked → Walked
       K st′ x = onChecked x Refused (λ z h. Went st′ n)
 
@@ -173,9 +175,9 @@ module _ (s : List ℕ) (st : Rows) where
 -- a safe: its head, then its row and its bags
 pub safe-law : (s : List ℕ) (st : Rows) (c : Cursor)
     → onContents (safeHeadAt s (leb safeRows (length (st .safes))) c) Refused
-      (λ o f e n. onWalked (safeContentsAt levels s (owner (length (st .safes)) Enclosing.None) (addSafe st (safeRow Plain noParts) 4) o) Refused
-        (λ st′ g. onChecked (closedAt Accepted g f e) Refused (λ z h. Went st′ n)))
-      (λ p k n. Went (addSafe st (safeRow Encrypted p) k) n)
+    (λ o f e n. onWalked (safeContentsAt levels s (owner (length (st .safes)) Enclosing.None) (addSafe st (safeRow Plain noParts) 4) o) Refused
+    (λ st′ g. onChecked (closedAt Accepted g f e) Refused (λ z h. Went st′ n)))
+    (λ p k n. Went (addSafe st (safeRow Encrypted p) k) n)
     ≡ safeAt s st c
 unfolding safeHeadAt safeAt
 safe-law s st c =

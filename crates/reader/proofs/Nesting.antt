@@ -37,9 +37,9 @@ bagIn level s w = bagAt (safeContentsAt (level - 1) s) s w
 contents-law : (level : ℕ) (s : List ℕ) (w : Owner) (st : Rows) (c : Cursor)
     → safeContentsAt level s w st c
     ≡ onElement (expectAt sequenceTag s c) Refused
-      (λ t b n.
-      if eqb level 0 then Refused (fault tooMany (c .at)) else
-      onWalked (run (bagIn level s w) (counting st 1) b) Refused (λ st f. Went st n))
+    (λ t b n.
+    if eqb level 0 then Refused (fault tooMany (c .at)) else
+    onWalked (run (bagIn level s w) (counting st 1) b) Refused (λ st f. Went st n))
 unfolding safeContentsAt
 contents-law zero s w st c = refl
 contents-law (suc l) s w st c =
@@ -56,9 +56,9 @@ module _ (s : List ℕ) (level safe : ℕ) (enclosing : Enclosing) (t₀ : Table
   module _ (ready : Ready s t₀ (c .at)) (x : Element) (p : x ≡ expectAt sequenceTag s c) where
     contents-is : wholeContents
         ≡ onElement x Refused
-          (λ t b n.
-          if eqb level 0 then Refused (fault tooMany (c .at)) else
-          onWalked (run stepOf (counting (rowsIn t₀) 1) b) Refused (λ st f. Went st n))
+        (λ t b n.
+        if eqb level 0 then Refused (fault tooMany (c .at)) else
+        onWalked (run stepOf (counting (rowsIn t₀) 1) b) Refused (λ st f. Went st n))
     contents-is = contents-law level s (owner safe enclosing) (rowsIn t₀) c ∙ rw (← p)
 
     pub contents-refused : (f : Fault) (r : Progress) → x ≡ Element.Refused f → r ≡ progress (Refused f) → r ≡ progress wholeContents

@@ -89,10 +89,10 @@ module _ (s : List ℕ) (below safe : ℕ) (enclosing : Enclosing) (t₀ : Table
   module _ (ready : Ready s t₀ (c .at)) (w : Before) (p : w ≡ bagHeadAt s (leb bagRows (t₀ .«bag_count»)) c) where
     bag-is : wholeBag
         ≡ onBag w Refused
-          (λ kind p k f e n. bagEndAt s (t₀ .«bag_count») (addBag (rowsIn t₀) (bagRowOf kind p e) k) f e n)
-          (λ v e n.
-          onWalked (safeContentsAt below s (owner safe (Bag (t₀ .«bag_count»))) (addBag (rowsIn t₀) (bagRowOf Nested noParts e) 3) v) Refused
-          (λ st′ f. bagEndAt s (t₀ .«bag_count») st′ f e n))
+        (λ kind p k f e n. bagEndAt s (t₀ .«bag_count») (addBag (rowsIn t₀) (bagRowOf kind p e) k) f e n)
+        (λ v e n.
+        onWalked (safeContentsAt below s (owner safe (Bag (t₀ .«bag_count»))) (addBag (rowsIn t₀) (bagRowOf Nested noParts e) 3) v) Refused
+        (λ st′ f. bagEndAt s (t₀ .«bag_count») st′ f e n))
     bag-is = sym (bag-law (safeContentsAt below s) s (owner safe enclosing) (rowsIn t₀) c) ∙ rw (← bag-count t₀ (ready .rows), ← p)
 
     facts : OfBag s c (leb bagRows (t₀ .«bag_count»)) w

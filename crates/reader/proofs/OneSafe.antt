@@ -137,8 +137,8 @@ module _ (s : List ℕ) (st₀ : Rows) (b : Cursor) where
     module _ (h : at < b .end) (w : Contents) (p : w ≡ safeHeadAt s (leb safeRows (t .«safe_count»)) (cursor at (b .end))) where
       safe-is : safeAt s (rowsIn t) (cursor at (b .end))
           ≡ onContents w Refused
-            (λ o f e n. closing (safeContentsAt levels s (owner (t .«safe_count») Enclosing.None) (addSafe (rowsIn t) (safeRow Plain noParts) 4) o) f e n)
-            (λ p k n. Went (addSafe (rowsIn t) (safeRow Encrypted p) k) n)
+          (λ o f e n. closing (safeContentsAt levels s (owner (t .«safe_count») Enclosing.None) (addSafe (rowsIn t) (safeRow Plain noParts) 4) o) f e n)
+          (λ p k n. Went (addSafe (rowsIn t) (safeRow Encrypted p) k) n)
       safe-is = sym (safe-law s (rowsIn t) (cursor at (b .end))) ∙ rw (← safe-count t (g .ready .rows), ← p)
 
       facts : OfSafe s (cursor at (b .end)) (leb safeRows (t .«safe_count»)) w

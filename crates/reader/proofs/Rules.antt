@@ -56,7 +56,6 @@ module _ {A : Type 0} where
       → w ≡ v → w ≡ MacAt.Found x k n → r ≡ good x k n → r ≡ onMac v bad good
   mac-found v w x k n r bad good p q e = rw (sym p ∙ q) e
 
-
 -- a test of what a callee gave: u is its answer
 module _ {A : Type 0} where
   pub given-eq : (a b u : ℕ) (r x y : A) → u ≡ a → u ≡ b → r ≡ x → r ≡ (if eqb a b then x else y)

@@ -176,7 +176,7 @@ module _ (s : List ℕ) (short : length s ≤ fileBytes) (c₀ : Cursor) (start 
       close-fits x k n h =
           let i : k ≤ length s = rw (sym u ∙ h) at (close-of s (y .answer) safes string content mac rest) in
           let j : y .table .elements ≤ body .end + 7 =
-                rw z (count-of (run (safeAt s) (startRows input) body) (body .at) (body .end) (run-room s (safeAt s) (safe-of s) (startRows input) body body-order)) in
+          rw z (count-of (run (safeAt s) (startRows input) body) (body .at) (body .end) (run-room s (safeAt s) (safe-of s) (startRows input) body body-order)) in
           omega (arith, i, j, body-inside, short)
 
       pub close-found : (x : Mac) (k : ℕ) (n : Cursor) → v ≡ MacAt.Found x k n → record { answer = Accepted; table = withMac (y .table) x k } ≡ readFile s

@@ -58,9 +58,17 @@ fn attribute_values(s: &[u8], i: Cursor, m: Cursor, n: Cursor) -> PartsAt
                     let identifier = parts::range_of(i);
                     let parameters = Range::EMPTY;
                     let value = parts::range_of(body);
-                    let parts = Parts { identifier, parameters, value };
+                    let parts = Parts {
+                        identifier,
+                        parameters,
+                        value,
+                    };
                     let more = count + 3;
-                    PartsAt::Found { parts, count: more, next: n }
+                    PartsAt::Found {
+                        parts,
+                        count: more,
+                        next: n,
+                    }
                 }
             },
         },
@@ -84,7 +92,11 @@ pub(crate) fn attribute(s: &[u8], full: bool, c: Cursor) -> PartsAt
             }
             match body.identifier(s) {
                 Element::Refused(f) => PartsAt::Refused(f),
-                Element::Found { tag: _, body: i, next: m } => attribute_values(s, i, m, next),
+                Element::Found {
+                    tag: _,
+                    body: i,
+                    next: m,
+                } => attribute_values(s, i, m, next),
             }
         }
     }
@@ -118,9 +130,20 @@ fn leaf(kind: BagKind, value: PartsAt, set: Cursor, next: Cursor) -> Bag
 {
     match value {
         PartsAt::Refused(f) => Bag::Refused(f),
-        PartsAt::Found { parts, count, next: end } => {
+        PartsAt::Found {
+            parts,
+            count,
+            next: end,
+        } => {
             let more = count + 3;
-            Bag::Leaf { kind, parts, count: more, end, set, next }
+            Bag::Leaf {
+                kind,
+                parts,
+                count: more,
+                end,
+                set,
+                next,
+            }
         }
     }
 }
@@ -143,7 +166,11 @@ fn bag_value(s: &[u8], kind: BagKind, v: Cursor, set: Cursor, next: Cursor) -> B
         BagKind::Certificate => leaf(kind, parts::typed(true, s, v), set, next),
         BagKind::Crl => leaf(kind, parts::typed(false, s, v), set, next),
         BagKind::Secret => leaf(kind, parts::typed(false, s, v), set, next),
-        BagKind::Nested => Bag::Nested { content: v, set, next },
+        BagKind::Nested => Bag::Nested {
+            content: v,
+            set,
+            next,
+        },
     }
 }
 
@@ -207,7 +234,11 @@ pub(crate) fn bag_at(s: &[u8], full: bool, c: Cursor) -> Bag
             }
             match body.identifier(s) {
                 Element::Refused(f) => Bag::Refused(f),
-                Element::Found { tag: _, body: i, next: m } => {
+                Element::Found {
+                    tag: _,
+                    body: i,
+                    next: m,
+                } => {
                     let at = body.at;
                     bag_of(s, at, i, m, next)
                 }

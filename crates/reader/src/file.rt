@@ -68,9 +68,21 @@ fn opened_safes(s: &[u8], c: Cursor, mac: Cursor, file: Cursor) -> Opened
 {
     match safes::data(s, c) {
         Octets::Refused(f) => Opened::Refused(f),
-        Octets::Found { body: input, string, content } => match input.expect(s, pkcs12::SEQUENCE) {
+        Octets::Found {
+            body: input,
+            string,
+            content,
+        } => match input.expect(s, pkcs12::SEQUENCE) {
             Element::Refused(f) => Opened::Refused(f),
-            Element::Found { tag: _, body, next } => Opened::Found { input, body, safes: next, string, content, mac, file },
+            Element::Found { tag: _, body, next } => Opened::Found {
+                input,
+                body,
+                safes: next,
+                string,
+                content,
+                mac,
+                file,
+            },
         },
     }
 }
@@ -101,7 +113,11 @@ fn opened_info(s: &[u8], c: Cursor, file: Cursor) -> Opened
         Element::Refused(f) => Opened::Refused(f),
         Element::Found { tag: _, body, next } => match body.identifier(s) {
             Element::Refused(f) => Opened::Refused(f),
-            Element::Found { tag: _, body: i, next: m } => {
+            Element::Found {
+                tag: _,
+                body: i,
+                next: m,
+            } => {
                 let at = body.at;
                 opened_value(s, i, at, m, next, file)
             }
@@ -137,8 +153,16 @@ fn iterations(s: &[u8], parts: Parts, salt: Range, count: usize, c: Cursor) -> M
                     Checked::Refused(f) => MacAt::Refused(f),
                     Checked::Passed { count: _, next: _ } => {
                         let more = count + 1;
-                        let mac = Mac { parts, salt, iterations: value };
-                        MacAt::Found { mac, count: more, next }
+                        let mac = Mac {
+                            parts,
+                            salt,
+                            iterations: value,
+                        };
+                        MacAt::Found {
+                            mac,
+                            count: more,
+                            next,
+                        }
                     }
                 }
             }
@@ -147,8 +171,16 @@ fn iterations(s: &[u8], parts: Parts, salt: Range, count: usize, c: Cursor) -> M
     match c.finish() {
         Checked::Refused(f) => MacAt::Refused(f),
         Checked::Passed { count: _, next: _ } => {
-            let mac = Mac { parts, salt, iterations: pkcs12::DEFAULT_ITERATIONS };
-            MacAt::Found { mac, count, next: c }
+            let mac = Mac {
+                parts,
+                salt,
+                iterations: pkcs12::DEFAULT_ITERATIONS,
+            };
+            MacAt::Found {
+                mac,
+                count,
+                next: c,
+            }
         }
     }
 }
@@ -164,7 +196,15 @@ fn salted(s: &[u8], parts: Parts, count: usize, m: Cursor, n: Cursor) -> MacAt
             let more = count + 2;
             match iterations(s, parts, salt, more, next) {
                 MacAt::Refused(f) => MacAt::Refused(f),
-                MacAt::Found { mac, count: all, next: _ } => MacAt::Found { mac, count: all, next: n },
+                MacAt::Found {
+                    mac,
+                    count: all,
+                    next: _,
+                } => MacAt::Found {
+                    mac,
+                    count: all,
+                    next: n,
+                },
             }
         }
     }
@@ -178,7 +218,11 @@ fn mac(s: &[u8], c: Cursor) -> MacAt
         Element::Refused(f) => MacAt::Refused(f),
         Element::Found { tag: _, body, next } => match parts::sealed(s, body) {
             PartsAt::Refused(f) => MacAt::Refused(f),
-            PartsAt::Found { parts, count, next: m } => salted(s, parts, count, m, next),
+            PartsAt::Found {
+                parts,
+                count,
+                next: m,
+            } => salted(s, parts, count, m, next),
         },
     }
 }
@@ -204,7 +248,15 @@ fn last(s: &[u8], c: Cursor, file: Cursor) -> MacAt
     }
 }
 
-pub(crate) fn close(s: &[u8], answer: Answer, safes: Cursor, string: Cursor, content: Cursor, mac: Cursor, file: Cursor) -> MacAt
+pub(crate) fn close(
+    s: &[u8],
+    answer: Answer,
+    safes: Cursor,
+    string: Cursor,
+    content: Cursor,
+    mac: Cursor,
+    file: Cursor,
+) -> MacAt
     requires { ⌜ length (now s) ≤ fileBytes ⌝ }
     ensures { λ r. ⌜ r ≡ closeAt (now (s .entry)) answer safes string content mac file ⌝ }
 {

@@ -2,11 +2,13 @@
 ghost use mathlib.Core.Path.{_≡_};
 ghost use Rattle.pkcs12.specs.Table.{bytesIn};
 ghost use Rattle.pkcs12.specs.Walk.{refused, readFile};
+
 mod bags;
 mod file;
 mod parts;
 mod rows;
 mod safes;
+
 use der::Cursor;
 use der::Fault;
 use file::Opened;
@@ -39,12 +41,24 @@ pub fn read(file: &[u8]) -> Reading
     let whole = Cursor::over(file);
     match file::open(file, whole) {
         Opened::Refused(f) => refused(f),
-        Opened::Found { input, body, safes, string, content, mac, file: rest } => {
+        Opened::Found {
+            input,
+            body,
+            safes,
+            string,
+            content,
+            mac,
+            file: rest,
+        } => {
             let all = rows::safes(file, input, body);
             let answer = all.answer;
             match file::close(file, answer, safes, string, content, mac, rest) {
                 MacAt::Refused(f) => refused(f),
-                MacAt::Found { mac: fields, count, next: _ } => {
+                MacAt::Found {
+                    mac: fields,
+                    count,
+                    next: _,
+                } => {
                     let mut table = all.table;
                     let elements = table.elements + count;
                     table.elements = elements;

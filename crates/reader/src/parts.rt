@@ -16,10 +16,10 @@ use der::Cursor;
 use der::Element;
 use der::Fault;
 use der::Integer;
+use pkcs12::DATA;
 use pkcs12::Parts;
 use pkcs12::PartsAt;
 use pkcs12::Range;
-use pkcs12::DATA;
 use pkcs12::X509_CERTIFICATE;
 
 // The places a up to b.
@@ -69,17 +69,33 @@ fn parameters(s: &[u8], i: Cursor, m: Cursor, stop: usize, n: Cursor) -> PartsAt
                     let to = next.at;
                     let parameters = range(from, to);
                     let value = Range::EMPTY;
-                    let parts = Parts { identifier, parameters, value };
+                    let parts = Parts {
+                        identifier,
+                        parameters,
+                        value,
+                    };
                     let more = count + 2;
-                    PartsAt::Found { parts, count: more, next: n }
+                    PartsAt::Found {
+                        parts,
+                        count: more,
+                        next: n,
+                    }
                 }
             },
         };
     }
     let parameters = range(stop, stop);
     let value = Range::EMPTY;
-    let parts = Parts { identifier, parameters, value };
-    PartsAt::Found { parts, count: 2, next: n }
+    let parts = Parts {
+        identifier,
+        parameters,
+        value,
+    };
+    PartsAt::Found {
+        parts,
+        count: 2,
+        next: n,
+    }
 }
 
 pub(crate) fn algorithm(s: &[u8], c: Cursor) -> PartsAt
@@ -90,7 +106,11 @@ pub(crate) fn algorithm(s: &[u8], c: Cursor) -> PartsAt
         Element::Refused(f) => PartsAt::Refused(f),
         Element::Found { tag: _, body, next } => match body.identifier(s) {
             Element::Refused(f) => PartsAt::Refused(f),
-            Element::Found { tag: _, body: i, next: m } => {
+            Element::Found {
+                tag: _,
+                body: i,
+                next: m,
+            } => {
                 let stop = body.end;
                 parameters(s, i, m, stop, next)
             }
@@ -111,9 +131,17 @@ fn octets(s: &[u8], algorithm: Parts, count: usize, m: Cursor, n: Cursor) -> Par
                 let identifier = algorithm.identifier;
                 let parameters = algorithm.parameters;
                 let value = range_of(body);
-                let parts = Parts { identifier, parameters, value };
+                let parts = Parts {
+                    identifier,
+                    parameters,
+                    value,
+                };
                 let more = count + 2;
-                PartsAt::Found { parts, count: more, next: n }
+                PartsAt::Found {
+                    parts,
+                    count: more,
+                    next: n,
+                }
             }
         },
     }
@@ -128,7 +156,11 @@ pub(crate) fn sealed(s: &[u8], c: Cursor) -> PartsAt
         Element::Refused(f) => PartsAt::Refused(f),
         Element::Found { tag: _, body, next } => match algorithm(s, body) {
             PartsAt::Refused(f) => PartsAt::Refused(f),
-            PartsAt::Found { parts, count, next: m } => octets(s, parts, count, m, next),
+            PartsAt::Found {
+                parts,
+                count,
+                next: m,
+            } => octets(s, parts, count, m, next),
         },
     }
 }
@@ -140,7 +172,11 @@ pub(crate) fn key(s: &[u8], c: Cursor) -> PartsAt
 {
     match c.expect(s, pkcs12::SEQUENCE) {
         Element::Refused(f) => PartsAt::Refused(f),
-        Element::Found { tag: _, body: _, next: _ } => match c.opaque(s, der::OPAQUE_LEVELS) {
+        Element::Found {
+            tag: _,
+            body: _,
+            next: _,
+        } => match c.opaque(s, der::OPAQUE_LEVELS) {
             Checked::Refused(f) => PartsAt::Refused(f),
             Checked::Passed { count, next } => {
                 let from = c.at;
@@ -148,7 +184,11 @@ pub(crate) fn key(s: &[u8], c: Cursor) -> PartsAt
                 let identifier = Range::EMPTY;
                 let parameters = Range::EMPTY;
                 let value = range(from, to);
-                let parts = Parts { identifier, parameters, value };
+                let parts = Parts {
+                    identifier,
+                    parameters,
+                    value,
+                };
                 PartsAt::Found { parts, count, next }
             }
         },
@@ -162,7 +202,11 @@ fn value(octets: bool, s: &[u8], c: Cursor) -> Checked
     if octets {
         return match c.octet_string(s) {
             Element::Refused(f) => Checked::Refused(f),
-            Element::Found { tag: _, body: _, next: _ } => c.opaque(s, der::OPAQUE_LEVELS),
+            Element::Found {
+                tag: _,
+                body: _,
+                next: _,
+            } => c.opaque(s, der::OPAQUE_LEVELS),
         };
     }
     c.opaque(s, der::OPAQUE_LEVELS)
@@ -196,9 +240,17 @@ fn typed_value(octets: bool, s: &[u8], i: Cursor, v: Cursor, e: Cursor, n: Curso
                     let identifier = range_of(i);
                     let parameters = Range::EMPTY;
                     let value = range(from, to);
-                    let parts = Parts { identifier, parameters, value };
+                    let parts = Parts {
+                        identifier,
+                        parameters,
+                        value,
+                    };
                     let more = count + 3;
-                    PartsAt::Found { parts, count: more, next: n }
+                    PartsAt::Found {
+                        parts,
+                        count: more,
+                        next: n,
+                    }
                 }
             },
         },
@@ -214,9 +266,17 @@ pub(crate) fn typed(certificate: bool, s: &[u8], c: Cursor) -> PartsAt
         Element::Refused(f) => PartsAt::Refused(f),
         Element::Found { tag: _, body, next } => match body.identifier(s) {
             Element::Refused(f) => PartsAt::Refused(f),
-            Element::Found { tag: _, body: i, next: m } => match m.expect(s, pkcs12::CONTEXT_0) {
+            Element::Found {
+                tag: _,
+                body: i,
+                next: m,
+            } => match m.expect(s, pkcs12::CONTEXT_0) {
                 Element::Refused(f) => PartsAt::Refused(f),
-                Element::Found { tag: _, body: v, next: e } => {
+                Element::Found {
+                    tag: _,
+                    body: v,
+                    next: e,
+                } => {
                     let octets = is_x509(certificate, s, i);
                     typed_value(octets, s, i, v, e, next)
                 }
@@ -246,9 +306,17 @@ fn ciphertext(s: &[u8], algorithm: Parts, count: usize, e: Cursor, n: Cursor) ->
                 let identifier = algorithm.identifier;
                 let parameters = algorithm.parameters;
                 let value = range_of(body);
-                let parts = Parts { identifier, parameters, value };
+                let parts = Parts {
+                    identifier,
+                    parameters,
+                    value,
+                };
                 let more = count + 3;
-                PartsAt::Found { parts, count: more, next: n }
+                PartsAt::Found {
+                    parts,
+                    count: more,
+                    next: n,
+                }
             }
         },
     }
@@ -274,7 +342,11 @@ fn encrypted_info(s: &[u8], c: Cursor) -> PartsAt
         Element::Refused(f) => PartsAt::Refused(f),
         Element::Found { tag: _, body, next } => match body.identifier(s) {
             Element::Refused(f) => PartsAt::Refused(f),
-            Element::Found { tag: _, body: i, next: m } => {
+            Element::Found {
+                tag: _,
+                body: i,
+                next: m,
+            } => {
                 if named(s, i, &DATA) {
                     return encrypted_parts(s, m, next);
                 }
@@ -299,7 +371,11 @@ fn encrypted_content(s: &[u8], m: Cursor, n: Cursor) -> PartsAt
             Checked::Refused(f) => PartsAt::Refused(f),
             Checked::Passed { count: _, next: _ } => {
                 let more = count + 2;
-                PartsAt::Found { parts, count: more, next: n }
+                PartsAt::Found {
+                    parts,
+                    count: more,
+                    next: n,
+                }
             }
         },
     }

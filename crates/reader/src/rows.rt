@@ -76,11 +76,19 @@ fn attributes(s: &[u8], number: u16, mut table: Table, e: Cursor, c: Cursor, n: 
                     PartsAt::Refused(f) => {
                         return refused(f);
                     }
-                    PartsAt::Found { parts, count, next: behind } => {
+                    PartsAt::Found {
+                        parts,
+                        count,
+                        next: behind,
+                    } => {
                         let identifier = parts.identifier;
                         let values = parts.value;
                         let elements = table.elements + count;
-                        table.attributes[row] = AttributeRow { bag: number, identifier, values };
+                        table.attributes[row] = AttributeRow {
+                            bag: number,
+                            identifier,
+                            values,
+                        };
                         table.attribute_count = row + 1;
                         table.elements = elements;
                         at = behind.at;
@@ -100,7 +108,14 @@ fn attributes(s: &[u8], number: u16, mut table: Table, e: Cursor, c: Cursor, n: 
 }
 
 // A bag of this safe and enclosing bag, with its attributes; safe contents in it have `below` levels left.
-fn bag(s: &[u8], below: u8, safe: u16, enclosing: Enclosing, mut table: Table, c: Cursor) -> Progress
+fn bag(
+    s: &[u8],
+    below: u8,
+    safe: u16,
+    enclosing: Enclosing,
+    mut table: Table,
+    c: Cursor,
+) -> Progress
     requires { ⌜ Ready (now s) table (c .at) ⌝ }
     ensures { λ r. ⌜ r ≡ progress (bagAt (safeContentsAt below (now (s .entry))) (now (s .entry)) (owner safe enclosing) (rowsIn table) c) ⌝ }
 {
@@ -112,11 +127,24 @@ fn bag(s: &[u8], below: u8, safe: u16, enclosing: Enclosing, mut table: Table, c
             so_far = refused(f);
             return so_far;
         }
-        Bag::Leaf { kind, parts, count, end, set, next } => {
+        Bag::Leaf {
+            kind,
+            parts,
+            count,
+            end,
+            set,
+            next,
+        } => {
             let number = row as u16;
             let has_set = set.at < set.end;
             let elements = table.elements + count;
-            table.bags[row] = BagRow { kind, safe, enclosing, parts, has_set };
+            table.bags[row] = BagRow {
+                kind,
+                safe,
+                enclosing,
+                parts,
+                has_set,
+            };
             table.bag_count = row + 1;
             table.elements = elements;
             so_far = attributes(s, number, table, end, set, next);
@@ -127,7 +155,13 @@ fn bag(s: &[u8], below: u8, safe: u16, enclosing: Enclosing, mut table: Table, c
             let has_set = set.at < set.end;
             let elements = table.elements + 3;
             let parts = Parts::EMPTY;
-            table.bags[row] = BagRow { kind: BagKind::Nested, safe, enclosing, parts, has_set };
+            table.bags[row] = BagRow {
+                kind: BagKind::Nested,
+                safe,
+                enclosing,
+                parts,
+                has_set,
+            };
             table.bag_count = row + 1;
             table.elements = elements;
             so_far = safe_contents(s, below, safe, Enclosing::Bag(number), table, content);
@@ -147,7 +181,14 @@ fn bag(s: &[u8], below: u8, safe: u16, enclosing: Enclosing, mut table: Table, c
 }
 
 // The bags of safe contents, with this many levels left.
-pub(crate) fn safe_contents(s: &[u8], level: u8, safe: u16, enclosing: Enclosing, table: Table, c: Cursor) -> Progress
+pub(crate) fn safe_contents(
+    s: &[u8],
+    level: u8,
+    safe: u16,
+    enclosing: Enclosing,
+    table: Table,
+    c: Cursor,
+) -> Progress
     requires { ⌜ Ready (now s) table (c .at) ⌝ }
     ensures { λ r. ⌜ r ≡ progress (safeContentsAt level (now (s .entry)) (owner safe enclosing) (rowsIn table) c) ⌝ }
 {
@@ -225,16 +266,27 @@ pub(crate) fn safes(s: &[u8], m: Cursor, b: Cursor) -> Progress
             }
             Contents::Encrypted { parts, count, next } => {
                 let elements = table.elements + count;
-                table.safes[row] = SafeRow { kind: SafeKind::Encrypted, parts };
+                table.safes[row] = SafeRow {
+                    kind: SafeKind::Encrypted,
+                    parts,
+                };
                 table.safe_count = row + 1;
                 table.elements = elements;
                 at = next.at;
             }
-            Contents::Plain { body, string, content, next } => {
+            Contents::Plain {
+                body,
+                string,
+                content,
+                next,
+            } => {
                 let number = row as u16;
                 let elements = table.elements + 4;
                 let parts = Parts::EMPTY;
-                table.safes[row] = SafeRow { kind: SafeKind::Plain, parts };
+                table.safes[row] = SafeRow {
+                    kind: SafeKind::Plain,
+                    parts,
+                };
                 table.safe_count = row + 1;
                 table.elements = elements;
                 let inner = safe_contents(s, pkcs12::LEVELS, number, Enclosing::None, table, body);

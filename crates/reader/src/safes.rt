@@ -16,14 +16,27 @@ use pkcs12::PartsAt;
 
 // The body of a data OCTET STRING in [0], with what is left behind the string and behind [0].
 pub(crate) enum Octets {
-    Found { body: Cursor, string: Cursor, content: Cursor },
+    Found {
+        body: Cursor,
+        string: Cursor,
+        content: Cursor,
+    },
     Refused(Fault),
 }
 
 // A safe up to its bags.
 pub(crate) enum Contents {
-    Plain { body: Cursor, string: Cursor, content: Cursor, next: Cursor },
-    Encrypted { parts: Parts, count: usize, next: Cursor },
+    Plain {
+        body: Cursor,
+        string: Cursor,
+        content: Cursor,
+        next: Cursor,
+    },
+    Encrypted {
+        parts: Parts,
+        count: usize,
+        next: Cursor,
+    },
     Refused(Fault),
 }
 
@@ -32,9 +45,21 @@ pub(crate) fn data(s: &[u8], c: Cursor) -> Octets
 {
     match c.expect(s, pkcs12::CONTEXT_0) {
         Element::Refused(f) => Octets::Refused(f),
-        Element::Found { tag: _, body: v, next: content } => match v.octet_string(s) {
+        Element::Found {
+            tag: _,
+            body: v,
+            next: content,
+        } => match v.octet_string(s) {
             Element::Refused(f) => Octets::Refused(f),
-            Element::Found { tag: _, body, next: string } => Octets::Found { body, string, content },
+            Element::Found {
+                tag: _,
+                body,
+                next: string,
+            } => Octets::Found {
+                body,
+                string,
+                content,
+            },
         },
     }
 }
@@ -54,7 +79,16 @@ fn plain(s: &[u8], c: Cursor, n: Cursor) -> Contents
 {
     match data(s, c) {
         Octets::Refused(f) => Contents::Refused(f),
-        Octets::Found { body, string, content } => Contents::Plain { body, string, content, next: n },
+        Octets::Found {
+            body,
+            string,
+            content,
+        } => Contents::Plain {
+            body,
+            string,
+            content,
+            next: n,
+        },
     }
 }
 
@@ -66,11 +100,19 @@ fn encrypted(s: &[u8], c: Cursor, n: Cursor) -> Contents
         Element::Refused(f) => Contents::Refused(f),
         Element::Found { tag: _, body, next } => match parts::encrypted(s, body) {
             PartsAt::Refused(f) => Contents::Refused(f),
-            PartsAt::Found { parts, count, next: e } => match both(e, next) {
+            PartsAt::Found {
+                parts,
+                count,
+                next: e,
+            } => match both(e, next) {
                 Checked::Refused(f) => Contents::Refused(f),
                 Checked::Passed { count: _, next: _ } => {
                     let more = count + 3;
-                    Contents::Encrypted { parts, count: more, next: n }
+                    Contents::Encrypted {
+                        parts,
+                        count: more,
+                        next: n,
+                    }
                 }
             },
         },
@@ -117,7 +159,11 @@ pub(crate) fn safe(s: &[u8], full: bool, c: Cursor) -> Contents
             }
             match body.identifier(s) {
                 Element::Refused(f) => Contents::Refused(f),
-                Element::Found { tag: _, body: i, next: m } => {
+                Element::Found {
+                    tag: _,
+                    body: i,
+                    next: m,
+                } => {
                     let at = body.at;
                     safe_value(s, i, at, m, next)
                 }
