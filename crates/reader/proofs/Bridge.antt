@@ -21,41 +21,74 @@ use Rattle.der.specs.declared.Checked.{Checked}
 use Rattle.der.specs.declared.Checked.the-variants.{Passed}
 use Rattle.pkcs12.specs.Numbers.{attributeRows, sequenceTag, setTag}
 use Rattle.pkcs12.specs.Table.{Rows, attributeRow}
-use Rattle.pkcs12.specs.Walk.{onParts, Walked, Refused, Went, onWalked, run, counting, addAttribute, attributeAt, setAt}
+use Rattle.pkcs12.specs.Walk.{onParts, onMac, Walked, Refused, Went, onWalked, run, counting, addAttribute, attributeAt, setAt}
 use Rattle.pkcs12.specs.declared.Parts.{Parts}
 use Rattle.pkcs12.specs.declared.PartsAt.{PartsAt}
+use Rattle.pkcs12.specs.declared.Mac.{Mac}
+use Rattle.pkcs12.specs.declared.MacAt.{MacAt}
 use Rattle.reader.specs.Steps.{attributeValuesAt, attributePartsAt, onSet, setHeadAt, bagEndAt}
 use Rattle.reader.specs.declared.bags.Set.{Set}
 
+-- two functions of answers that depend on the same test or call
+module _ {A B C : Type 0} (F : A → C) (G : B → C) where
+  pub both-element : (x : Element) (bad : Fault → A) (good : ℕ → Cursor → Cursor → A) (bad′ : Fault → B) (good′ : ℕ → Cursor → Cursor → B)
+      → ((f : Fault) → F (bad f) ≡ G (bad′ f)) → ((t : ℕ) (b n : Cursor) → F (good t b n) ≡ G (good′ t b n)) → F (onElement x bad good) ≡ G (onElement x bad′ good′)
+  both-element (Element.Refused f) bad good bad′ good′ p q = p f
+  both-element (Found t b n) bad good bad′ good′ p q = q t b n
+
+  pub both-checked : (x : Checked) (bad : Fault → A) (good : ℕ → Cursor → A) (bad′ : Fault → B) (good′ : ℕ → Cursor → B)
+      → ((f : Fault) → F (bad f) ≡ G (bad′ f)) → ((k : ℕ) (n : Cursor) → F (good k n) ≡ G (good′ k n)) → F (onChecked x bad good) ≡ G (onChecked x bad′ good′)
+  both-checked (Checked.Refused f) bad good bad′ good′ p q = p f
+  both-checked (Passed k n) bad good bad′ good′ p q = q k n
+
+  pub both-integer : (x : Integer) (bad : Fault → A) (good : ℕ → Cursor → A) (bad′ : Fault → B) (good′ : ℕ → Cursor → B)
+      → ((f : Fault) → F (bad f) ≡ G (bad′ f)) → ((v : ℕ) (n : Cursor) → F (good v n) ≡ G (good′ v n)) → F (onInteger x bad good) ≡ G (onInteger x bad′ good′)
+  both-integer (Integer.Refused f) bad good bad′ good′ p q = p f
+  both-integer (Value v n) bad good bad′ good′ p q = q v n
+
+  pub both-parts : (x : PartsAt) (bad : Fault → A) (good : Parts → ℕ → Cursor → A) (bad′ : Fault → B) (good′ : Parts → ℕ → Cursor → B)
+      → ((f : Fault) → F (bad f) ≡ G (bad′ f)) → ((a : Parts) (k : ℕ) (n : Cursor) → F (good a k n) ≡ G (good′ a k n)) → F (onParts x bad good) ≡ G (onParts x bad′ good′)
+  both-parts (PartsAt.Refused f) bad good bad′ good′ p q = p f
+  both-parts (PartsAt.Found a k n) bad good bad′ good′ p q = q a k n
+
+  pub both-mac : (x : MacAt) (bad : Fault → A) (good : Mac → ℕ → Cursor → A) (bad′ : Fault → B) (good′ : Mac → ℕ → Cursor → B)
+      → ((f : Fault) → F (bad f) ≡ G (bad′ f)) → ((m : Mac) (k : ℕ) (n : Cursor) → F (good m k n) ≡ G (good′ m k n)) → F (onMac x bad good) ≡ G (onMac x bad′ good′)
+  both-mac (MacAt.Refused f) bad good bad′ good′ p q = p f
+  both-mac (MacAt.Found m k n) bad good bad′ good′ p q = q m k n
+
+  pub both-walked : (x : Walked) (bad : Fault → A) (good : Rows → Cursor → A) (bad′ : Fault → B) (good′ : Rows → Cursor → B)
+      → ((f : Fault) → F (bad f) ≡ G (bad′ f)) → ((st : Rows) (n : Cursor) → F (good st n) ≡ G (good′ st n)) → F (onWalked x bad good) ≡ G (onWalked x bad′ good′)
+  both-walked (Refused f) bad good bad′ good′ p q = p f
+  both-walked (Went st n) bad good bad′ good′ p q = q st n
+
+  pub both-test : (t : Bool) (x y : A) (x′ y′ : B) → F x ≡ G x′ → F y ≡ G y′ → F (if t then x else y) ≡ G (if t then x′ else y′)
+  both-test true x y x′ y′ p q = p
+  both-test false x y x′ y′ p q = q
+
+-- one function of such an answer, below the test or call
 module _ {A B : Type 0} (F : A → B) where
   pub through-element : (x : Element) (bad : Fault → A) (good : ℕ → Cursor → Cursor → A) (bad′ : Fault → B) (good′ : ℕ → Cursor → Cursor → B)
       → ((f : Fault) → F (bad f) ≡ bad′ f) → ((t : ℕ) (b n : Cursor) → F (good t b n) ≡ good′ t b n) → F (onElement x bad good) ≡ onElement x bad′ good′
-  through-element (Element.Refused f) bad good bad′ good′ p q = p f
-  through-element (Found t b n) bad good bad′ good′ p q = q t b n
+  through-element = both-element F (λ y. y)
 
   pub through-checked : (x : Checked) (bad : Fault → A) (good : ℕ → Cursor → A) (bad′ : Fault → B) (good′ : ℕ → Cursor → B)
       → ((f : Fault) → F (bad f) ≡ bad′ f) → ((k : ℕ) (n : Cursor) → F (good k n) ≡ good′ k n) → F (onChecked x bad good) ≡ onChecked x bad′ good′
-  through-checked (Checked.Refused f) bad good bad′ good′ p q = p f
-  through-checked (Passed k n) bad good bad′ good′ p q = q k n
+  through-checked = both-checked F (λ y. y)
 
   pub through-integer : (x : Integer) (bad : Fault → A) (good : ℕ → Cursor → A) (bad′ : Fault → B) (good′ : ℕ → Cursor → B)
       → ((f : Fault) → F (bad f) ≡ bad′ f) → ((v : ℕ) (n : Cursor) → F (good v n) ≡ good′ v n) → F (onInteger x bad good) ≡ onInteger x bad′ good′
-  through-integer (Integer.Refused f) bad good bad′ good′ p q = p f
-  through-integer (Value v n) bad good bad′ good′ p q = q v n
+  through-integer = both-integer F (λ y. y)
 
   pub through-parts : (x : PartsAt) (bad : Fault → A) (good : Parts → ℕ → Cursor → A) (bad′ : Fault → B) (good′ : Parts → ℕ → Cursor → B)
-      → ((f : Fault) → F (bad f) ≡ bad′ f) → ((p : Parts) (k : ℕ) (n : Cursor) → F (good p k n) ≡ good′ p k n) → F (onParts x bad good) ≡ onParts x bad′ good′
-  through-parts (PartsAt.Refused f) bad good bad′ good′ p q = p f
-  through-parts (PartsAt.Found x k n) bad good bad′ good′ p q = q x k n
+      → ((f : Fault) → F (bad f) ≡ bad′ f) → ((a : Parts) (k : ℕ) (n : Cursor) → F (good a k n) ≡ good′ a k n) → F (onParts x bad good) ≡ onParts x bad′ good′
+  through-parts = both-parts F (λ y. y)
 
   pub through-walked : (x : Walked) (bad : Fault → A) (good : Rows → Cursor → A) (bad′ : Fault → B) (good′ : Rows → Cursor → B)
       → ((f : Fault) → F (bad f) ≡ bad′ f) → ((st : Rows) (n : Cursor) → F (good st n) ≡ good′ st n) → F (onWalked x bad good) ≡ onWalked x bad′ good′
-  through-walked (Refused f) bad good bad′ good′ p q = p f
-  through-walked (Went st n) bad good bad′ good′ p q = q st n
+  through-walked = both-walked F (λ y. y)
 
   pub through-test : (t : Bool) (x y : A) (x′ y′ : B) → F x ≡ x′ → F y ≡ y′ → F (if t then x else y) ≡ (if t then x′ else y′)
-  through-test true x y x′ y′ p q = p
-  through-test false x y x′ y′ p q = q
+  through-test = both-test F (λ y. y)
 
 -- an attribute: its parts, then its row
 pub attribute-law : (s : List ℕ) (number : ℕ) (st : Rows) (c : Cursor)

@@ -29,31 +29,7 @@ use Rattle.reader.specs.Steps.{onOctets, dataHeadAt, bothAt, closedAt, o
 use Rattle.reader.specs.declared.safes.Octets.{Octets}
 use Rattle.reader.specs.declared.file.Outer.{Outer}
 use Rattle.reader.specs.declared.file.Opened.{Opened}
-use Rattle.reader.proofs.Bridge.{through-checked, through-integer, through-element, through-walked, through-test}
-
--- two functions of answers that depend on the same test
-module _ {A B C : Type 0} (F : A → C) (G : B → C) where
-  both-element : (x : Element) (bad : Fault → A) (good : ℕ → Cursor → Cursor → A) (bad′ : Fault → B) (good′ : ℕ → Cursor → Cursor → B)
-      → ((f : Fault) → F (bad f) ≡ G (bad′ f)) → ((t : ℕ) (b n : Cursor) → F (good t b n) ≡ G (good′ t b n))
-      → F (onElement x bad good) ≡ G (onElement x bad′ good′)
-  both-element (Element.Refused f) bad good bad′ good′ p q = p f
-  both-element (Found t b n) bad good bad′ good′ p q = q t b n
-
-  both-checked : (x : Checked) (bad : Fault → A) (good : ℕ → Cursor → A) (bad′ : Fault → B) (good′ : ℕ → Cursor → B)
-      → ((f : Fault) → F (bad f) ≡ G (bad′ f)) → ((k : ℕ) (n : Cursor) → F (good k n) ≡ G (good′ k n))
-      → F (onChecked x bad good) ≡ G (onChecked x bad′ good′)
-  both-checked (Checked.Refused f) bad good bad′ good′ p q = p f
-  both-checked (Passed k n) bad good bad′ good′ p q = q k n
-
-  both-mac : (x : MacAt) (bad : Fault → A) (good : Mac → ℕ → Cursor → A) (bad′ : Fault → B) (good′ : Mac → ℕ → Cursor → B)
-      → ((f : Fault) → F (bad f) ≡ G (bad′ f)) → ((m : Mac) (k : ℕ) (n : Cursor) → F (good m k n) ≡ G (good′ m k n))
-      → F (onMac x bad good) ≡ G (onMac x bad′ good′)
-  both-mac (MacAt.Refused f) bad good bad′ good′ p q = p f
-  both-mac (MacAt.Found m k n) bad good bad′ good′ p q = q m k n
-
-  both-test : (t : Bool) (x y : A) (x′ y′ : B) → F x ≡ G x′ → F y ≡ G y′ → F (if t then x else y) ≡ G (if t then x′ else y′)
-  both-test true x y x′ y′ p q = p
-  both-test false x y x′ y′ p q = q
+use Rattle.reader.proofs.Bridge.{both-element, both-checked, both-mac, both-test, through-checked, through-integer, through-element, through-walked, through-test}
 
 -- the table of a file that is accepted
 abbrev accepted : Rows → Mac → ℕ → Cursor → Reading

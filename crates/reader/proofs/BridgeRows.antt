@@ -36,7 +36,7 @@ use Rattle.reader.specs.declared.bags.Bag.{Bag as Head}
 use Rattle.reader.specs.declared.safes.Octets.{Octets}
 use Rattle.reader.specs.declared.safes.Contents.{Contents}
 use Rattle.reader.specs.declared.rows.Progress.{Progress}
-use Rattle.reader.proofs.Bridge.{through-element, through-checked, through-walked, through-test}
+use Rattle.reader.proofs.Bridge.{both-element, both-parts, both-checked, both-test, through-element, through-checked, through-walked, through-test}
 
 pub through-kind : {A B : Type 0} (F : A → B) (k : BagKind) (x y : A) (x′ y′ : B) → F x ≡ x′ → F y ≡ y′ → F (onKind k x y) ≡ onKind k x′ y′
 through-kind F BagKind.None x y x′ y′ p q = p
@@ -92,27 +92,6 @@ bag-law inner s w st c =
   where
     F : Head → Walked
     F x = afterBag inner s w st x
-
--- the same test or call below two functions
-module _ {A B C : Type 0} (F : A → C) (G : B → C) where
-  both-element : (x : Element) (bad : Fault → A) (good : ℕ → Cursor → Cursor → A) (bad′ : Fault → B) (good′ : ℕ → Cursor → Cursor → B)
-      → ((f : Fault) → F (bad f) ≡ G (bad′ f)) → ((t : ℕ) (b n : Cursor) → F (good t b n) ≡ G (good′ t b n)) → F (onElement x bad good) ≡ G (onElement x bad′ good′)
-  both-element (Element.Refused f) bad good bad′ good′ p q = p f
-  both-element (Found t b n) bad good bad′ good′ p q = q t b n
-
-  both-parts : (x : PartsAt) (bad : Fault → A) (good : Parts → ℕ → Cursor → A) (bad′ : Fault → B) (good′ : Parts → ℕ → Cursor → B)
-      → ((f : Fault) → F (bad f) ≡ G (bad′ f)) → ((p : Parts) (k : ℕ) (n : Cursor) → F (good p k n) ≡ G (good′ p k n)) → F (onParts x bad good) ≡ G (onParts x bad′ good′)
-  both-parts (PartsAt.Refused f) bad good bad′ good′ p q = p f
-  both-parts (PartsAt.Found x k n) bad good bad′ good′ p q = q x k n
-
-  both-checked : (x : Checked) (bad : Fault → A) (good : ℕ → Cursor → A) (bad′ : Fault → B) (good′ : ℕ → Cursor → B)
-      → ((f : Fault) → F (bad f) ≡ G (bad′ f)) → ((k : ℕ) (n : Cursor) → F (good k n) ≡ G (good′ k n)) → F (onChecked x bad good) ≡ G (onChecked x bad′ good′)
-  both-checked (Checked.Refused f) bad good bad′ good′ p q = p f
-  both-checked (Passed k n) bad good bad′ good′ p q = q k n
-
-  both-test : (t : Bool) (x y : A) (x′ y′ : B) → F x ≡ G x′ → F y ≡ G y′ → F (if t then x else y) ≡ G (if t then x′ else y′)
-  both-test true x y x′ y′ p q = p
-  both-test false x y x′ y′ p q = q
 
 module _ (s : List ℕ) (st : Rows) where
   -- what the code does with a safe's head

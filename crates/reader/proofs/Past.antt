@@ -21,6 +21,7 @@ use Rattle.der.specs.declared.Checked.{Checked}
 use Rattle.der.specs.declared.Checked.the-variants.{Passed}
 use Rattle.der.proofs.Choices.{by-test, by-lt, by-le, by-eq}
 use Rattle.der.proofs.Placed.{by-element, found, expected}
+use Rattle.der.proofs.Values.{identified}
 use Rattle.der.proofs.Opaque.{Went as One, Ran, by-checked, went, ran}
 use Rattle.pkcs12.specs.Numbers.{safeRows, bagRows, attributeRows, levels, sequenceTag, setTag, contextTag, ciphertextTag, attributedVersion, encryptedVersion, defaultIterations}
 use Rattle.pkcs12.specs.Identifiers.{sameBytes, dataType, envelopedType, encryptedType, x509Certificate, kindOf}
@@ -70,11 +71,11 @@ OfHead s c (Element.Refused f) = Unit {0}
 OfHead s c (Found t b n) = Head s c b n
 
 identifier-of : (s : List ℕ) (c : Cursor) → OfHead s c (identifierAt s c)
-unfolding identifierAt
-identifier-of s c =
-    by-element (OfHead s c) (λ x. expectAt identifierTag s c ≡ x) _ _ (λ f. tt)
-    (λ t b n p. by-test (OfHead s c) _ _ (identifierBody (bytesOf s b)) (λ h. expect-head identifierTag s c t b n p) (λ h. tt))
-    (expectAt identifierTag s c) refl
+identifier-of s c = go (identifierAt s c) refl
+  where
+    go : (x : Element) → identifierAt s c ≡ x → OfHead s c x
+    go (Element.Refused f) e = tt
+    go (Found t b n) e = head-of s c t b n (identified s c (identifierAt s c) t b n refl e)
 
 -- an integer, whose body isn't told
 abbrev OfInteger : List ℕ → Cursor → Integer → Type 0
