@@ -21,7 +21,7 @@
 #include <sys/mman.h>
 #include <time.h>
 
-#define REPEATS 15 /* many short ones: the machine is shared, and a neighbour's burst spoils whole repeats */
+#define REPEATS 15 /* many short ones: what else runs spoils whole repeats */
 #define SECONDS 0.3
 
 /* Rattle: #[no_mangle] pub extern "C" fn p12_elements(file: &[u8]) -> usize. A slice is two arguments, its pointer and its
@@ -137,12 +137,12 @@ static int time_file(const char *path, const uint8_t *file, size_t n)
             if (took < ns[k])
                 ns[k] = took;
         }
-    printf("%-28s %6zu %6zu %9.0f%c %9.0f%c %9.0f%c %8.1f %7.2f ", base(path), n, answer[0], ns[0], answer[0] ? ' ' : '!',
-        ns[1], answer[1] ? ' ' : '!', ns[2], answer[2] ? ' ' : '!', ns[1] / ns[0], ns[0] / ns[2]);
-    if (answer[0])
-        printf("%9.2f\n", ns[0] / (double)answer[0]);
+    printf("%-28s %6zu %6zu %9.0f%c %9.0f%c %9.0f%c ", base(path), n, answer[0], ns[0], answer[0] ? ' ' : '!', ns[1],
+        answer[1] ? ' ' : '!', ns[2], answer[2] ? ' ' : '!');
+    if (answer[0]) /* of a refused file the peers don't do the same work */
+        printf("%8.1f %7.2f %9.2f\n", ns[1] / ns[0], ns[0] / ns[2], ns[0] / (double)answer[0]);
     else
-        printf("%9s\n", "-");
+        printf("%8s %7s %9s\n", "-", "-", "-");
     fflush(stdout);
     if (answer[0] == answer[2])
         return 0;

@@ -1,5 +1,5 @@
 /* A plain reader of PKCS #12 files, in C: the peer that the proved reader is measured against.
-   It keeps every rule of document 01 and the choices of DESIGN section 5. */
+   It keeps every rule of the scope, and the choices of docs/DECISIONS.md where the scope is open. */
 #ifndef WALKER_H
 #define WALKER_H
 

@@ -1,4 +1,4 @@
-/* The listing (DESIGN section 6) of each FILE by the C walker: what bench/check compares with tests/p12_reader.py.
+/* The listing (docs/TESTS.md) of each FILE by the C walker: what bench/check compares with tests/p12_reader.py.
 
        walker_list [--mac] FILE ..
 

@@ -1,7 +1,8 @@
 #!/usr/bin/env python3
-"""Writes crates/vectors/stdin, a frame for each file, and crates/vectors/stdout, the listings that p12_reader.py gives.
+"""Writes crates/vectors/stdin, a frame for each file, and crates/vectors/stdout, the listings that p12_reader.py gives; and
+crates/list/stdin and stdout, M and its listing.
 
-    p12_vectors.py                       # writes both files
+    p12_vectors.py                       # writes these files
     p12_vectors.py --check               # says whether they are what the files give
     p12_vectors.py --sources DOCUMENT .. # takes the files out of the documents first, and keeps them as tests/files/source-N.p12
 
@@ -9,6 +10,7 @@ A frame is the file's length in four bytes, high first, and its bytes. The last 
 fails unless every number from 1 to 9 is among them.
 """
 import pathlib
+import random
 import sys
 from collections import Counter
 
@@ -20,6 +22,7 @@ import p12_tools
 ROOT = pathlib.Path(__file__).resolve().parent.parent
 FILES = p12_tools.FILES
 SEED, DAMAGED = 1, 200  # as many damaged and as many mended ones
+EACH = 6  # damaged copies of each stored file
 
 
 def keep_sources(documents):
@@ -29,17 +32,29 @@ def keep_sources(documents):
         (FILES / ("source-%d.p12" % number)).write_bytes(data)
 
 
+def changed(files):
+    """Copies of each file with one byte changed, at places that a fixed seed gives."""
+    dice = random.Random(SEED)
+    for data in files:
+        for _ in range(EACH):
+            at = dice.randrange(len(data))
+            yield data[:at] + bytes([data[at] ^ dice.randrange(1, 256)]) + data[at + 1:]
+
+
 def kinds():
     """(what they are, the files)"""
     made = p12_make.files()
     bench = [data for name, data in made if name.startswith("bench_")]
     m = dict(made)["bench_a"]
-    yield "listed in the documents", [path.read_bytes() for path in sorted(FILES.glob("source-*.p12"))]
+    sources = [path.read_bytes() for path in sorted(FILES.glob("source-*.p12"))]
+    tools = [data for _, data, _ in p12_tools.stored()]
+    yield "listed in the documents", sources
     yield "M and its variants", bench + [m[:n] for n in range(1, len(m) - 1)]
     yield "made", [data for name, data in made if not name.startswith("bench_")]
-    yield "of common tools", [data for _, data, _ in p12_tools.stored()]
+    yield "of common tools", tools
     yield "damaged", [data for _, data in p12_make.damaged(SEED, DAMAGED)]
     yield "damaged with lengths mended", [data for _, data in p12_make.mended(SEED, DAMAGED)]
+    yield "of documents and tools, damaged", list(changed(sources + tools))
 
 
 def main(arguments):
@@ -53,9 +68,11 @@ def main(arguments):
             answers[result.number if isinstance(result, p12_reader.Refusal) else "accepted"] += 1
             frames.append(len(data).to_bytes(4, "big") + data)
             listings.append(p12_reader.listing(result))
+    m = dict(p12_make.files())["bench_a"]
     differs = 0
-    for name, data in (("stdin", b"".join(frames)), ("stdout", "".join(listings).encode())):
-        path = ROOT / "crates/vectors" / name
+    for name, data in (("vectors/stdin", b"".join(frames)), ("vectors/stdout", "".join(listings).encode()),
+                       ("list/stdin", m), ("list/stdout", p12_reader.listing(p12_reader.read(m)).encode())):
+        path = ROOT / "crates" / name
         if arguments == ["--check"]:
             differs += path.read_bytes() != data
         else:

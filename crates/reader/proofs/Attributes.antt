@@ -9,7 +9,6 @@ use lib.ListN.{length}
 use borrow.Author.Tests.{leb-false}
 use mir.Val.{Fits}
 use mir.Syntax.{w64}
-use Rattle.der.specs.Choice.{if_then_else_}
 use Rattle.der.specs.Element.{cursor, tagAt, finishAt, expectAt}
 use Rattle.der.specs.Content.{identifierAt}
 use Rattle.der.specs.Opaque.{onChecked}
@@ -20,11 +19,12 @@ use Rattle.der.specs.declared.Checked.the-variants.{Passed}
 use Rattle.der.proofs.Choices.{by-test}
 use Rattle.der.proofs.Placed.{by-element, found, expected}
 use Rattle.der.proofs.Opaque.{by-checked}
-use Rattle.pkcs12.specs.Numbers.{fileBytes, attributeRows, sequenceTag, setTag}
-use Rattle.pkcs12.specs.Table.{Rows, attributeRow, noMac, tableOf, rowsIn}
+use Rattle.pkcs12.specs.Numbers.{attributeRows, sequenceTag, setTag}
+use Rattle.pkcs12.specs.Table.{attributeRow, noMac, tableOf, rowsIn}
 use Rattle.pkcs12.specs.Walk.{onParts, Walked, Refused, Went, onWalked, run, counting, addAttribute, attributeAt}
 use Rattle.pkcs12.specs.declared.Parts.{Parts}
 use Rattle.pkcs12.specs.declared.PartsAt.{PartsAt}
+use Rattle.pkcs12.specs.declared.AttributeRow.{AttributeRow}
 use Rattle.pkcs12.specs.declared.Answer.the-variants.{Accepted}
 use Rattle.pkcs12.specs.declared.Table.{Table}
 use Rattle.reader.specs.Steps.{attributeValuesAt, attributePartsAt, onSet, setHeadAt, bagEndAt, progress, startCount, Ready}
@@ -139,13 +139,16 @@ module _ (s : List ℕ) (number : ℕ) (t₀ : Table) (e c n : Cursor) (ready : 
       turn-refused x f r h y z i =
           rw (whole-is (Refused f) (rowing-refused s (attributeAt s number) _ _ t at g f h (attribute-refused s number t (g .ready .rows) _ x y f z))) i
 
+      -- the row, which the code holds as `row`
       pub turn-on : (x : PartsAt) (a : Parts) (k : ℕ) (o : Cursor) → at < b .end → x ≡ attributePartsAt s (leb attributeRows (t .«attribute_count»)) (cursor at (b .end))
           → x ≡ PartsAt.Found a k o
-          → Rowing s (attributeAt s number) (b .end) (run (attributeAt s number) (rowsIn (withCount t₀ 1)) b) (storedAttribute t (attributeRow number (a .identifier) (a .value)) k) (o .at)
-      turn-on x a k o h y z =
+          → (row : AttributeRow) → row ≡ attributeRow number (a .identifier) (a .value)
+          → Rowing s (attributeAt s number) (b .end) (run (attributeAt s number) (rowsIn (withCount t₀ 1)) b) (storedAttribute t row k) (o .at)
+      turn-on x a k o h y z row u =
           let rows = g .ready .rows in
-          rowing-on s (attributeAt s number) _ _ t at g _ o _ h (attribute-found s number t rows _ x y a k o z) (attribute-goes s number t rows _ x y a k o z)
-          (stored-attribute t rows _ k (attribute-room s number t rows _ x y a k o z))
+          rw u
+          (rowing-on s (attributeAt s number) _ _ t at g _ o _ h (attribute-found s number t rows _ x y a k o z) (attribute-goes s number t rows _ x y a k o z)
+          (stored-attribute t rows _ k (attribute-room s number t rows _ x y a k o z)))
 
       -- the numbers of a turn
       module _ (x : PartsAt) (a : Parts) (k : ℕ) (o : Cursor) (y : x ≡ attributePartsAt s (leb attributeRows (t .«attribute_count»)) (cursor at (b .end))) (z : x ≡ PartsAt.Found a k o) where

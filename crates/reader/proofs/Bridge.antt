@@ -4,11 +4,11 @@ use mathlib.Core.Path.{_≡_, refl, sym, _∙_}
 use mathlib.Core.Bool.{Bool, true, false}
 use mathlib.Core.List.{List}
 use Prim.Native.Nat.{ℕ}
-use lib.Dec.{leb, ltb, eqb}
+use lib.Dec.{leb, eqb}
 use lib.ListN.{length}
 use Rattle.der.specs.Choice.{if_then_else_}
-use Rattle.der.specs.Numbers.{tooMany, opaqueLevels}
-use Rattle.der.specs.Element.{fault, tagAt, finishAt, expectAt, onElement}
+use Rattle.der.specs.Numbers.{opaqueLevels}
+use Rattle.der.specs.Element.{tagAt, finishAt, expectAt, onElement}
 use Rattle.der.specs.Content.{identifierAt, onInteger}
 use Rattle.der.specs.Opaque.{onChecked, elementsAt}
 use Rattle.der.specs.declared.Fault.{Fault}
@@ -78,10 +78,6 @@ module _ {A B : Type 0} (F : A → B) where
   pub through-integer : (x : Integer) (bad : Fault → A) (good : ℕ → Cursor → A) (bad′ : Fault → B) (good′ : ℕ → Cursor → B)
       → ((f : Fault) → F (bad f) ≡ bad′ f) → ((v : ℕ) (n : Cursor) → F (good v n) ≡ good′ v n) → F (onInteger x bad good) ≡ onInteger x bad′ good′
   through-integer = both-integer F (λ y. y)
-
-  pub through-parts : (x : PartsAt) (bad : Fault → A) (good : Parts → ℕ → Cursor → A) (bad′ : Fault → B) (good′ : Parts → ℕ → Cursor → B)
-      → ((f : Fault) → F (bad f) ≡ bad′ f) → ((a : Parts) (k : ℕ) (n : Cursor) → F (good a k n) ≡ good′ a k n) → F (onParts x bad good) ≡ onParts x bad′ good′
-  through-parts = both-parts F (λ y. y)
 
   pub through-walked : (x : Walked) (bad : Fault → A) (good : Rows → Cursor → A) (bad′ : Fault → B) (good′ : Rows → Cursor → B)
       → ((f : Fault) → F (bad f) ≡ bad′ f) → ((st : Rows) (n : Cursor) → F (good st n) ≡ good′ st n) → F (onWalked x bad good) ≡ onWalked x bad′ good′

@@ -1,7 +1,6 @@
 -- The file's definition as the code takes it: the file is opened down to its AuthenticatedSafe, then its safes, then what stands behind them.
 -- Each law follows both sides through the tests that they share.
 use mathlib.Core.Path.{_≡_, refl, sym}
-use mathlib.Core.Bool.{Bool, true, false}
 use mathlib.Core.List.{List}
 use Prim.Native.Nat.{ℕ}
 use lib.Dec.{leb, ltb, eqb}
@@ -11,12 +10,9 @@ use Rattle.der.specs.Numbers.{octetStringTag}
 use Rattle.der.specs.Element.{fault, wholeOf, finishAt, expectAt, onElement}
 use Rattle.der.specs.Content.{bytesOf, identifierAt, integerAt}
 use Rattle.der.specs.Opaque.{onChecked}
-use Rattle.der.specs.declared.Fault.{Fault}
 use Rattle.der.specs.declared.Cursor.{Cursor}
-use Rattle.der.specs.declared.Element.{Element}
 use Rattle.der.specs.declared.Element.the-variants.{Found}
 use Rattle.der.specs.declared.Checked.{Checked}
-use Rattle.der.specs.declared.Checked.the-variants.{Passed}
 use Rattle.pkcs12.specs.Numbers.{fileBytes, notServed, tooLong, sequenceTag, contextTag, pfxVersion}
 use Rattle.pkcs12.specs.Identifiers.{sameBytes, dataType, signedType}
 use Rattle.pkcs12.specs.Table.{Rows, tableOf}

@@ -1,27 +1,23 @@
 -- The walk's bags and safes as the code takes them: what stands before the rows, then the rows (see Bridge). Then what the code's progress says
 -- of the walk.
 use mathlib.Core.Path.{_≡_, refl, sym, ap, _∙_}
-use mathlib.Core.Bool.{Bool, true, false}
+use mathlib.Core.Bool.{true, false}
 use mathlib.Core.List.{List}
 use Prim.Native.Nat.{ℕ, _+_}
 use lib.Dec.{leb, ltb}
 use lib.ListN.{length}
-use Rattle.der.specs.Choice.{if_then_else_}
 use Rattle.der.specs.Numbers.{octetStringTag}
-use Rattle.der.specs.Element.{finishAt, expectAt, onElement}
+use Rattle.der.specs.Element.{finishAt, expectAt}
 use Rattle.der.specs.Content.{bytesOf, identifierAt}
 use Rattle.der.specs.Opaque.{onChecked}
 use Rattle.der.specs.declared.Fault.{Fault}
 use Rattle.der.specs.declared.Cursor.{Cursor}
-use Rattle.der.specs.declared.Element.{Element}
 use Rattle.der.specs.declared.Element.the-variants.{Found}
 use Rattle.der.specs.declared.Checked.{Checked}
-use Rattle.der.specs.declared.Checked.the-variants.{Passed}
 use Rattle.pkcs12.specs.Numbers.{safeRows, bagRows, levels, sequenceTag, contextTag}
 use Rattle.pkcs12.specs.Identifiers.{sameBytes, dataType, envelopedType, encryptedType, kindOf}
 use Rattle.pkcs12.specs.Table.{noParts, safeRow, bagRow, noMac, Rows, noRows, tableOf, emptyTable, rowsIn}
-use Rattle.pkcs12.specs.Walk.{onParts, keyAt, sealedAt, typedAt, encryptedAt, Walked, Refused, Went, onWalked, addSafe, addBag, Owner, owner, leafAt, contentAt, onKind, bagAt, safeContentsAt, dataAt, plainAt, sealedSafeAt, safeValueAt, safeAt}
-use Rattle.pkcs12.specs.declared.Parts.{Parts}
+use Rattle.pkcs12.specs.Walk.{keyAt, sealedAt, typedAt, encryptedAt, Walked, Refused, Went, onWalked, addSafe, addBag, Owner, owner, leafAt, contentAt, onKind, bagAt, safeContentsAt, dataAt, plainAt, sealedSafeAt, safeValueAt, safeAt}
 use Rattle.pkcs12.specs.declared.PartsAt.{PartsAt}
 use Rattle.pkcs12.specs.declared.SafeKind.the-variants.{Plain, Encrypted}
 use Rattle.pkcs12.specs.declared.Enclosing.{Enclosing}

@@ -29,13 +29,11 @@ use Rattle.pkcs12.specs.declared.BagKind.{BagKind}
 use Rattle.pkcs12.specs.declared.BagKind.the-variants.{Key, ShroudedKey, Certificate, Crl, Secret, Nested}
 use Rattle.pkcs12.specs.declared.Answer.{Answer}
 use Rattle.pkcs12.specs.declared.Answer.the-variants.{Accepted}
-use Rattle.reader.specs.Steps.{SmallParts, onSet, onBag, leafOf, bagValueAt, onOctets, onContents, onOuter, onOpened}
+use Rattle.reader.specs.Steps.{SmallParts, onSet, leafOf, bagValueAt, onOctets, onOuter}
 use Rattle.reader.specs.declared.bags.Set.{Set}
 use Rattle.reader.specs.declared.bags.Bag.{Bag}
 use Rattle.reader.specs.declared.safes.Octets.{Octets}
-use Rattle.reader.specs.declared.safes.Contents.{Contents}
 use Rattle.reader.specs.declared.file.Outer.{Outer}
-use Rattle.reader.specs.declared.file.Opened.{Opened}
 use Rattle.reader.proofs.Past.{Past, key-past, sealed-past, typed-past, encrypted-past}
 use Rattle.reader.proofs.Rules.{small}
 

@@ -1,5 +1,5 @@
 -- A bag: what the code has learnt of it before its row, and each way on from there, as the walk goes.
-use mathlib.Core.Path.{_≡_, refl, sym, ap, _∙_}
+use mathlib.Core.Path.{_≡_, refl, sym, _∙_}
 use mathlib.Core.Bool.{Bool, true, false}
 use mathlib.Core.List.{List}
 use Prim.Native.Nat.{ℕ, _+_, _≤_, _<_}
@@ -9,15 +9,14 @@ use lib.ListN.{length}
 use borrow.Author.Tests.{leb-false}
 use mir.Val.{Fits}
 use mir.Syntax.{w64}
-use Rattle.der.specs.Element.{expectAt}
 use Rattle.der.specs.Content.{bytesOf}
 use Rattle.der.specs.declared.Fault.{Fault}
 use Rattle.der.specs.declared.Cursor.{Cursor}
 use Rattle.der.proofs.Choices.{by-test}
 use Rattle.pkcs12.specs.Numbers.{bagRows, sequenceTag, contextTag}
 use Rattle.pkcs12.specs.Identifiers.{kindOf}
-use Rattle.pkcs12.specs.Table.{Rows, bagRow, noParts, noMac, tableOf, rowsIn}
-use Rattle.pkcs12.specs.Walk.{sealedAt, keyAt, typedAt, Walked, Refused, Went, onWalked, addBag, Owner, owner, bagAt, safeContentsAt}
+use Rattle.pkcs12.specs.Table.{bagRow, noParts, noMac, tableOf, rowsIn}
+use Rattle.pkcs12.specs.Walk.{Walked, Refused, onWalked, addBag, owner, bagAt, safeContentsAt}
 use Rattle.pkcs12.specs.declared.Parts.{Parts}
 use Rattle.pkcs12.specs.declared.PartsAt.{PartsAt}
 use Rattle.pkcs12.specs.declared.BagKind.{BagKind}
@@ -113,14 +112,16 @@ module _ (s : List ℕ) (below safe : ℕ) (enclosing : Enclosing) (t₀ : Table
       unfolding startCount
       leaf-fits = let o = leaf-facts in omega (arith, ready .counted, ready .short, o .1, o .2)
 
-      leaf-stored : storedBag t₀ (bagRowOf kind a e) k ≡ tableOf (addBag (rowsIn t₀) (bagRowOf kind a e) k) noMac
-      leaf-stored = stored-bag t₀ (ready .rows) (bagRowOf kind a e) k leaf-room
+      -- its row, which the code holds as `row`
+      module _ (row : BagRow) (u : row ≡ bagRowOf kind a e) where
+        leaf-stored : storedBag t₀ row k ≡ tableOf (addBag (rowsIn t₀) row k) noMac
+        leaf-stored = stored-bag t₀ (ready .rows) row k leaf-room
 
-      pub leaf-ready : Ready s (storedBag t₀ (bagRowOf kind a e) k) (e .at)
-      leaf-ready = let o = leaf-facts in record { short = ready .short; rows = rows-again _ _ leaf-stored; counted = omega (arith, ready .counted, o .1) }
+        pub leaf-ready : Ready s (storedBag t₀ row k) (e .at)
+        leaf-ready = let o = leaf-facts in record { short = ready .short; rows = rows-again _ _ leaf-stored; counted = omega (arith, ready .counted, o .1) }
 
-      pub leaf-returns : (r : Progress) → r ≡ progress (bagEndAt s (t₀ .«bag_count») (rowsIn (storedBag t₀ (bagRowOf kind a e) k)) f e n) → r ≡ progress wholeBag
-      leaf-returns r h = rw (bag-is, q, ← rows-of _ _ leaf-stored) h
+        pub leaf-returns : (r : Progress) → r ≡ progress (bagEndAt s (t₀ .«bag_count») (rowsIn (storedBag t₀ row k)) f e n) → r ≡ progress wholeBag
+        leaf-returns r h = rw (bag-is, q, ← u, ← rows-of _ _ leaf-stored) h
 
     -- a bag that holds bags
     module _ (v e n : Cursor) (q : w ≡ Before.Nested v e n) where
@@ -134,30 +135,32 @@ module _ (s : List ℕ) (below safe : ℕ) (enclosing : Enclosing) (t₀ : Table
       unfolding startCount
       nested-fits = let o = nested-facts in omega (arith, ready .counted, ready .short, o .1, o .2)
 
-      nested-stored : storedBag t₀ (bagRowOf Nested noParts e) 3 ≡ tableOf (addBag (rowsIn t₀) (bagRowOf Nested noParts e) 3) noMac
-      nested-stored = stored-bag t₀ (ready .rows) (bagRowOf Nested noParts e) 3 nested-room
+      -- its row, which the code holds as `row`
+      module _ (row : BagRow) (u : row ≡ bagRowOf Nested noParts e) where
+        nested-stored : storedBag t₀ row 3 ≡ tableOf (addBag (rowsIn t₀) row 3) noMac
+        nested-stored = stored-bag t₀ (ready .rows) row 3 nested-room
 
-      pub nested-ready : Ready s (storedBag t₀ (bagRowOf Nested noParts e) 3) (v .at)
-      nested-ready = let o = nested-facts in record { short = ready .short; rows = rows-again _ _ nested-stored; counted = omega (arith, ready .counted, o .1) }
+        pub nested-ready : Ready s (storedBag t₀ row 3) (v .at)
+        nested-ready = let o = nested-facts in record { short = ready .short; rows = rows-again _ _ nested-stored; counted = omega (arith, ready .counted, o .1) }
 
-      -- the contents in it, which the code holds as y
-      abbrev innerOf : Walked
-      innerOf = safeContentsAt below s (owner safe (Bag (t₀ .«bag_count»))) (rowsIn (storedBag t₀ (bagRowOf Nested noParts e) 3)) v
+        -- the contents in it, which the code holds as y
+        abbrev innerOf : Walked
+        innerOf = safeContentsAt below s (owner safe (Bag (t₀ .«bag_count»))) (rowsIn (storedBag t₀ row 3)) v
 
-      nested-is : wholeBag ≡ onWalked innerOf Refused (λ st′ f. bagEndAt s (t₀ .«bag_count») st′ f e n)
-      nested-is = bag-is ∙ rw (q, ← rows-of _ _ nested-stored)
+        nested-is : wholeBag ≡ onWalked innerOf Refused (λ st′ f. bagEndAt s (t₀ .«bag_count») st′ f e n)
+        nested-is = bag-is ∙ rw (q, ← u, ← rows-of _ _ nested-stored)
 
-      module _ (y : Progress) (z : y ≡ progress innerOf) where
-        pub nested-refused : (f : Fault) → y .answer ≡ Answer.Refused f → y ≡ progress wholeBag
-        nested-refused f h = let x = progress-refused innerOf y f z h in rw (nested-is, x) (z ∙ rw x)
+        module _ (y : Progress) (z : y ≡ progress innerOf) where
+          pub nested-refused : (f : Fault) → y .answer ≡ Answer.Refused f → y ≡ progress wholeBag
+          nested-refused f h = let x = progress-refused innerOf y f z h in rw (nested-is, x) (z ∙ rw x)
 
-        pub nested-on : y .answer ≡ Accepted → Ready s (y .table) (e .at)
-        nested-on h =
-            let o = nested-facts in
-            let x = contents-past below s _ _ v _ (y .next) (progress-went innerOf y z h) in
-            let i : rowsIn (y .table) .count ≡ y .table .elements = count-of (y .table) in
-            let j : rowsIn (storedBag t₀ (bagRowOf Nested noParts e) 3) .count ≡ t₀ .elements + 3 = count-of (storedBag t₀ (bagRowOf Nested noParts e) 3) in
-            record { short = ready .short; rows = progress-rows innerOf y z; counted = omega (arith, ready .counted, o .1, o .3, x .long, x .within, i, j) }
+          pub nested-on : y .answer ≡ Accepted → Ready s (y .table) (e .at)
+          nested-on h =
+              let o = nested-facts in
+              let x = contents-past below s _ _ v _ (y .next) (progress-went innerOf y z h) in
+              let i : rowsIn (y .table) .count ≡ y .table .elements = count-of (y .table) in
+              let j : rowsIn (storedBag t₀ row 3) .count ≡ t₀ .elements + 3 = count-of (storedBag t₀ row 3) in
+              record { short = ready .short; rows = progress-rows innerOf y z; counted = omega (arith, ready .counted, o .1, o .3, x .long, x .within, i, j) }
 
-        pub nested-returns : (r : Progress) → y .answer ≡ Accepted → r ≡ progress (bagEndAt s (t₀ .«bag_count») (rowsIn (y .table)) (y .next) e n) → r ≡ progress wholeBag
-        nested-returns r h i = rw (nested-is, progress-went innerOf y z h) i
+          pub nested-returns : (r : Progress) → y .answer ≡ Accepted → r ≡ progress (bagEndAt s (t₀ .«bag_count») (rowsIn (y .table)) (y .next) e n) → r ≡ progress wholeBag
+          nested-returns r h i = rw (nested-is, progress-went innerOf y z h) i

@@ -1,6 +1,6 @@
 -- The loop over the safes, as the walk goes.
 use mathlib.Core.Path.{_≡_, refl, sym, ap, _∙_}
-use mathlib.Core.Bool.{Bool, true, false}
+use mathlib.Core.Bool.{Bool, false}
 use mathlib.Core.List.{List}
 use Prim.Native.Nat.{ℕ, _+_, _-_, _≤_, _<_}
 use native.Mathlib.Omega.{arith}
@@ -9,7 +9,7 @@ use lib.ListN.{length}
 use borrow.Author.Tests.{leb-false}
 use mir.Val.{Fits}
 use mir.Syntax.{w64}
-use Rattle.der.specs.Element.{cursor, expectAt}
+use Rattle.der.specs.Element.{cursor}
 use Rattle.der.specs.Content.{bytesOf}
 use Rattle.der.specs.Opaque.{onChecked}
 use Rattle.der.specs.declared.Fault.{Fault}

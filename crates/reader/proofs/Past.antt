@@ -7,9 +7,9 @@ use native.Mathlib.Omega.{arith}
 use lib.Dec.{ltb}
 use lib.ListN.{length}
 use Rattle.der.specs.Choice.{if_then_else_}
-use Rattle.der.specs.Numbers.{octetStringTag, opaqueLevels, identifierTag, integerTag}
+use Rattle.der.specs.Numbers.{octetStringTag, opaqueLevels, integerTag}
 use Rattle.der.specs.Element.{tagAt, elementAt, expectAt, onElement}
-use Rattle.der.specs.Content.{bytesOf, identifierBody, identifierAt, integerBody, integerAt, onInteger}
+use Rattle.der.specs.Content.{bytesOf, identifierAt, integerBody, integerAt, onInteger}
 use Rattle.der.specs.Opaque.{onChecked, opaqueAt, elementsAt}
 use Rattle.der.specs.declared.Fault.{Fault}
 use Rattle.der.specs.declared.Cursor.{Cursor}
@@ -32,7 +32,6 @@ use Rattle.pkcs12.specs.declared.Parts.{Parts}
 use Rattle.pkcs12.specs.declared.PartsAt.{PartsAt}
 use Rattle.pkcs12.specs.declared.BagKind.{BagKind}
 use Rattle.pkcs12.specs.declared.BagKind.the-variants.{Key, ShroudedKey, Certificate, Crl, Secret, Nested}
-use Rattle.pkcs12.specs.declared.Mac.{Mac}
 use Rattle.pkcs12.specs.declared.MacAt.{MacAt}
 use Rattle.pkcs12.proofs.Named.{by-kind}
 use Rattle.pkcs12.proofs.Parents.{by-finish, In}
@@ -471,10 +470,6 @@ iterations-of s p salt k c =
     Good : MacAt → Type 0
     Good = OfMac (λ x j n. (k ≤ j) × (j ≤ k + 1))
 
-pub iterations-past : (s : List ℕ) (p : Parts) (salt : Range) (k : ℕ) (c : Cursor) (w : MacAt) (x : Mac) (j : ℕ) (n : Cursor)
-    → w ≡ iterationsAt s p salt k c → w ≡ MacAt.Found x j n → (k ≤ j) × (j ≤ k + 1)
-iterations-past s p salt k c w x j n a b = rw (sym a ∙ b) at (iterations-of s p salt k c)
-
 pub mac-of : (s : List ℕ) (c : Cursor) → OfMac (λ x k n. Past s c 0 k n) (macAt s c)
 unfolding macAt
 mac-of s c =
@@ -491,6 +486,3 @@ mac-of s c =
   where
     Good : MacAt → Type 0
     Good = OfMac (λ x k n. Past s c 0 k n)
-
-pub mac-past : (s : List ℕ) (c : Cursor) (w : MacAt) (x : Mac) (k : ℕ) (n : Cursor) → w ≡ macAt s c → w ≡ MacAt.Found x k n → Past s c 0 k n
-mac-past s c w x k n a b = rw (sym a ∙ b) at (mac-of s c)

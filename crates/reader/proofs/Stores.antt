@@ -1,6 +1,6 @@
 -- The table of some rows: its counts, and what storing a row, as the code does it, makes of it.
 use mathlib.Core.Path.{_≡_, refl, sym, ap, _∙_}
-use mathlib.Core.List.{List, [], _∷_, _++_}
+use mathlib.Core.List.{[], _∷_}
 use Prim.Native.Nat.{ℕ, _+_, _<_}
 use lib.ListN.{length, set, length-append}
 use Rattle.pkcs12.specs.Numbers.{safeRows, bagRows, attributeRows}

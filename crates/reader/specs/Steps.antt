@@ -14,10 +14,11 @@ use Rattle.der.specs.Opaque.{onChecked, opaqueAt, elementsAt}
 use Rattle.der.specs.declared.Fault.{Fault}
 use Rattle.der.specs.declared.Cursor.{Cursor}
 use Rattle.der.specs.declared.Checked.{Checked}
-use Rattle.pkcs12.specs.Numbers.{fileBytes, notServed, sequenceTag, setTag, contextTag, ciphertextTag, pfxVersion}
+use Rattle.pkcs12.specs.Numbers.{fileBytes, notServed, sequenceTag, setTag, contextTag, ciphertextTag, pfxVersion, defaultIterations}
 use Rattle.pkcs12.specs.Identifiers.{sameBytes, dataType, signedType, envelopedType, encryptedType, kindOf}
-use Rattle.pkcs12.specs.Table.{range, noRange, parts, noMac, Rows, tableOf, emptyTable, rowsIn}
+use Rattle.pkcs12.specs.Table.{range, noRange, parts, macFields, noMac, Rows, tableOf, emptyTable, rowsIn}
 use Rattle.pkcs12.specs.Walk.{rangeOf, onParts, algorithmAt, withValue, sealedAt, keyAt, valueAt, typedAt, encryptedInfoAt, encryptedAt, Walked, Refused, Went, onWalked, setAt, onKind, onMac, iterationsAt, macAt, onAnswer}
+use Rattle.pkcs12.specs.declared.Range.{Range}
 use Rattle.pkcs12.specs.declared.Parts.{Parts}
 use Rattle.pkcs12.specs.declared.PartsAt.{PartsAt}
 use Rattle.pkcs12.specs.declared.BagKind.{BagKind}
@@ -34,14 +35,18 @@ use Rattle.reader.specs.declared.safes.Contents.{Contents}
 use Rattle.reader.specs.declared.file.Outer.{Outer}
 use Rattle.reader.specs.declared.file.Opened.{Opened}
 
--- the parameters of the algorithm with identifier i, from m on; its SEQUENCE ends at `stop`, and n is past it
-unfoldable pub parametersAt : List ℕ → Cursor → Cursor → ℕ → Cursor → PartsAt
-parametersAt s i m stop n =
-    if ltb (m .at) (m .end) then
+-- the parameters that stand at m, of the algorithm with identifier i; n is past its SEQUENCE
+unfoldable pub someParametersAt : List ℕ → Cursor → Cursor → Cursor → PartsAt
+someParametersAt s i m n =
     onChecked (opaqueAt opaqueLevels s m) PartsAt.Refused
     (λ k e.
     onChecked (finishAt e) PartsAt.Refused
-    (λ z f. PartsAt.Found (parts (rangeOf i) (range (m .at) (e .at)) noRange) (k + 2) n)) else
+    (λ z f. PartsAt.Found (parts (rangeOf i) (range (m .at) (e .at)) noRange) (k + 2) n))
+
+-- the parameters of the algorithm with identifier i, from m on; its SEQUENCE ends at `stop`, and n is past it
+unfoldable pub parametersAt : List ℕ → Cursor → Cursor → ℕ → Cursor → PartsAt
+parametersAt s i m stop n =
+    if ltb (m .at) (m .end) then someParametersAt s i m n else
     PartsAt.Found (parts (rangeOf i) (range stop stop) noRange) 2 n
 
 -- the OCTET STRING behind an algorithm
@@ -248,6 +253,14 @@ openedInfoAt s c file =
 -- the file down to its AuthenticatedSafe
 unfoldable pub openAt : List ℕ → Cursor → Opened
 openAt s c = onOuter (pfxHeadAt s c) Opened.Refused (λ m n. openedInfoAt s m n)
+
+-- the iterations that are written at c
+unfoldable pub statedAt : List ℕ → Parts → Range → ℕ → Cursor → MacAt
+statedAt s p salt k c =
+    onInteger (integerAt s c) MacAt.Refused
+    (λ v e.
+    if leb v defaultIterations then MacAt.Refused (fault content (c .at)) else
+    onChecked (finishAt e) MacAt.Refused (λ z f. MacAt.Found (macFields p salt v) (k + 1) e))
 
 -- the salt behind the digest, and the iterations
 unfoldable pub saltedAt : List ℕ → Parts → ℕ → Cursor → Cursor → MacAt

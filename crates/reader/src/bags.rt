@@ -154,6 +154,7 @@ fn bag_value(s: &[u8], kind: BagKind, v: Cursor, set: Cursor, next: Cursor) -> B
     ensures { λ r. ⌜ r ≡ bagValueAt (now (s .entry)) kind v set next ⌝ }
 {
     match kind {
+        // not met: the bagId was refused
         BagKind::None => {
             let at = v.at;
             Bag::Refused(Fault {

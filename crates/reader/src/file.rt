@@ -5,7 +5,7 @@ ghost use lib.ListN.{length};
 ghost use Rattle.der.specs.Content.{bytesOf};
 ghost use Rattle.pkcs12.specs.Numbers.{fileBytes};
 ghost use Rattle.pkcs12.specs.Walk.{iterationsAt, macAt};
-ghost use Rattle.reader.specs.Steps.{pfxHeadAt, openedSafesAt, openedValueAt, openedInfoAt, openAt, saltedAt, lastAt, closeAt};
+ghost use Rattle.reader.specs.Steps.{pfxHeadAt, openedSafesAt, openedValueAt, openedInfoAt, openAt, statedAt, saltedAt, lastAt, closeAt};
 use crate::parts;
 use crate::safes;
 use crate::safes::Octets;
@@ -134,39 +134,47 @@ pub(crate) fn open(s: &[u8], c: Cursor) -> Opened
     }
 }
 
+// The iterations that are written at c.
+fn stated(s: &[u8], parts: Parts, salt: Range, count: usize, c: Cursor) -> MacAt
+    requires { ⌜ count ≤ fileBytes + 2 ⌝ }
+    ensures { λ r. ⌜ r ≡ statedAt (now (s .entry)) parts salt count c ⌝ }
+{
+    match c.integer(s) {
+        Integer::Refused(f) => MacAt::Refused(f),
+        Integer::Value { value, next } => {
+            if value <= pkcs12::DEFAULT_ITERATIONS {
+                let at = c.at;
+                return MacAt::Refused(Fault {
+                    number: der::CONTENT,
+                    offset: at,
+                });
+            }
+            match next.finish() {
+                Checked::Refused(f) => MacAt::Refused(f),
+                Checked::Passed { count: _, next: _ } => {
+                    let more = count + 1;
+                    let mac = Mac {
+                        parts,
+                        salt,
+                        iterations: value,
+                    };
+                    MacAt::Found {
+                        mac,
+                        count: more,
+                        next,
+                    }
+                }
+            }
+        }
+    }
+}
+
 fn iterations(s: &[u8], parts: Parts, salt: Range, count: usize, c: Cursor) -> MacAt
     requires { ⌜ count ≤ fileBytes + 2 ⌝ }
     ensures { λ r. ⌜ r ≡ iterationsAt (now (s .entry)) parts salt count c ⌝ }
 {
     if c.tag(s) == der::INTEGER {
-        return match c.integer(s) {
-            Integer::Refused(f) => MacAt::Refused(f),
-            Integer::Value { value, next } => {
-                if value <= pkcs12::DEFAULT_ITERATIONS {
-                    let at = c.at;
-                    return MacAt::Refused(Fault {
-                        number: der::CONTENT,
-                        offset: at,
-                    });
-                }
-                match next.finish() {
-                    Checked::Refused(f) => MacAt::Refused(f),
-                    Checked::Passed { count: _, next: _ } => {
-                        let more = count + 1;
-                        let mac = Mac {
-                            parts,
-                            salt,
-                            iterations: value,
-                        };
-                        MacAt::Found {
-                            mac,
-                            count: more,
-                            next,
-                        }
-                    }
-                }
-            }
-        };
+        return stated(s, parts, salt, count, c);
     }
     match c.finish() {
         Checked::Refused(f) => MacAt::Refused(f),

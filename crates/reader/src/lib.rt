@@ -17,6 +17,12 @@ use pkcs12::MacAt;
 use pkcs12::Reading;
 use pkcs12::Table;
 
+// A file that is too long is refused at its start.
+const LONG: Fault = Fault {
+    number: pkcs12::TOO_LONG,
+    offset: 0,
+};
+
 // A refused file has the empty table.
 fn refused(fault: Fault) -> Reading
     ensures { λ r. ⌜ r ≡ refused fault ⌝ }
@@ -33,10 +39,7 @@ pub fn read(file: &[u8]) -> Reading
     ensures { λ r. ⌜ r ≡ readFile (now (file .entry)) ⌝ }
 {
     if pkcs12::FILE_BYTES < file.len() {
-        return refused(Fault {
-            number: pkcs12::TOO_LONG,
-            offset: 0,
-        });
+        return refused(LONG);
     }
     let whole = Cursor::over(file);
     match file::open(file, whole) {

@@ -10,7 +10,7 @@ ghost use Rattle.pkcs12.specs.Numbers.{fileBytes};
 ghost use Rattle.pkcs12.specs.Identifiers.{sameBytes, x509Certificate};
 ghost use Rattle.pkcs12.specs.Table.{range};
 ghost use Rattle.pkcs12.specs.Walk.{rangeOf, algorithmAt, sealedAt, keyAt, valueAt, typedAt, encryptedInfoAt, encryptedAt};
-ghost use Rattle.reader.specs.Steps.{parametersAt, octetsAt, typedValueAt, ciphertextAt, encryptedPartsAt, encryptedContentAt};
+ghost use Rattle.reader.specs.Steps.{someParametersAt, parametersAt, octetsAt, typedValueAt, ciphertextAt, encryptedPartsAt, encryptedContentAt};
 use der::Checked;
 use der::Cursor;
 use der::Element;
@@ -52,38 +52,48 @@ pub(crate) fn named(s: &[u8], body: Cursor, name: &[u8]) -> bool
     pkcs12::same(&s[from..to], name)
 }
 
+// The parameters that stand at m, of an algorithm whose identifier is i; they end its SEQUENCE, and n is past it.
+fn some_parameters(s: &[u8], i: Cursor, m: Cursor, n: Cursor) -> PartsAt
+    requires { ⌜ (length (now s) ≤ fileBytes) × (i .at ≤ fileBytes) × (i .end ≤ fileBytes) ⌝ }
+    ensures { λ r. ⌜ r ≡ someParametersAt (now (s .entry)) i m n ⌝ }
+{
+    match m.opaque(s, der::OPAQUE_LEVELS) {
+        Checked::Refused(f) => PartsAt::Refused(f),
+        Checked::Passed { count, next } => match next.finish() {
+            Checked::Refused(f) => PartsAt::Refused(f),
+            Checked::Passed { count: _, next: _ } => {
+                let identifier = range_of(i);
+                let from = m.at;
+                let to = next.at;
+                let parameters = range(from, to);
+                let value = Range::EMPTY;
+                let parts = Parts {
+                    identifier,
+                    parameters,
+                    value,
+                };
+                let more = count + 2;
+                PartsAt::Found {
+                    parts,
+                    count: more,
+                    next: n,
+                }
+            }
+        },
+    }
+}
+
 // The parameters of an algorithm whose identifier is i, from m on; its SEQUENCE ends at `stop`.
 fn parameters(s: &[u8], i: Cursor, m: Cursor, stop: usize, n: Cursor) -> PartsAt
     requires { ⌜ (length (now s) ≤ fileBytes) × (i .at ≤ fileBytes) × (i .end ≤ fileBytes) × (stop ≤ fileBytes) ⌝ }
     ensures { λ r. ⌜ r ≡ parametersAt (now (s .entry)) i m stop n ⌝ }
 {
-    let identifier = range_of(i);
     let from = m.at;
     let end = m.end;
     if from < end {
-        return match m.opaque(s, der::OPAQUE_LEVELS) {
-            Checked::Refused(f) => PartsAt::Refused(f),
-            Checked::Passed { count, next } => match next.finish() {
-                Checked::Refused(f) => PartsAt::Refused(f),
-                Checked::Passed { count: _, next: _ } => {
-                    let to = next.at;
-                    let parameters = range(from, to);
-                    let value = Range::EMPTY;
-                    let parts = Parts {
-                        identifier,
-                        parameters,
-                        value,
-                    };
-                    let more = count + 2;
-                    PartsAt::Found {
-                        parts,
-                        count: more,
-                        next: n,
-                    }
-                }
-            },
-        };
+        return some_parameters(s, i, m, n);
     }
+    let identifier = range_of(i);
     let parameters = range(stop, stop);
     let value = Range::EMPTY;
     let parts = Parts {

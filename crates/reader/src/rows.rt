@@ -1,11 +1,12 @@
-// Rows: safe contents, bags and their attributes. The table goes by value: each function takes it and gives it back with the rows of what it
-// read, or the empty table with the first fault. A function keeps what it has so far in one place, and a call's answer goes there: then the
-// table is copied less.
+// Rows: safes, safe contents, bags and their attributes. The table goes by value: what reads a part takes the table and gives it back with the
+// rows of that part, or gives the empty table with the first fault. A function keeps what it has so far in one place, and a call's answer goes
+// there: then the table is copied less.
 ghost use mathlib.Core.Path.{_≡_};
 ghost use Prim.Native.Nat.{_≤_};
+ghost use lib.Dec.{ltb};
 ghost use lib.ListN.{length};
 ghost use Rattle.pkcs12.specs.Numbers.{fileBytes};
-ghost use Rattle.pkcs12.specs.Table.{noMac, tableOf, rowsIn};
+ghost use Rattle.pkcs12.specs.Table.{bagRow, attributeRow, noMac, tableOf, rowsIn};
 ghost use Rattle.pkcs12.specs.Walk.{Refused, run, owner, bagAt, safeContentsAt, safeAt, startRows};
 ghost use Rattle.reader.specs.Steps.{bagEndAt, progress, Ready};
 use crate::bags;
@@ -32,6 +33,11 @@ use pkcs12::Table;
 // The elements that stand before the first safe: PFX, version, ContentInfo, its type, [0], OCTET STRING, and the SEQUENCE of the safes.
 const START_COUNT: usize = 7;
 
+// The elements that are counted with a plain safe's row (ContentInfo, its type, [0], OCTET STRING), and with a bag's (SEQUENCE, bagId, [0]).
+const SAFE_COUNT: usize = 4;
+
+const BAG_COUNT: usize = 3;
+
 // What was read so far: the rows, and the cursor past the part.
 pub(crate) struct Progress {
     pub(crate) answer: Answer,
@@ -48,6 +54,19 @@ pub(crate) fn refused(fault: Fault) -> Progress
         answer: Answer::Refused(fault),
         table,
         next: Cursor { at: 0, end: 0 },
+    }
+}
+
+// The row of an attribute with these parts, of the bag with this number.
+fn attribute_row(number: u16, parts: Parts) -> AttributeRow
+    ensures { λ r. ⌜ r ≡ attributeRow number (parts .identifier) (parts .value) ⌝ }
+{
+    let identifier = parts.identifier;
+    let values = parts.value;
+    AttributeRow {
+        bag: number,
+        identifier,
+        values,
     }
 }
 
@@ -81,14 +100,8 @@ fn attributes(s: &[u8], number: u16, mut table: Table, e: Cursor, c: Cursor, n: 
                         count,
                         next: behind,
                     } => {
-                        let identifier = parts.identifier;
-                        let values = parts.value;
                         let elements = table.elements + count;
-                        table.attributes[row] = AttributeRow {
-                            bag: number,
-                            identifier,
-                            values,
-                        };
+                        table.attributes[row] = attribute_row(number, parts);
                         table.attribute_count = row + 1;
                         table.elements = elements;
                         at = behind.at;
@@ -104,6 +117,20 @@ fn attributes(s: &[u8], number: u16, mut table: Table, e: Cursor, c: Cursor, n: 
                 },
             }
         }
+    }
+}
+
+// The row of a bag, behind whose [0] the set is left.
+fn bag_row(kind: BagKind, safe: u16, enclosing: Enclosing, parts: Parts, set: Cursor) -> BagRow
+    ensures { λ r. ⌜ r ≡ bagRow kind safe enclosing parts (ltb (set .at) (set .end)) ⌝ }
+{
+    let has_set = set.at < set.end;
+    BagRow {
+        kind,
+        safe,
+        enclosing,
+        parts,
+        has_set,
     }
 }
 
@@ -136,15 +163,8 @@ fn bag(
             next,
         } => {
             let number = row as u16;
-            let has_set = set.at < set.end;
             let elements = table.elements + count;
-            table.bags[row] = BagRow {
-                kind,
-                safe,
-                enclosing,
-                parts,
-                has_set,
-            };
+            table.bags[row] = bag_row(kind, safe, enclosing, parts, set);
             table.bag_count = row + 1;
             table.elements = elements;
             so_far = attributes(s, number, table, end, set, next);
@@ -152,16 +172,8 @@ fn bag(
         }
         Bag::Nested { content, set, next } => {
             let number = row as u16;
-            let has_set = set.at < set.end;
-            let elements = table.elements + 3;
-            let parts = Parts::EMPTY;
-            table.bags[row] = BagRow {
-                kind: BagKind::Nested,
-                safe,
-                enclosing,
-                parts,
-                has_set,
-            };
+            let elements = table.elements + BAG_COUNT;
+            table.bags[row] = bag_row(BagKind::Nested, safe, enclosing, Parts::EMPTY, set);
             table.bag_count = row + 1;
             table.elements = elements;
             so_far = safe_contents(s, below, safe, Enclosing::Bag(number), table, content);
@@ -281,7 +293,7 @@ pub(crate) fn safes(s: &[u8], m: Cursor, b: Cursor) -> Progress
                 next,
             } => {
                 let number = row as u16;
-                let elements = table.elements + 4;
+                let elements = table.elements + SAFE_COUNT;
                 let parts = Parts::EMPTY;
                 table.safes[row] = SafeRow {
                     kind: SafeKind::Plain,

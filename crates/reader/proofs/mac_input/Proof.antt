@@ -1,3 +1,4 @@
+-- Each way out is the definition's, by the tests and answers on the way.
 use borrow.Author.Needs.{needs}
 use Rattle.reader.proofs.Rules.{part-slice}
 use Rattle.reader.proofs.MacInput.{input-backward, input-past, input-cut}

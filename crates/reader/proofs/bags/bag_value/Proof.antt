@@ -1,3 +1,4 @@
+-- Each way out is the definition's, by the tests and answers on the way; the count of a value is small.
 use borrow.Author.Needs.{needs}
 use Rattle.reader.proofs.Heads.{small-values, values}
 use Rattle.reader.proofs.bags.bag_value.Statement.{statement}

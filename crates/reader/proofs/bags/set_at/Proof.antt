@@ -1,3 +1,4 @@
+-- Each way out is the definition's, by the tests and answers on the way.
 use borrow.Author.Needs.{needs}
 use Rattle.der.proofs.Choices.{choices}
 use Rattle.reader.proofs.Rules.{given-eq, given-ne}

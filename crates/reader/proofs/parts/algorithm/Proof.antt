@@ -1,7 +1,8 @@
+-- Each way out is the definition's, by the tests and answers on the way; places have room in a range.
 use borrow.Author.Needs.{needs}
 use Rattle.der.proofs.Choices.{choices}
 use Rattle.pkcs12.specs.Walk.{algorithmAt}
-use Rattle.reader.specs.Steps.{parametersAt}
+use Rattle.reader.specs.Steps.{someParametersAt, parametersAt}
 use Rattle.reader.proofs.Rules.{rooms}
 use Rattle.reader.proofs.parts.algorithm.Statement.{statement}
 use Rattle.reader.proofs.parts.algorithm.Tie as tie
@@ -28,15 +29,15 @@ parameters-requires : tie.Need-parameters-requires
 parameters-requires c κs = search (needs, rooms)
 
 returns : tie.Need-returns
-unfolding algorithmAt parametersAt
+unfolding algorithmAt parametersAt someParametersAt
 returns c = search choices depth 14
 
 returns-2 : tie.Need-returns-2
-unfolding algorithmAt parametersAt
+unfolding algorithmAt parametersAt someParametersAt
 returns-2 c = search choices depth 14
 
 returns-3 : tie.Need-returns-3
-unfolding algorithmAt parametersAt
+unfolding algorithmAt parametersAt someParametersAt
 returns-3 c = search choices depth 14
 
 pub algorithm-spec : {M : Type 1} → statement M

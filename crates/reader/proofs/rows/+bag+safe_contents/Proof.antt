@@ -22,6 +22,7 @@ use Rattle.der.proofs.Cursor.expect.Reads as expect-reads
 use Rattle.reader.proofs.bags.bag_at.Reads as bag-at-reads
 use Rattle.reader.proofs.rows.attributes.Reads as attributes-reads
 use Rattle.reader.proofs.rows.refused.Reads as refused-reads
+use Rattle.reader.proofs.rows.bag_row.Reads as bag-row-reads
 use Rattle.reader.proofs.rows.+bag+safe_contents.{statement}
 use Rattle.reader.proofs.rows.+bag+safe_contents.Tie.{close}
 
@@ -51,7 +52,7 @@ safe-contents-below t =
 
 -- what a call within `bag`, and one within `safe_contents`, asks and gives
 abbrev in-bag : ℕ → bag-lts.Claims
-in-bag t = (bag-at-reads.Asked, bag-at-reads.Learnt, refused-reads.Asked, refused-reads.Learnt, attributes-reads.Asked, attributes-reads.Learnt, safe-contents-below t, safe-contents.Post)
+in-bag t = (bag-at-reads.Asked, bag-at-reads.Learnt, refused-reads.Asked, refused-reads.Learnt, bag-row-reads.Asked, bag-row-reads.Learnt, attributes-reads.Asked, attributes-reads.Learnt, safe-contents-below t, safe-contents.Post)
 
 abbrev in-safe-contents : ℕ → safe-contents-lts.Claims
 in-safe-contents t = (expect-reads.Asked, expect-reads.Learnt, refused-reads.Asked, refused-reads.Learnt, bag-below t, bag.Post)
@@ -75,10 +76,13 @@ bag-cast-number : (t : ℕ) → bag-lts.Need-cast-number (in-bag t) (bag-at t) b
 bag-cast-number t c = omega (arith, leaf-room _ (c .before .before .before .before .before .args .below) (c .before .before .before .before .before .args .safe) (c .before .before .before .before .before .args .enclosing) _ _ (c .before .before .before .before .before .pre .1) _ (c .before .before .before .bag-at .ensures) _ _ _ _ _ _ (c .before .kind .given .1))
 
 bag-add-elements : (t : ℕ) → bag-lts.Need-add-elements (in-bag t) (bag-at t) bag.Post
-bag-add-elements t c = leaf-fits _ (c .before .before .before .before .before .before .args .below) (c .before .before .before .before .before .before .args .safe) (c .before .before .before .before .before .before .args .enclosing) _ _ (c .before .before .before .before .before .before .pre .1) _ (c .before .before .before .before .bag-at .ensures) _ _ _ _ _ _ (c .before .before .kind .given .1)
+bag-add-elements t c = leaf-fits _ (c .before .before .before .before .before .args .below) (c .before .before .before .before .before .args .safe) (c .before .before .before .before .before .args .enclosing) _ _ (c .before .before .before .before .before .pre .1) _ (c .before .before .before .bag-at .ensures) _ _ _ _ _ _ (c .before .kind .given .1)
 
-bag-mul-t31 : (t : ℕ) → bag-lts.Need-mul-t31 (in-bag t) (bag-at t) bag.Post
-bag-mul-t31 t c = omega (arith, leaf-room _ (c .before .before .before .before .before .before .args .below) (c .before .before .before .before .before .before .args .safe) (c .before .before .before .before .before .before .args .enclosing) _ _ (c .before .before .before .before .before .before .pre .1) _ (c .before .before .before .before .bag-at .ensures) _ _ _ _ _ _ (c .before .before .kind .given .1))
+bag-bag-row-requires : (t : ℕ) → bag-lts.Need-bag-row-requires (in-bag t) (bag-at t) bag.Post
+bag-bag-row-requires t c κs = search needs
+
+bag-mul-t28 : (t : ℕ) → bag-lts.Need-mul-t28 (in-bag t) (bag-at t) bag.Post
+bag-mul-t28 t c = omega (arith, leaf-room _ (c .before .before .before .before .before .before .args .below) (c .before .before .before .before .before .before .args .safe) (c .before .before .before .before .before .before .args .enclosing) _ _ (c .before .before .before .before .before .before .pre .1) _ (c .before .before .before .before .bag-at .ensures) _ _ _ _ _ _ (c .before .before .kind .given .1))
 
 bag-element-set-from-table : (t : ℕ) → bag-lts.Need-element-set-from-table (in-bag t) (bag-at t) bag.Post
 bag-element-set-from-table t c = leaf-room _ (c .before .before .before .before .before .before .args .below) (c .before .before .before .before .before .before .args .safe) (c .before .before .before .before .before .before .args .enclosing) _ _ (c .before .before .before .before .before .before .pre .1) _ (c .before .before .before .before .bag-at .ensures) _ _ _ _ _ _ (c .before .before .kind .given .1)
@@ -87,10 +91,10 @@ bag-add-table : (t : ℕ) → bag-lts.Need-add-table (in-bag t) (bag-at t) bag.P
 bag-add-table t c = omega (arith, leaf-room _ (c .before .before .before .before .before .before .args .below) (c .before .before .before .before .before .before .args .safe) (c .before .before .before .before .before .before .args .enclosing) _ _ (c .before .before .before .before .before .before .pre .1) _ (c .before .before .before .before .bag-at .ensures) _ _ _ _ _ _ (c .before .before .kind .given .1))
 
 bag-attributes-requires : (t : ℕ) → bag-lts.Need-attributes-requires (in-bag t) (bag-at t) bag.Post
-bag-attributes-requires t c κs = leaf-ready _ (c .before .before .before .before .before .before .args .below) (c .before .before .before .before .before .before .args .safe) (c .before .before .before .before .before .before .args .enclosing) _ _ (c .before .before .before .before .before .before .pre .1) _ (c .before .before .before .before .bag-at .ensures) _ _ _ _ _ _ (c .before .before .kind .given .1)
+bag-attributes-requires t c κs = leaf-ready _ (c .before .before .before .before .before .before .args .below) (c .before .before .before .before .before .before .args .safe) (c .before .before .before .before .before .before .args .enclosing) _ _ (c .before .before .before .before .before .before .pre .1) _ (c .before .before .before .before .bag-at .ensures) _ _ _ _ _ _ (c .before .before .kind .given .1) _ (c .bag-row .ensures)
 
 bag-returns-2 : (t : ℕ) → bag-lts.Need-returns-2 (in-bag t) (bag-at t) bag.Post
-bag-returns-2 t c = leaf-returns _ (c .before .before .before .before .before .before .before .args .below) (c .before .before .before .before .before .before .before .args .safe) (c .before .before .before .before .before .before .before .args .enclosing) _ _ (c .before .before .before .before .before .before .before .pre .1) _ (c .before .before .before .before .before .bag-at .ensures) _ _ _ _ _ _ (c .before .before .before .kind .given .1) _ (c .attributes .ensures)
+bag-returns-2 t c = leaf-returns _ (c .before .before .before .before .before .before .before .args .below) (c .before .before .before .before .before .before .before .args .safe) (c .before .before .before .before .before .before .before .args .enclosing) _ _ (c .before .before .before .before .before .before .before .pre .1) _ (c .before .before .before .before .before .bag-at .ensures) _ _ _ _ _ _ (c .before .before .before .kind .given .1) _ (c .before .bag-row .ensures) _ (c .attributes .ensures)
 
 bag-enum-known-content : (t : ℕ) → bag-lts.Need-enum-known-content (in-bag t) (bag-at t) bag.Post
 bag-enum-known-content t c = search needs
@@ -99,10 +103,13 @@ bag-cast-number-2 : (t : ℕ) → bag-lts.Need-cast-number-2 (in-bag t) (bag-at 
 bag-cast-number-2 t c = omega (arith, nested-room _ (c .before .before .before .before .before .args .below) (c .before .before .before .before .before .args .safe) (c .before .before .before .before .before .args .enclosing) _ _ (c .before .before .before .before .before .pre .1) _ (c .before .before .before .bag-at .ensures) _ _ _ (c .before .content .given .1))
 
 bag-add-elements-2 : (t : ℕ) → bag-lts.Need-add-elements-2 (in-bag t) (bag-at t) bag.Post
-bag-add-elements-2 t c = nested-fits _ (c .before .before .before .before .before .before .args .below) (c .before .before .before .before .before .before .args .safe) (c .before .before .before .before .before .before .args .enclosing) _ _ (c .before .before .before .before .before .before .pre .1) _ (c .before .before .before .before .bag-at .ensures) _ _ _ (c .before .before .content .given .1)
+bag-add-elements-2 t c = nested-fits _ (c .before .before .before .before .before .args .below) (c .before .before .before .before .before .args .safe) (c .before .before .before .before .before .args .enclosing) _ _ (c .before .before .before .before .before .pre .1) _ (c .before .before .before .bag-at .ensures) _ _ _ (c .before .content .given .1)
 
-bag-mul-t36 : (t : ℕ) → bag-lts.Need-mul-t36 (in-bag t) (bag-at t) bag.Post
-bag-mul-t36 t c = omega (arith, nested-room _ (c .before .before .before .before .before .before .args .below) (c .before .before .before .before .before .before .args .safe) (c .before .before .before .before .before .before .args .enclosing) _ _ (c .before .before .before .before .before .before .pre .1) _ (c .before .before .before .before .bag-at .ensures) _ _ _ (c .before .before .content .given .1))
+bag-bag-row-requires-2 : (t : ℕ) → bag-lts.Need-bag-row-requires-2 (in-bag t) (bag-at t) bag.Post
+bag-bag-row-requires-2 t c κs = search needs
+
+bag-mul-t33 : (t : ℕ) → bag-lts.Need-mul-t33 (in-bag t) (bag-at t) bag.Post
+bag-mul-t33 t c = omega (arith, nested-room _ (c .before .before .before .before .before .before .args .below) (c .before .before .before .before .before .before .args .safe) (c .before .before .before .before .before .before .args .enclosing) _ _ (c .before .before .before .before .before .before .pre .1) _ (c .before .before .before .before .bag-at .ensures) _ _ _ (c .before .before .content .given .1))
 
 bag-element-set-from-table-2 : (t : ℕ) → bag-lts.Need-element-set-from-table-2 (in-bag t) (bag-at t) bag.Post
 bag-element-set-from-table-2 t c = nested-room _ (c .before .before .before .before .before .before .args .below) (c .before .before .before .before .before .before .args .safe) (c .before .before .before .before .before .before .args .enclosing) _ _ (c .before .before .before .before .before .before .pre .1) _ (c .before .before .before .before .bag-at .ensures) _ _ _ (c .before .before .content .given .1)
@@ -111,22 +118,22 @@ bag-add-table-2 : (t : ℕ) → bag-lts.Need-add-table-2 (in-bag t) (bag-at t) b
 bag-add-table-2 t c = omega (arith, nested-room _ (c .before .before .before .before .before .before .args .below) (c .before .before .before .before .before .before .args .safe) (c .before .before .before .before .before .before .args .enclosing) _ _ (c .before .before .before .before .before .before .pre .1) _ (c .before .before .before .before .bag-at .ensures) _ _ _ (c .before .before .content .given .1))
 
 bag-safe-contents-requires : (t : ℕ) → bag-lts.Need-safe-contents-requires (in-bag t) (bag-at t) bag.Post
-bag-safe-contents-requires t c κs = (omega (arith, c .before .before .before .before .before .before .pre .0), nested-ready _ (c .before .before .before .before .before .before .args .below) (c .before .before .before .before .before .before .args .safe) (c .before .before .before .before .before .before .args .enclosing) _ _ (c .before .before .before .before .before .before .pre .1) _ (c .before .before .before .before .bag-at .ensures) _ _ _ (c .before .before .content .given .1))
+bag-safe-contents-requires t c κs = (omega (arith, c .before .before .before .before .before .before .pre .0), nested-ready _ (c .before .before .before .before .before .before .args .below) (c .before .before .before .before .before .before .args .safe) (c .before .before .before .before .before .before .args .enclosing) _ _ (c .before .before .before .before .before .before .pre .1) _ (c .before .before .before .before .bag-at .ensures) _ _ _ (c .before .before .content .given .1) _ (c .bag-row2 .ensures))
 
 bag-enum-told : (t : ℕ) → bag-lts.Need-enum-told (in-bag t) (bag-at t) bag.Post
 bag-enum-told t c = search needs
 
 bag-returns-3 : (t : ℕ) → bag-lts.Need-returns-3 (in-bag t) (bag-at t) bag.Post
-bag-returns-3 t c = nested-refused _ (c .before .before .before .before .before .before .before .before .before .args .below) (c .before .before .before .before .before .before .before .before .before .args .safe) (c .before .before .before .before .before .before .before .before .before .args .enclosing) _ _ (c .before .before .before .before .before .before .before .before .before .pre .1) _ (c .before .before .before .before .before .before .before .bag-at .ensures) _ _ _ (c .before .before .before .before .before .content .given .1) _ (c .before .before .safe-contents .ensures) _ (c .enum-told .given .1)
+bag-returns-3 t c = nested-refused _ (c .before .before .before .before .before .before .before .before .before .args .below) (c .before .before .before .before .before .before .before .before .before .args .safe) (c .before .before .before .before .before .before .before .before .before .args .enclosing) _ _ (c .before .before .before .before .before .before .before .before .before .pre .1) _ (c .before .before .before .before .before .before .before .bag-at .ensures) _ _ _ (c .before .before .before .before .before .content .given .1) _ (c .before .before .before .bag-row2 .ensures) _ (c .before .before .safe-contents .ensures) _ (c .enum-told .given .1)
 
 bag-enum-told-2 : (t : ℕ) → bag-lts.Need-enum-told-2 (in-bag t) (bag-at t) bag.Post
 bag-enum-told-2 t c = search needs
 
 bag-attributes-requires-2 : (t : ℕ) → bag-lts.Need-attributes-requires-2 (in-bag t) (bag-at t) bag.Post
-bag-attributes-requires-2 t c κs = nested-on _ (c .before .before .before .before .before .before .before .before .before .before .args .below) (c .before .before .before .before .before .before .before .before .before .before .args .safe) (c .before .before .before .before .before .before .before .before .before .before .args .enclosing) _ _ (c .before .before .before .before .before .before .before .before .before .before .pre .1) _ (c .before .before .before .before .before .before .before .before .bag-at .ensures) _ _ _ (c .before .before .before .before .before .before .content .given .1) _ (c .before .before .before .safe-contents .ensures) (c .before .enum-told2 .given .1)
+bag-attributes-requires-2 t c κs = nested-on _ (c .before .before .before .before .before .before .before .before .before .before .args .below) (c .before .before .before .before .before .before .before .before .before .before .args .safe) (c .before .before .before .before .before .before .before .before .before .before .args .enclosing) _ _ (c .before .before .before .before .before .before .before .before .before .before .pre .1) _ (c .before .before .before .before .before .before .before .before .bag-at .ensures) _ _ _ (c .before .before .before .before .before .before .content .given .1) _ (c .before .before .before .before .bag-row2 .ensures) _ (c .before .before .before .safe-contents .ensures) (c .before .enum-told2 .given .1)
 
 bag-returns-4 : (t : ℕ) → bag-lts.Need-returns-4 (in-bag t) (bag-at t) bag.Post
-bag-returns-4 t c = nested-returns _ (c .before .before .before .before .before .before .before .before .before .before .before .args .below) (c .before .before .before .before .before .before .before .before .before .before .before .args .safe) (c .before .before .before .before .before .before .before .before .before .before .before .args .enclosing) _ _ (c .before .before .before .before .before .before .before .before .before .before .before .pre .1) _ (c .before .before .before .before .before .before .before .before .before .bag-at .ensures) _ _ _ (c .before .before .before .before .before .before .before .content .given .1) _ (c .before .before .before .before .safe-contents .ensures) _ (c .before .before .enum-told2 .given .1) (c .attributes2 .ensures)
+bag-returns-4 t c = nested-returns _ (c .before .before .before .before .before .before .before .before .before .before .before .args .below) (c .before .before .before .before .before .before .before .before .before .before .before .args .safe) (c .before .before .before .before .before .before .before .before .before .before .before .args .enclosing) _ _ (c .before .before .before .before .before .before .before .before .before .before .before .pre .1) _ (c .before .before .before .before .before .before .before .before .before .bag-at .ensures) _ _ _ (c .before .before .before .before .before .before .before .content .given .1) _ (c .before .before .before .before .before .bag-row2 .ensures) _ (c .before .before .before .before .safe-contents .ensures) _ (c .before .before .enum-told2 .given .1) (c .attributes2 .ensures)
 
 abbrev safe-contents-Inv-loop : safe-contents-lts.InvT-loop
 safe-contents-Inv-loop s level safe enclosing so-far₀ next below first end at₀ so-far at =
@@ -197,7 +204,8 @@ pub +bag+safe-contents-spec : {M : Type 1} → statement M
     (bag-enum-known-kind t)
     (bag-cast-number t)
     (bag-add-elements t)
-    (bag-mul-t31 t)
+    (bag-bag-row-requires t)
+    (bag-mul-t28 t)
     (bag-element-set-from-table t)
     (bag-add-table t)
     (bag-attributes-requires t)
@@ -205,7 +213,8 @@ pub +bag+safe-contents-spec : {M : Type 1} → statement M
     (bag-enum-known-content t)
     (bag-cast-number-2 t)
     (bag-add-elements-2 t)
-    (bag-mul-t36 t)
+    (bag-bag-row-requires-2 t)
+    (bag-mul-t33 t)
     (bag-element-set-from-table-2 t)
     (bag-add-table-2 t)
     (bag-safe-contents-requires t)

@@ -53,22 +53,25 @@ enum-known-parts : tie.Need-enum-known-parts Inv-loop μ-loop
 enum-known-parts c = search needs
 
 add-elements : tie.Need-add-elements Inv-loop μ-loop
-add-elements c = turn-fits _ (c .before .before .before .before .before .before .before .before .before .before .before .before .before .args .number) _ _ _ (c .before .before .before .before .before .before .before .before .before .before .before .before .before .args .n) (c .before .before .before .before .before .before .before .before .before .before .before .before .before .pre) _ (c .before .before .before .before .before .before .before .before .before .before .before .set-at .ensures) _ _ (c .before .before .before .before .before .before .before .before .before .body .given .1) _ _ (c .before .before .before .before .before .before .before .loop .inv) _ _ _ _ (c .before .before .before .before .before .attribute .ensures) (c .before .before .before .parts .given .1)
+add-elements c = turn-fits _ (c .before .before .before .before .before .before .before .before .before .before .before .args .number) _ _ _ (c .before .before .before .before .before .before .before .before .before .before .before .args .n) (c .before .before .before .before .before .before .before .before .before .before .before .pre) _ (c .before .before .before .before .before .before .before .before .before .set-at .ensures) _ _ (c .before .before .before .before .before .before .before .body .given .1) _ _ (c .before .before .before .before .before .loop .inv) _ _ _ _ (c .before .before .before .attribute .ensures) (c .before .parts .given .1)
 
-mul-t32 : tie.Need-mul-t32 Inv-loop μ-loop
-mul-t32 c = omega (arith, turn-room _ (c .before .before .before .before .before .before .before .before .before .before .before .before .before .args .number) _ _ _ (c .before .before .before .before .before .before .before .before .before .before .before .before .before .args .n) (c .before .before .before .before .before .before .before .before .before .before .before .before .before .pre) _ (c .before .before .before .before .before .before .before .before .before .before .before .set-at .ensures) _ _ (c .before .before .before .before .before .before .before .before .before .body .given .1) _ _ (c .before .before .before .before .before .before .before .loop .inv) _ _ _ _ (c .before .before .before .before .before .attribute .ensures) (c .before .before .before .parts .given .1))
+attribute-row-requires : tie.Need-attribute-row-requires Inv-loop μ-loop
+attribute-row-requires c κs = search needs
+
+mul-t30 : tie.Need-mul-t30 Inv-loop μ-loop
+mul-t30 c = omega (arith, turn-room _ (c .before .before .before .before .before .before .before .before .before .before .before .before .args .number) _ _ _ (c .before .before .before .before .before .before .before .before .before .before .before .before .args .n) (c .before .before .before .before .before .before .before .before .before .before .before .before .pre) _ (c .before .before .before .before .before .before .before .before .before .before .set-at .ensures) _ _ (c .before .before .before .before .before .before .before .before .body .given .1) _ _ (c .before .before .before .before .before .before .loop .inv) _ _ _ _ (c .before .before .before .before .attribute .ensures) (c .before .before .parts .given .1))
 
 element-set-from-table : tie.Need-element-set-from-table Inv-loop μ-loop
-element-set-from-table c = turn-room _ (c .before .before .before .before .before .before .before .before .before .before .before .before .before .args .number) _ _ _ (c .before .before .before .before .before .before .before .before .before .before .before .before .before .args .n) (c .before .before .before .before .before .before .before .before .before .before .before .before .before .pre) _ (c .before .before .before .before .before .before .before .before .before .before .before .set-at .ensures) _ _ (c .before .before .before .before .before .before .before .before .before .body .given .1) _ _ (c .before .before .before .before .before .before .before .loop .inv) _ _ _ _ (c .before .before .before .before .before .attribute .ensures) (c .before .before .before .parts .given .1)
+element-set-from-table c = turn-room _ (c .before .before .before .before .before .before .before .before .before .before .before .before .args .number) _ _ _ (c .before .before .before .before .before .before .before .before .before .before .before .before .args .n) (c .before .before .before .before .before .before .before .before .before .before .before .before .pre) _ (c .before .before .before .before .before .before .before .before .before .before .set-at .ensures) _ _ (c .before .before .before .before .before .before .before .before .body .given .1) _ _ (c .before .before .before .before .before .before .loop .inv) _ _ _ _ (c .before .before .before .before .attribute .ensures) (c .before .before .parts .given .1)
 
 add-table : tie.Need-add-table Inv-loop μ-loop
-add-table c = omega (arith, turn-room _ (c .before .before .before .before .before .before .before .before .before .before .before .before .before .args .number) _ _ _ (c .before .before .before .before .before .before .before .before .before .before .before .before .before .args .n) (c .before .before .before .before .before .before .before .before .before .before .before .before .before .pre) _ (c .before .before .before .before .before .before .before .before .before .before .before .set-at .ensures) _ _ (c .before .before .before .before .before .before .before .before .before .body .given .1) _ _ (c .before .before .before .before .before .before .before .loop .inv) _ _ _ _ (c .before .before .before .before .before .attribute .ensures) (c .before .before .before .parts .given .1))
+add-table c = omega (arith, turn-room _ (c .before .before .before .before .before .before .before .before .before .before .before .before .args .number) _ _ _ (c .before .before .before .before .before .before .before .before .before .before .before .before .args .n) (c .before .before .before .before .before .before .before .before .before .before .before .before .pre) _ (c .before .before .before .before .before .before .before .before .before .before .set-at .ensures) _ _ (c .before .before .before .before .before .before .before .before .body .given .1) _ _ (c .before .before .before .before .before .before .loop .inv) _ _ _ _ (c .before .before .before .before .attribute .ensures) (c .before .before .parts .given .1))
 
 loop-less : tie.Need-loop-less Inv-loop μ-loop
-loop-less c = turn-less _ (c .before .before .before .before .before .before .before .before .before .before .before .before .before .args .number) _ _ _ (c .before .before .before .before .before .before .before .before .before .before .before .before .before .args .n) (c .before .before .before .before .before .before .before .before .before .before .before .before .before .pre) _ (c .before .before .before .before .before .before .before .before .before .before .before .set-at .ensures) _ _ (c .before .before .before .before .before .before .before .before .before .body .given .1) _ _ (c .before .before .before .before .before .before .before .loop .inv) _ _ _ _ (c .before .before .before .before .before .attribute .ensures) (c .before .before .before .parts .given .1) (c .before .before .before .before .before .before .loop-test .taken)
+loop-less c = turn-less _ (c .before .before .before .before .before .before .before .before .before .before .before .before .args .number) _ _ _ (c .before .before .before .before .before .before .before .before .before .before .before .before .args .n) (c .before .before .before .before .before .before .before .before .before .before .before .before .pre) _ (c .before .before .before .before .before .before .before .before .before .before .set-at .ensures) _ _ (c .before .before .before .before .before .before .before .before .body .given .1) _ _ (c .before .before .before .before .before .before .loop .inv) _ _ _ _ (c .before .before .before .before .attribute .ensures) (c .before .before .parts .given .1) (c .before .before .before .before .before .loop-test .taken)
 
 loop-again : tie.Need-loop-again Inv-loop μ-loop
-loop-again c = turn-on _ (c .before .before .before .before .before .before .before .before .before .before .before .before .before .args .number) _ _ _ (c .before .before .before .before .before .before .before .before .before .before .before .before .before .args .n) (c .before .before .before .before .before .before .before .before .before .before .before .before .before .pre) _ (c .before .before .before .before .before .before .before .before .before .before .before .set-at .ensures) _ _ (c .before .before .before .before .before .before .before .before .before .body .given .1) _ _ (c .before .before .before .before .before .before .before .loop .inv) _ _ _ _ (c .before .before .before .before .before .before .loop-test .taken) (c .before .before .before .before .before .attribute .ensures) (c .before .before .before .parts .given .1)
+loop-again c = turn-on _ (c .before .before .before .before .before .before .before .before .before .before .before .before .args .number) _ _ _ (c .before .before .before .before .before .before .before .before .before .before .before .before .args .n) (c .before .before .before .before .before .before .before .before .before .before .before .before .pre) _ (c .before .before .before .before .before .before .before .before .before .before .set-at .ensures) _ _ (c .before .before .before .before .before .before .before .before .body .given .1) _ _ (c .before .before .before .before .before .before .loop .inv) _ _ _ _ (c .before .before .before .before .before .loop-test .taken) (c .before .before .before .before .attribute .ensures) (c .before .before .parts .given .1) _ (c .attribute-row .ensures)
 
 finish-requires : tie.Need-finish-requires Inv-loop μ-loop
 finish-requires c κs = search needs
@@ -113,7 +116,8 @@ attributes-spec =
     returns
     enum-known-parts
     add-elements
-    mul-t32
+    attribute-row-requires
+    mul-t30
     element-set-from-table
     add-table
     loop-less

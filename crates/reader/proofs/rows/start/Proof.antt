@@ -1,3 +1,4 @@
+-- The empty table with the MAC input and the count is that of the rows at the start.
 use borrow.Author.Needs.{needs}
 use Rattle.reader.proofs.OneSafe.{started}
 use Rattle.reader.proofs.rows.start.Statement.{statement}
