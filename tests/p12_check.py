@@ -14,6 +14,8 @@ from collections import Counter
 
 import p12_make
 import p12_reader
+import p12_tools
+import p12_vectors
 
 LINE = re.compile(r" *(\d+):d=(\d+) +hl=(\d+) +l= *(\d+) (cons|prim): (.*)")
 
@@ -102,6 +104,10 @@ def main(arguments):
     # damaged files have no answer of their own: of those that are accepted, the places are compared
     files += [(name, data, "damaged") for name, data
               in p12_make.damaged(1, 200) + p12_make.mended(1, 200)]
+    stored = [path.read_bytes() for path in sorted(p12_tools.FILES.glob("source-*.p12"))]
+    stored += [data for _, data, _ in p12_tools.stored()]
+    files += [("stored_damaged_%d" % n, data, "damaged")
+              for n, data in enumerate(p12_vectors.changed(stored))]
     if not shutil.which("openssl"):
         print("openssl isn't here: nothing to compare with")
         return 2
