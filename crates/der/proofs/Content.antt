@@ -10,7 +10,7 @@ use mir.Val.{Fits}
 use mir.Syntax.{w8}
 use lib.Dec.{leb, ltb, eqb}
 use lib.ListN.{length, getD, take, length-take, drop-of-length-le}
-use lib.Seq.{slice, slice-cons, length-slice, getD-take, getD-drop}
+use lib.Seq.{slice, slice-cons, length-slice, take-length, getD-take, getD-drop}
 use borrow.Author.Tests.{ltb-true, ltb-false, leb-true, leb-false, eqb-true, eqb-false, lt-ltb, le-ltb, le-leb, lt-leb, eq-eqb, ne-eqb}
 use Rattle.der.specs.Choice.{if_then_else_}
 use Rattle.der.proofs.Choices.{never}
@@ -233,3 +233,7 @@ module _ (s : List ℕ) (to : ℕ) (whole : Bool) where
   pub parts-end : (i : ℕ) (begins : Bool) → to ≤ i → whole ≡ parts begins (slice i to s) → begins ≡ whole
   unfolding parts
   parts-end i begins h e = sym (rw (slice-past s i to h) at e)
+
+-- all the bytes, as the code names them
+pub whole-body : (r : Bool) (s : List ℕ) → r ≡ identifierBody (slice 0 (length s) s) → r ≡ identifierBody s
+whole-body r s e = rw (take-length s) at e

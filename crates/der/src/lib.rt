@@ -207,6 +207,13 @@ fn is_identifier(s: &[u8], from: usize, to: usize) -> bool
     begins
 }
 
+// Whether the bytes are an identifier's body.
+pub fn names_type(body: &[u8]) -> bool
+    ensures { λ r. ⌜ r ≡ identifierBody (now (body .entry)) ⌝ }
+{
+    is_identifier(body, 0, body.len())
+}
+
 // Whether a body is an INTEGER's: 1 to 4 bytes, minimal, not negative.
 fn is_integer(s: &[u8], body: Cursor) -> bool
     requires { ⌜ body .end ≤ length (now s) ⌝ }

@@ -3,6 +3,7 @@
 pub mod Theorems
 pub mod Bench
 pub mod Stored
+pub mod Cut
 pub mod SameBytes
 pub mod Named
 pub mod Rows

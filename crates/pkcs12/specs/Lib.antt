@@ -12,5 +12,7 @@ pub mod Walk
 pub mod Laid
 pub mod Accepted
 pub mod Sound
+pub mod Checks
+pub mod Written
 pub mod Bench
 pub mod Telling

@@ -27,6 +27,14 @@ notServed = 7
 abbrev pub tooLong : ℕ
 tooLong = 9
 
+-- "room shorter than the file to be written"
+abbrev pub noRoom : ℕ
+noRoom = 10
+
+-- "table not sound"
+abbrev pub notSound : ℕ
+notSound = 11
+
 -- "SEQUENCE (30)", "SET (31)", "[0] (A0)", "tag 80 with the ciphertext"
 abbrev pub sequenceTag : ℕ
 sequenceTag = 48

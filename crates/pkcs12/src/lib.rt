@@ -2,7 +2,7 @@
 // what is read from it are definitions in specs/, with the theorems about them in proofs/.
 ghost use mathlib.Core.Path.{_≡_};
 ghost use Rattle.pkcs12.specs.Identifiers.{sameBytes, kindOf};
-ghost use Rattle.pkcs12.specs.Table.{emptyTable, withSafe, withBag, withAttribute};
+ghost use Rattle.pkcs12.specs.Table.{bytesIn, emptyTable, withSafe, withBag, withAttribute};
 use der::Cursor;
 use der::Fault;
 
@@ -23,6 +23,10 @@ pub const FILE_BYTES: usize = 65535;
 pub const NOT_SERVED: u8 = 7;
 
 pub const TOO_LONG: u8 = 9;
+
+pub const NO_ROOM: u8 = 10;
+
+pub const NOT_SOUND: u8 = 11;
 
 // Tags.
 pub const SEQUENCE: u8 = 0x30;
@@ -144,6 +148,12 @@ pub struct Reading {
     pub table: Table,
 }
 
+// What writing a file gives: its length, or the refusal, at offset 0.
+pub enum Written {
+    Length(usize),
+    Refused(Fault),
+}
+
 // Parts of a file: their ranges, the number of elements, and the cursor past them.
 pub enum PartsAt {
     Found {
@@ -223,6 +233,25 @@ impl BagKind {
 
 impl Range {
     pub const EMPTY: Range = Range { start: 0, end: 0 };
+
+    // The bytes that the range names, that part of the caller's own; of a range that goes past them those that are there.
+    pub fn part(self, bytes: &[u8]) -> &[u8]
+        ensures { λ r. ⌜ now r ≡ bytesIn (now (bytes .entry)) self ⌝ }
+    {
+        let start = self.start as usize;
+        let end = self.end as usize;
+        let n = bytes.len();
+        if end <= start {
+            return &bytes[0..0];
+        }
+        if end <= n {
+            return &bytes[start..end];
+        }
+        if start <= n {
+            return &bytes[start..n];
+        }
+        &bytes[0..0]
+    }
 }
 
 impl Parts {

@@ -40,15 +40,3 @@ accepted-input f b a x e =
     let p = accepted-iff-follows f b .0 a in
     let q = some-same (p .0) x (sym (table-shows-reading f b (p .0) (p .1)) ∙ e) in
     rw q at (follows-input f b (p .0) (p .1))
-
--- ---- of a range a..e over bytes l, as the code cuts it
-
-module _ (l : List ℕ) (a e : ℕ) where
-  pub input-backward : e ≤ a → [] ≡ slice a e l
-  input-backward h = sym (drop-of-length-le (take e l) {i = a} (simp length-take (omega arith)))
-
-  pub input-past : length l < a → [] ≡ slice a e l
-  input-past h = sym (drop-of-length-le (take e l) {i = a} (simp length-take (omega arith)))
-
-  pub input-cut : length l < e → take (length l - a) (drop a l) ≡ slice a e l
-  input-cut h = rw (take-all e l (omega arith)) (rw (take-all (length l) l (omega arith)) at (part-slice a (length l) l))

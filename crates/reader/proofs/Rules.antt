@@ -159,17 +159,6 @@ made i j p q v w k n e f g = rw (e, f, g)
 
 pub ruleset answers = (parts-refused, parts-found, mac-refused, mac-found, made)
 
-take-none : {A : Type 0} (n : ℕ) → take {A = A} n [] ≡ []
-take-none zero = refl
-take-none (suc n) = refl
-
--- a part of a slice as the code takes it, and as definitions name it
-pub part-slice : {A : Type 0} (a e : ℕ) (l : List A) → take (e - a) (drop a l) ≡ slice a e l
-part-slice zero e l = simp unary-clauses
-part-slice (suc a) zero l = let z : 0 - suc a ≡ 0 = omega arith in rw z
-part-slice (suc a) (suc e) [] = take-none (suc e - suc a)
-part-slice (suc a) (suc e) (x ∷ l) = simp unary-clauses (part-slice a e l)
-
 -- the test of a value that may have to be an OCTET STRING, as the code makes it
 pub value-step : (u : Bool) (s : List ℕ) (c : Cursor) (r : Checked)
     → r ≡ (if u then onElement (expectAt octetStringTag s c) Checked.Refused (λ t b n. opaqueAt opaqueLevels s c) else opaqueAt opaqueLevels s c)

@@ -81,17 +81,5 @@ pub fn mac_input(file: &[u8], table: Table) -> &[u8]
     ensures { λ r. ⌜ now r ≡ bytesIn (now (file .entry)) (table .«mac_input») ⌝ }
 {
     let range = table.mac_input;
-    let start = range.start as usize;
-    let end = range.end as usize;
-    let n = file.len();
-    if end <= start {
-        return &file[0..0];
-    }
-    if end <= n {
-        return &file[start..end];
-    }
-    if start <= n {
-        return &file[start..n];
-    }
-    &file[0..0]
+    range.part(file)
 }

@@ -1,9 +1,8 @@
 -- Each way out is the definition's, by the tests and answers on the way.
 use borrow.Author.Needs.{needs}
-use Rattle.reader.proofs.Rules.{part-slice}
-use Rattle.reader.proofs.MacInput.{input-backward, input-past, input-cut}
-use Rattle.reader.proofs.mac_input.Statement.{statement}
-use Rattle.reader.proofs.mac_input.Tie as tie
+use Rattle.pkcs12.proofs.Cut.{part-slice, cut-backward, cut-past, cut-short}
+use Rattle.pkcs12.proofs.Range.part.Statement.{statement}
+use Rattle.pkcs12.proofs.Range.part.Tie as tie
 
 cast-start : tie.Need-cast-start
 cast-start c = search needs
@@ -21,7 +20,7 @@ part-result-end : tie.Need-part-result-end
 part-result-end c = search needs
 
 returns : tie.Need-returns
-returns c = search input-backward
+returns c = search cut-backward
 
 sub-result-2 : tie.Need-sub-result-2
 sub-result-2 c = search needs
@@ -42,7 +41,7 @@ part-result-end-3 : tie.Need-part-result-end-3
 part-result-end-3 c = search needs
 
 returns-3 : tie.Need-returns-3
-returns-3 c = search input-cut
+returns-3 c = search cut-short
 
 sub-result-3 : tie.Need-sub-result-3
 sub-result-3 c = search needs
@@ -54,10 +53,10 @@ part-result-end-4 : tie.Need-part-result-end-4
 part-result-end-4 c = search needs
 
 returns-4 : tie.Need-returns-4
-returns-4 c = search input-past
+returns-4 c = search cut-past
 
-pub mac-input-spec : {M : Type 1} → statement M
-mac-input-spec =
+pub part-spec : {M : Type 1} → statement M
+part-spec =
     tie.close
     (tie.spec
     cast-start
