@@ -1,6 +1,7 @@
 -- The laws of `der`, and the rules that close most needs of its functions.
 pub mod Choices
 pub mod Octets
+pub mod Integers
 pub mod Content
 pub mod Placed
 pub mod Many

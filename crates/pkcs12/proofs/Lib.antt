@@ -22,3 +22,5 @@ pub mod Unique
 pub mod Long
 pub mod Refusals
 pub mod Corollaries
+pub mod Checked
+pub mod Writing

@@ -31,7 +31,7 @@ record Shows {R W : Type 0} (f : R → W) (Good : R → Type 0) (rows : List R) 
   pub long : length rows ≡ n
 
 -- each of two lists, one behind the other
-each-join : {R : Type 0} (Good : R → Type 0) (x y : List R) → Each Good x → Each Good y → Each Good (x ++ y)
+pub each-join : {R : Type 0} (Good : R → Type 0) (x y : List R) → Each Good x → Each Good y → Each Good (x ++ y)
 unfolding Each
 each-join Good [] y p q = q
 each-join Good (r ∷ x) y p q = (p .0, each-join Good x y (p .1) q)

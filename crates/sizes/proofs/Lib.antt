@@ -1,0 +1,9 @@
+-- Laws that sizes and the rows that are taken keep.
+pub mod Capped
+pub mod Leaves
+pub mod Lengths
+pub mod Picks
+pub mod Loops
+pub mod Measures
+pub mod MeasuresSafes
+pub mod Reading

@@ -1,0 +1,36 @@
+-- The sizes of the parts make that of the whole.
+use borrow.Author.Needs.{needs}
+use Rattle.sizes.specs.Bodies.{typedBody}
+use Rattle.sizes.proofs.Capped.{sizing}
+use Rattle.sizes.proofs.typed.Statement.{statement}
+use Rattle.sizes.proofs.typed.Tie as tie
+
+part-requires : tie.Need-part-requires
+part-requires c κs = search needs
+
+part-requires-2 : tie.Need-part-requires-2
+part-requires-2 c κs = search needs
+
+element-requires : tie.Need-element-requires
+element-requires c κs = search needs
+
+element-requires-2 : tie.Need-element-requires-2
+element-requires-2 c κs = search needs
+
+sum-requires : tie.Need-sum-requires
+sum-requires c κs = search needs
+
+returns : tie.Need-returns
+unfolding typedBody
+returns c = search sizing depth 14
+
+pub typed-spec : {M : Type 1} → statement M
+typed-spec =
+    tie.close
+    (tie.spec
+    part-requires
+    part-requires-2
+    element-requires
+    element-requires-2
+    sum-requires
+    returns)

@@ -1,0 +1,50 @@
+-- The bodies of the elements that `Encode` writes, by name.
+use mathlib.Core.List.{List, [], _++_}
+use Prim.Native.Nat.{ℕ}
+use Rattle.der.specs.Octets.{tlv}
+use Rattle.pkcs12.specs.Numbers.{setTag, contextTag, ciphertextTag, pfxVersion, encryptedVersion}
+use Rattle.pkcs12.specs.Identifiers.{dataType, identifierOf}
+use Rattle.pkcs12.specs.Syntax.{Algorithm, Sealed, Leaf, Attribute, Set, MacData, Pfx}
+use Rattle.pkcs12.specs.Encode.{integer, octetString, identifier, sequence, algorithmBytes, sealedBytes, dataBytes, setBytes, leafBytes, encryptedInfo, safesBytes, iterationsBytes, macBytes}
+use Rattle.pkcs12.specs.Values.{onContent}
+use Rattle.pkcs12.specs.Table.{bytesIn, contentIn}
+use Rattle.pkcs12.specs.declared.Parts.{Parts}
+use Rattle.pkcs12.specs.declared.BagKind.{BagKind}
+use Rattle.pkcs12.specs.declared.AttributeRow.{AttributeRow}
+
+unfoldable pub algorithmBody : Algorithm → List ℕ
+algorithmBody a = identifier (a .identifier) ++ a .parameters
+
+unfoldable pub sealedBody : Sealed → List ℕ
+sealedBody x = algorithmBytes (x .algorithm) ++ octetString (x .octets)
+
+unfoldable pub typedBody : List ℕ → List ℕ → List ℕ
+typedBody t v = identifier t ++ tlv contextTag v
+
+-- what stands in [0] of a bag that holds no bags; an empty row and a nested bag have nothing here
+unfoldable pub contentOf : List ℕ → BagKind → Parts → List ℕ
+contentOf s k p = onContent (contentIn s k p) [] leafBytes []
+
+unfoldable pub attributeIn : List ℕ → AttributeRow → Attribute
+attributeIn s r = record { identifier = bytesIn s (r .identifier); values = bytesIn s (r .values) }
+
+unfoldable pub attributeBody : Attribute → List ℕ
+attributeBody a = identifier (a .identifier) ++ tlv setTag (a .values)
+
+unfoldable pub bagBody : BagKind → List ℕ → Set → List ℕ
+bagBody k content set = identifier (identifierOf k) ++ (tlv contextTag content ++ setBytes set)
+
+unfoldable pub encryptedInfoBody : Sealed → List ℕ
+encryptedInfoBody x = identifier dataType ++ (algorithmBytes (x .algorithm) ++ tlv ciphertextTag (x .octets))
+
+unfoldable pub encryptedDataBody : Sealed → List ℕ
+encryptedDataBody x = integer encryptedVersion ++ encryptedInfo x
+
+unfoldable pub contentInfoBody : List ℕ → List ℕ → List ℕ
+contentInfoBody type content = identifier type ++ tlv contextTag content
+
+unfoldable pub macBody : MacData → List ℕ
+macBody m = sealedBytes (m .digest) ++ (octetString (m .salt) ++ iterationsBytes (m .iterations))
+
+unfoldable pub pfxBody : Pfx → List ℕ
+pfxBody x = integer pfxVersion ++ (dataBytes (safesBytes (x .safes)) ++ macBytes (x .mac))

@@ -1,0 +1,2 @@
+-- Laws that the code of this crate leans on.
+pub mod Rules

@@ -1,0 +1,2 @@
+-- What measuring a table gives.
+pub mod Measured

@@ -1,0 +1,3 @@
+-- What writing does to the buffer.
+pub mod Put
+pub mod Rows
