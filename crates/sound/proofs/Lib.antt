@@ -1,2 +1,3 @@
 -- Laws that the code of this crate leans on.
 pub mod Rules
+pub mod Whole
