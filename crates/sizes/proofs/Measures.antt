@@ -71,7 +71,7 @@ module _ (t : Table) (s : List ℕ) (h : Bool) (n from : ℕ) where
     unfolding setSized setAt setBytes
     all-seen r e a p =
         let size : capped (elementSize body) ≡ capped (length (setBytes (setAt t s true n from .set))) =
-          rw (a .0) (element-is (capped (elementSize body)) body setTag (g .seen-bytes) refl (sized-told body (g .seen-bytes) (g .size))) in
+        rw (a .0) (element-is (capped (elementSize body)) body setTag (g .seen-bytes) refl (sized-told body (g .seen-bytes) (g .size))) in
         p ∙ rw (e, a .0, a .1, ← (g .size)) (λ i. record { body = body; size = (rw (a .0) at size) i; next = next })
 
     pub set-ends : (r : Owned) → h ≡ true → end ≤ next → r ≡ presentAs body next → r ≡ setSized (setAt t s h n from)
@@ -171,15 +171,15 @@ module _ (t : Table) (s : List ℕ) (l k n from : ℕ) (row : BagRow) (e : row �
       let set : SetPicked = setAt t s (row .«has_set») n from in
       let body : List ℕ = contentOf s (row .kind) (row .parts) in
       let size : capped (elementSize (bagSize content (owned .size))) ≡ capped (length (bagBytes (row .kind) body (set .set))) =
-        bag-sized (row .kind) body (set .set) content (owned .size) (leaf-some f (row .kind) o h)
-        (sized-told content body c) (sized-told (owned .size) (setBytes (set .set)) (ap (λ (x : Owned). x .size) w)) in
+      bag-sized (row .kind) body (set .set) content (owned .size) (leaf-some f (row .kind) o h)
+      (sized-told content body c) (sized-told (owned .size) (setBytes (set .set)) (ap (λ (x : Owned). x .size) w)) in
       let whole : bagsBytes (bag (q .value) (set .set) none) ≡ bagBytes (row .kind) body (set .set) =
-        append-nil (bagBytes (kindOfLeaf (q .value)) (leafBytes (q .value)) (set .set)) ∙ rw (q .kind, q .bytes) refl in
+      append-nil (bagBytes (kindOfLeaf (q .value)) (leafBytes (q .value)) (set .set)) ∙ rw (q .kind, q .bytes) refl in
       let found : bagAt t s l k n from ≡ some (record { front = bag (q .value) (set .set); bag = n + 1; attribute = set .next }) =
-        bag-leaf t s l k n from (q .value) (content-is ∙ q .shows)
-        ∙ ap {B = Option OnePicked} (λ (w : SetPicked). some (record { front = bag (q .value) (w .set); bag = n + 1; attribute = w .next })) (set-is from) in
+      bag-leaf t s l k n from (q .value) (content-is ∙ q .shows)
+      ∙ ap {B = Option OnePicked} (λ (w : SetPicked). some (record { front = bag (q .value) (w .set); bag = n + 1; attribute = w .next })) (set-is from) in
       p ∙ one-same (elementSize (bagSize content (owned .size))) (length (bagsBytes (bag (q .value) (set .set) none))) (n + 1) (n + 1) (owned .next) (set .next)
-        (size ∙ ap (λ (x : List ℕ). capped (length x)) (sym whole)) refl (ap (λ (x : Owned). x .next) w)
+      (size ∙ ap (λ (x : List ℕ). capped (length x)) (sym whole)) refl (ap (λ (x : Owned). x .next) w)
       ∙ sym (ap oneSized found)
 
   module _ (h : f ≡ Form.Nested) where
@@ -199,14 +199,14 @@ module _ (t : Table) (s : List ℕ) (l k n from : ℕ) (row : BagRow) (e : row �
         let own : owned ≡ setSized set = w ∙ ap (λ (x : Taken). setSized (setAt t s (row .«has_set») n (x .attribute))) i in
         let body : List ℕ = sequence (bagsBytes (all .bags)) in
         let size : capped (elementSize (bagSize content (owned .size))) ≡ capped (length (bagBytes Nested body (set .set))) =
-          bag-sized Nested body (set .set) content (owned .size) (nested-some)
-          (sized-element content (inner .size) sequenceTag (bagsBytes (all .bags)) c (sized-told (inner .size) (bagsBytes (all .bags)) (ap (λ (x : Taken). x .size) i)))
-          (sized-told (owned .size) (setBytes (set .set)) (ap (λ (x : Owned). x .size) own)) in
+        bag-sized Nested body (set .set) content (owned .size) (nested-some)
+        (sized-element content (inner .size) sequenceTag (bagsBytes (all .bags)) c (sized-told (inner .size) (bagsBytes (all .bags)) (ap (λ (x : Taken). x .size) i)))
+        (sized-told (owned .size) (setBytes (set .set)) (ap (λ (x : Owned). x .size) own)) in
         let found : bagAt t s l k n from ≡ some (record { front = nest (all .bags) (set .set); bag = all .bag; attribute = set .next }) =
-          bag-nest-less t s l k n from (content-is ∙ q .0) z
-          ∙ ap {B = Option OnePicked} (λ (w : SetPicked). some (record { front = nest (all .bags) (w .set); bag = all .bag; attribute = w .next })) (set-is (all .attribute)) in
+        bag-nest-less t s l k n from (content-is ∙ q .0) z
+        ∙ ap {B = Option OnePicked} (λ (w : SetPicked). some (record { front = nest (all .bags) (w .set); bag = all .bag; attribute = w .next })) (set-is (all .attribute)) in
         p ∙ one-same (elementSize (bagSize content (owned .size))) (length (bagsBytes (nest (all .bags) (set .set) none))) (inner .bag) (all .bag) (owned .next) (set .next)
-          (size ∙ ap (λ (x : List ℕ). capped (length x)) (sym (append-nil (bagBytes Nested body (set .set))))) (ap (λ (x : Taken). x .bag) i) (ap (λ (x : Owned). x .next) own)
+        (size ∙ ap (λ (x : List ℕ). capped (length x)) (sym (append-nil (bagBytes Nested body (set .set))))) (ap (λ (x : Taken). x .bag) i) (ap (λ (x : Owned). x .next) own)
         ∙ sym (ap oneSized found)
 
 -- ---- bags side by side

@@ -62,7 +62,7 @@ module _ (t : Table) (s : List ℕ) (k first from : ℕ) (row : SafeRow) (e : ro
       let all : Picked = bagsAt t s 7 k Enclosing.None first from in
       let bytes : List ℕ = bagsBytes (all .bags) in
       let near : Near body (dataSize (length bytes)) =
-        near-then _ _ _ (near-told body _ p) (near-data (taken .size) (length bytes) (sized-told (taken .size) bytes (ap (λ (x : Taken). x .size) w))) in
+      near-then _ _ _ (near-told body _ p) (near-data (taken .size) (length bytes) (sized-told (taken .size) bytes (ap (λ (x : Taken). x .size) w))) in
       one-sized size body (dataSize (length bytes)) (taken .bag) (taken .attribute) q near
       ∙ rw (safe-plain h, length-data bytes, ap (λ (x : Taken). x .bag) w, ap (λ (x : Taken). x .attribute) w) refl
 
@@ -73,8 +73,8 @@ module _ (t : Table) (s : List ℕ) (k first from : ℕ) (row : SafeRow) (e : ro
   safe-encrypted-sized content string info size h c p q r =
       let bytes : List ℕ = encryptedDataBody (sealedIn s (row .parts)) in
       let near : Near info (contentInfoSize (elementSize (length bytes))) =
-        near-then _ _ _ (near-told info _ q)
-        (near-content-info string _ (near-then _ _ _ (near-told string _ p) (near-element content (length bytes) (sized-told content bytes c)))) in
+      near-then _ _ _ (near-told info _ q)
+      (near-content-info string _ (near-then _ _ _ (near-told string _ p) (near-element content (length bytes) (sized-told content bytes c)))) in
       one-sized size info (contentInfoSize (elementSize (length bytes))) first from r near
       ∙ rw (safe-encrypted h, length-encrypted (sealedIn s (row .parts))) refl
 

@@ -82,8 +82,18 @@ fn bag_id(out: &mut [u8], at: usize, kind: BagKind) -> usize
     match kind {
         BagKind::None => out::header(out, at, der::OBJECT_IDENTIFIER, 0),
         BagKind::Key => out::element(out, at, der::OBJECT_IDENTIFIER, &BagKind::KEY),
-        BagKind::ShroudedKey => out::element(out, at, der::OBJECT_IDENTIFIER, &BagKind::SHROUDED_KEY),
-        BagKind::Certificate => out::element(out, at, der::OBJECT_IDENTIFIER, &BagKind::CERTIFICATE),
+        BagKind::ShroudedKey => out::element(
+            out,
+            at,
+            der::OBJECT_IDENTIFIER,
+            &BagKind::SHROUDED_KEY,
+        ),
+        BagKind::Certificate => out::element(
+            out,
+            at,
+            der::OBJECT_IDENTIFIER,
+            &BagKind::CERTIFICATE,
+        ),
         BagKind::Crl => out::element(out, at, der::OBJECT_IDENTIFIER, &BagKind::CRL),
         BagKind::Secret => out::element(out, at, der::OBJECT_IDENTIFIER, &BagKind::SECRET),
         BagKind::Nested => out::element(out, at, der::OBJECT_IDENTIFIER, &BagKind::NESTED),
@@ -91,7 +101,13 @@ fn bag_id(out: &mut [u8], at: usize, kind: BagKind) -> usize
 }
 
 // What stands before the content of a bag, by the sizes of its content and of its set.
-pub(crate) fn bag_head(out: &mut [u8], at: usize, kind: BagKind, content: usize, set: usize) -> usize
+pub(crate) fn bag_head(
+    out: &mut [u8],
+    at: usize,
+    kind: BagKind,
+    content: usize,
+    set: usize,
+) -> usize
     ensures { λ r. ⌜ bagSize content set ≤ fileBytes → Put (now (out .entry)) at (bagHead kind content set) (now (out .exit)) r ⌝ }
 {
     let size = sizes::bag(content, set);

@@ -34,7 +34,16 @@ pub(crate) struct RowsEnd {
 }
 
 // The set of a bag, if one stands there, by the size of its attributes.
-fn set(out: &mut [u8], at: usize, table: Table, bytes: &[u8], has_set: bool, bag: usize, from: usize, body: usize) -> SetEnd
+fn set(
+    out: &mut [u8],
+    at: usize,
+    table: Table,
+    bytes: &[u8],
+    has_set: bool,
+    bag: usize,
+    from: usize,
+    body: usize,
+) -> SetEnd
     requires { ⌜ body ≡ capped (length (setBody (setAt table (now bytes) «has_set» bag from .set))) ⌝ }
     ensures { λ r. ⌜ SetPut (now (out .entry)) at (setAt table (now (bytes .entry)) «has_set» bag from) (now (out .exit)) r ⌝ }
 {
@@ -57,7 +66,15 @@ fn set(out: &mut [u8], at: usize, table: Table, bytes: &[u8], has_set: bool, bag
 }
 
 // Bag n, which holds no bags.
-fn leaf(out: &mut [u8], at: usize, table: Table, bytes: &[u8], row: BagRow, n: usize, from: usize) -> RowsEnd
+fn leaf(
+    out: &mut [u8],
+    at: usize,
+    table: Table,
+    bytes: &[u8],
+    row: BagRow,
+    n: usize,
+    from: usize,
+) -> RowsEnd
     requires { ⌜ n < bagRows ⌝ }
     ensures { λ r. ⌜ RowsPut (now (out .entry)) at (leafPart table (now (bytes .entry)) row n from) (now (out .exit)) r ⌝ }
 {
@@ -78,7 +95,17 @@ fn leaf(out: &mut [u8], at: usize, table: Table, bytes: &[u8], row: BagRow, n: u
 }
 
 // Bag n in a safe, with all that it encloses. Where the row is no bag, or no level is left for it, nothing is written.
-fn bag(out: &mut [u8], at: usize, table: Table, bytes: &[u8], row: BagRow, safe: usize, n: usize, from: usize, level: u8) -> RowsEnd
+fn bag(
+    out: &mut [u8],
+    at: usize,
+    table: Table,
+    bytes: &[u8],
+    row: BagRow,
+    safe: usize,
+    n: usize,
+    from: usize,
+    level: u8,
+) -> RowsEnd
     requires { ⌜ (n < bagRows) × (row ≡ getD (table .bags) n noBag) ⌝ }
     ensures { λ r. ⌜ RowsPut (now (out .entry)) at (onePart (bagAt table (now (bytes .entry)) level safe n from) n from) (now (out .exit)) r ⌝ }
 {
@@ -102,13 +129,40 @@ fn bag(out: &mut [u8], at: usize, table: Table, bytes: &[u8], row: BagRow, safe:
             let number = n as u16;
             let next = n + 1;
             let has_set = row.has_set;
-            let inner = sizes::rows::bags(table, bytes, safe, Enclosing::Bag(number), next, from, below);
+            let inner = sizes::rows::bags(
+                table,
+                bytes,
+                safe,
+                Enclosing::Bag(number),
+                next,
+                from,
+                below,
+            );
             let content = sizes::element(inner.size);
             let owned = sizes::rows::set(table, bytes, has_set, n, inner.attribute);
             let head = parts::bag_head(out, at, kind, content, owned.size);
             let body = out::header(out, head, pkcs12::SEQUENCE, inner.size);
-            let all = bags(out, body, table, bytes, safe, Enclosing::Bag(number), next, from, below);
-            let end = set(out, all.at, table, bytes, has_set, n, all.attribute, owned.body);
+            let all = bags(
+                out,
+                body,
+                table,
+                bytes,
+                safe,
+                Enclosing::Bag(number),
+                next,
+                from,
+                below,
+            );
+            let end = set(
+                out,
+                all.at,
+                table,
+                bytes,
+                has_set,
+                n,
+                all.attribute,
+                owned.body,
+            );
             RowsEnd {
                 at: end.at,
                 bag: all.bag,
@@ -119,7 +173,17 @@ fn bag(out: &mut [u8], at: usize, table: Table, bytes: &[u8], row: BagRow, safe:
 }
 
 // The bags in a safe and an enclosing bag, from a bag row and an attribute row on.
-fn bags(out: &mut [u8], at: usize, table: Table, bytes: &[u8], safe: usize, enclosing: Enclosing, first: usize, from: usize, level: u8) -> RowsEnd
+fn bags(
+    out: &mut [u8],
+    at: usize,
+    table: Table,
+    bytes: &[u8],
+    safe: usize,
+    enclosing: Enclosing,
+    first: usize,
+    from: usize,
+    level: u8,
+) -> RowsEnd
     ensures { λ r. ⌜ RowsPut (now (out .entry)) at (bagsPart (bagsAt table (now (bytes .entry)) level safe enclosing first from)) (now (out .exit)) r ⌝ }
 {
     let end = sizes::rows::fewer(table.bag_count, pkcs12::BAG_ROWS);
@@ -134,7 +198,17 @@ fn bags(out: &mut [u8], at: usize, table: Table, bytes: &[u8], safe: usize, encl
         if !sizes::rows::belongs(row, safe, enclosing) {
             return so_far;
         }
-        so_far = bag(out, so_far.at, table, bytes, row, safe, n, so_far.attribute, level);
+        so_far = bag(
+            out,
+            so_far.at,
+            table,
+            bytes,
+            row,
+            safe,
+            n,
+            so_far.attribute,
+            level,
+        );
         if so_far.bag <= n {
             return so_far;
         }
@@ -153,7 +227,16 @@ fn is_empty_safe(kind: SafeKind) -> bool
 }
 
 // Safe k; its bags from a bag row and an attribute row on.
-fn safe(out: &mut [u8], at: usize, table: Table, bytes: &[u8], row: SafeRow, k: usize, first: usize, from: usize) -> RowsEnd
+fn safe(
+    out: &mut [u8],
+    at: usize,
+    table: Table,
+    bytes: &[u8],
+    row: SafeRow,
+    k: usize,
+    first: usize,
+    from: usize,
+) -> RowsEnd
     requires { ⌜ row ≡ getD (table .safes) k noSafe ⌝ }
     ensures { λ r. ⌜ RowsPut (now (out .entry)) at (safePart (safeAt table (now (bytes .entry)) k first from) first from) (now (out .exit)) r ⌝ }
 {
@@ -165,9 +248,27 @@ fn safe(out: &mut [u8], at: usize, table: Table, bytes: &[u8], row: SafeRow, k: 
             attribute: from,
         },
         SafeKind::Plain => {
-            let inner = sizes::rows::bags(table, bytes, k, Enclosing::None, first, from, sizes::rows::BELOW);
+            let inner = sizes::rows::bags(
+                table,
+                bytes,
+                k,
+                Enclosing::None,
+                first,
+                from,
+                sizes::rows::BELOW,
+            );
             let head = parts::data_head(out, at, inner.size);
-            bags(out, head, table, bytes, k, Enclosing::None, first, from, sizes::rows::BELOW)
+            bags(
+                out,
+                head,
+                table,
+                bytes,
+                k,
+                Enclosing::None,
+                first,
+                from,
+                sizes::rows::BELOW,
+            )
         }
         SafeKind::Encrypted => {
             let parts = row.parts;
@@ -198,7 +299,16 @@ fn safes(out: &mut [u8], at: usize, table: Table, bytes: &[u8]) -> usize
         if is_empty_safe(kind) {
             return so_far.at;
         }
-        so_far = safe(out, so_far.at, table, bytes, row, k, so_far.bag, so_far.attribute);
+        so_far = safe(
+            out,
+            so_far.at,
+            table,
+            bytes,
+            row,
+            k,
+            so_far.bag,
+            so_far.attribute,
+        );
         k = k + 1;
     }
     so_far.at
