@@ -28,16 +28,26 @@ bag-id-long Crl h = refl
 bag-id-long Secret h = refl
 bag-id-long Nested h = refl
 
+-- the body of a bag
+pub bag-body-long : (k : BagKind) (c : List ℕ) (set : Set) → (formOf k ≡ Form.None → ⊥)
+    → length (identifier (identifierOf k) ++ (tlv contextTag c ++ setBytes set)) ≡ bagSize (length c) (length (setBytes set))
+unfolding bagSize
+bag-body-long k c set h =
+    rw (length-append (identifier (identifierOf k)) (tlv contextTag c ++ setBytes set), bag-id-long k h, length-append (tlv contextTag c) (setBytes set), length-element contextTag c) refl
+
 pub length-bag : (k : BagKind) (c : List ℕ) (set : Set) → (formOf k ≡ Form.None → ⊥)
     → length (bagBytes k c set) ≡ elementSize (bagSize (length c) (length (setBytes set)))
-unfolding bagBytes bagSize
-length-bag k c set h =
-    length-element _ _ ∙ ap elementSize (rw (length-append (identifier (identifierOf k)) (tlv contextTag c ++ setBytes set), bag-id-long k h, length-append (tlv contextTag c) (setBytes set), length-element contextTag c) refl)
+unfolding bagBytes
+length-bag k c set h = length-element _ _ ∙ ap elementSize (bag-body-long k c set h)
+
+-- the body of a ContentInfo
+pub info-body-long : (type content : List ℕ) → length (identifier type) ≡ 11 → length (identifier type ++ tlv contextTag content) ≡ contentInfoSize (length content)
+unfolding contentInfoSize
+info-body-long type content h = rw (length-append (identifier type) (tlv contextTag content), h, length-element contextTag content) refl
 
 pub length-info : (type content : List ℕ) → length (identifier type) ≡ 11 → length (contentInfo type content) ≡ elementSize (contentInfoSize (length content))
-unfolding contentInfo contentInfoSize
-length-info type content h =
-    length-element _ _ ∙ ap elementSize (rw (length-append (identifier type) (tlv contextTag content), h, length-element contextTag content) refl)
+unfolding contentInfo
+length-info type content h = length-element _ _ ∙ ap elementSize (info-body-long type content h)
 
 pub data-type-long : length (identifier dataType) ≡ 11
 unfolding dataType tlv lengthOctets
@@ -61,8 +71,14 @@ pfx-version-long : length (integer pfxVersion) ≡ 3
 unfolding integerOctets digits digitsFrom tlv lengthOctets
 pfx-version-long = refl
 
-pub length-encode : (x : Pfx) → length (encode x) ≡ elementSize (pfxSize (length (safesBytes (x .safes))) (length (macBody (x .mac))))
-unfolding encode macBytes macBody pfxSize
-length-encode x =
+-- the body of a PFX
+pub pfx-body-long : (x : Pfx) → length (integer pfxVersion ++ (dataBytes (safesBytes (x .safes)) ++ macBytes (x .mac)))
+    ≡ pfxSize (length (safesBytes (x .safes))) (length (macBody (x .mac)))
+unfolding macBytes macBody pfxSize
+pfx-body-long x =
     let rest : List ℕ = dataBytes (safesBytes (x .safes)) ++ macBytes (x .mac) in
-    length-element _ _ ∙ ap elementSize (rw (length-append (integer pfxVersion) rest, pfx-version-long, length-append (dataBytes (safesBytes (x .safes))) (macBytes (x .mac)), length-data (safesBytes (x .safes)), length-element 48 (macBody (x .mac))) refl)
+    rw (length-append (integer pfxVersion) rest, pfx-version-long, length-append (dataBytes (safesBytes (x .safes))) (macBytes (x .mac)), length-data (safesBytes (x .safes)), length-element 48 (macBody (x .mac))) refl
+
+pub length-encode : (x : Pfx) → length (encode x) ≡ elementSize (pfxSize (length (safesBytes (x .safes))) (length (macBody (x .mac))))
+unfolding encode
+length-encode x = length-element _ _ ∙ ap elementSize (pfx-body-long x)

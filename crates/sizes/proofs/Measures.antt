@@ -103,13 +103,13 @@ bag-sized : (k : BagKind) (c : List ℕ) (set : Set) (a b : ℕ) → (formOf k �
 bag-sized k c set a b h p q = near-element _ _ (near-bag a b (length c) (length (setBytes set)) p q) .alike ∙ ap capped (sym (length-bag k c set h))
 
 -- a kind that holds no bags is one
-leaf-some : (f : Form) (k : BagKind) → f ≡ formOf k → f ≡ Form.Leaf → formOf k ≡ Form.None → ⊥
+pub leaf-some : (f : Form) (k : BagKind) → f ≡ formOf k → f ≡ Form.Leaf → formOf k ≡ Form.None → ⊥
 leaf-some f k o h e = leaf-none (sym h ∙ o ∙ e)
   where
     leaf-none : Form.Leaf ≡ Form.None → ⊥
     leaf-none x = let z : _≡_ {A = ℕ} 0 1 = cc in omega arith
 
-nested-some : formOf Nested ≡ Form.None → ⊥
+pub nested-some : formOf Nested ≡ Form.None → ⊥
 nested-some e = let z : _≡_ {A = ℕ} 0 1 = cc in omega arith
 
 -- what a bag's row shows, by its kind

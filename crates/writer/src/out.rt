@@ -45,7 +45,7 @@ pub(crate) fn copied(out: &mut [u8], at: usize, x: &[u8]) -> usize
 
 // The header of an element whose body has n bytes.
 pub(crate) fn header(out: &mut [u8], at: usize, tag: u8, n: usize) -> usize
-    ensures { λ r. ⌜ n ≤ fileBytes → Put (now (out .entry)) at (header tag n) (now (out .exit)) r ⌝ }
+    ensures { λ r. ⌜ (n ≤ fileBytes → Put (now (out .entry)) at (header tag n) (now (out .exit)) r) ⌝ }
 {
     let second = byte(out, at, tag);
     let low = (n % 256) as u8;

@@ -6,8 +6,9 @@ ghost use lib.ListN.{length, getD};
 ghost use Rattle.pkcs12.specs.Numbers.{bagRows};
 ghost use Rattle.pkcs12.specs.Encode.{bagsBytes, setBytes, safesBytes, encode};
 ghost use Rattle.pkcs12.specs.Table.{noSafe, noBag};
-ghost use Rattle.sizes.specs.Picked.{setAt, bagAt, bagsAt, safeAt, safesAt};
+ghost use Rattle.sizes.specs.Picked.{formOf, setAt, bagAt, bagsAt, safeAt, safesAt};
 ghost use Rattle.sizes.specs.Sizes.{capped, setBody};
+ghost use Rattle.sizes.specs.declared.rows.Form.{Form};
 ghost use Rattle.writer.specs.Put.{Put};
 ghost use Rattle.writer.specs.Rows.{SetPut, RowsPut, leafPart, onePart, bagsPart, safePart, readingAt, isEmptySafe};
 use crate::out;
@@ -75,7 +76,7 @@ fn leaf(
     n: usize,
     from: usize,
 ) -> RowsEnd
-    requires { ⌜ n < bagRows ⌝ }
+    requires { ⌜ (n < bagRows) × (formOf (row .kind) ≡ Form.Leaf) ⌝ }
     ensures { λ r. ⌜ RowsPut (now (out .entry)) at (leafPart table (now (bytes .entry)) row n from) (now (out .exit)) r ⌝ }
 {
     let kind = row.kind;

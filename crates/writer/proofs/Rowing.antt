@@ -1,0 +1,276 @@
+-- Writing rows: what the code's loops and calls write is what the definitions take.
+use mathlib.Core.Path.{_≡_, refl, sym, ap, _∙_}
+use mathlib.Core.Bool.{Bool, true, false}
+use mathlib.Core.List.{List, [], _∷_, _++_, append-nil}
+use mathlib.Core.Option.{Option, some}
+use mathlib.Core.Option as option
+use Prim.Native.Nat.{ℕ, _+_, _-_, _≤_, _<_}
+use native.Mathlib.Omega.{arith}
+use lib.Dec.{eqb}
+use lib.ListN.{length, getD}
+use Rattle.der.specs.Octets.{tlv}
+use Rattle.pkcs12.specs.Numbers.{fileBytes, bagRows, attributeRows, safeRows, sequenceTag, setTag}
+use Rattle.pkcs12.specs.Identifiers.{dataType}
+use Rattle.pkcs12.specs.Syntax.{Leaf, Set, none, bag, nest, plain, encrypted, kindOfLeaf}
+use Rattle.pkcs12.specs.Encode.{sequence, attributeBytes, attributesBytes, setBytes, leafBytes, bagBytes, bagsBytes, dataBytes, safeBytes, safesBytes}
+use Rattle.pkcs12.specs.Checks.{both}
+use Rattle.pkcs12.specs.Values.{sameEnclosing}
+use Rattle.pkcs12.specs.Table.{noAttribute, noBag, noSafe, sealedIn, contentIn}
+use Rattle.pkcs12.specs.declared.BagKind.{BagKind}
+use Rattle.pkcs12.specs.declared.BagKind.the-variants.{Nested}
+use Rattle.pkcs12.specs.declared.SafeKind.{SafeKind}
+use Rattle.pkcs12.specs.declared.SafeKind.the-variants.{Plain, Encrypted}
+use Rattle.pkcs12.specs.declared.SafeRow.{SafeRow}
+use Rattle.pkcs12.specs.declared.BagRow.{BagRow}
+use Rattle.pkcs12.specs.declared.Enclosing.{Enclosing}
+use Rattle.pkcs12.specs.declared.Enclosing.the-variants.{Bag}
+use Rattle.pkcs12.specs.declared.Table.{Table}
+use Rattle.sizes.specs.Bodies.{contentOf, attributeIn}
+use Rattle.sizes.specs.Picked.{attributeEnd, bagEnd, safeEnd, attributeValue, bagValueAt, safeValueAt, formOf, ownAt, SetPicked, setAt, Picked, OnePicked, bagAt, bagsAt, SafePicked, safeAt, safesAt}
+use Rattle.sizes.specs.Sizes.{capped, elementSize, bagSize, dataSize, setBody, setSized, takenSized}
+use Rattle.sizes.specs.declared.rows.Owned.{Owned}
+use Rattle.sizes.specs.declared.rows.Taken.{Taken}
+use Rattle.sizes.specs.declared.rows.Form.{Form}
+use Rattle.sizes.proofs.Capped.{sized-told, sized-element}
+use Rattle.sizes.proofs.Loops.{fewer-bound, OwnSeen, OwnAll, own-start, own-ends, own-leaves, own-turn, BagsSeen, BagsAll, bags-start, bags-end, bags-leave, bags-not, bags-turn, SafesSeen, SafesAll, safes-start, safes-end, safes-not, safes-turn}
+use Rattle.sizes.proofs.Measures.{form-none, form-nested, LeafIs, form-leaf, leaf-some, nested-some}
+use Rattle.sizes.proofs.Picks.{bag-ahead, bag-empty, bag-leaf, bag-too-deep, bag-nest-less}
+use Rattle.writer.specs.Put.{Put, header, bagHead, dataHead}
+use Rattle.writer.specs.Rows.{SetPut, Part, RowsPut, noPart, leafPart, onePart, bagsPart, safePart, isEmptySafe}
+use Rattle.writer.specs.declared.rows.SetEnd.{SetEnd}
+use Rattle.writer.specs.declared.rows.RowsEnd.{RowsEnd}
+use Rattle.writer.proofs.Puts.{put-nothing, put-as, put-then}
+use Rattle.writer.proofs.Elements.{put-sized, bag-put}
+
+-- ---- a set
+
+-- the loop of `set`, from the place p of the buffer m on: the attributes seen so far are written
+pub record SetPutting (t : Table) (s : List ℕ) (n from end : ℕ) (m : List ℕ) (p : ℕ) (e : List ℕ) (r next : ℕ) : Type 0 where
+  pub seen-bytes : List ℕ
+  pub seen : OwnSeen t s n from next seen-bytes
+  pub put : Put m p seen-bytes e r
+  pub end-is : end ≡ attributeEnd t
+  pub within : end ≤ attributeRows
+  pub long : length e ≡ length m
+
+module _ (t : Table) (s : List ℕ) (h : Bool) (n from : ℕ) where
+  pub set-nothing : (d : List ℕ) (at : ℕ) → h ≡ false → SetPut d at (setAt t s h n from) d (record { at = at; next = from })
+  unfolding setAt setBytes
+  set-nothing d at e = rw e record { put = put-nothing d at; next = refl }
+
+  pub set-begins : (end : ℕ) (m : List ℕ) (p : ℕ) → end ≡ attributeEnd t → SetPutting t s n from end m p m p from
+  set-begins end m p e =
+      record { seen-bytes = []; seen = own-start t s n from; put = put-nothing m p; end-is = e; within = omega (arith, e, fewer-bound (t .«attribute_count») attributeRows); long = refl }
+
+  module _ (end : ℕ) (m : List ℕ) (p : ℕ) (e : List ℕ) (r next : ℕ) (g : SetPutting t s n from end m p e r next) where
+    pub set-more : (f : List ℕ) (q : ℕ) → length f ≡ length e → next < end → attributeValue t s next .bag ≡ n
+        → Put e r (attributeBytes (attributeIn s (getD (t .attributes) next noAttribute))) f q → SetPutting t s n from end m p f q (next + 1)
+    set-more f q c k o w =
+        let x : List ℕ = attributeBytes (attributeIn s (getD (t .attributes) next noAttribute)) in
+        record {
+          seen-bytes = g .seen-bytes ++ x;
+          seen = own-turn t s n from next (g .seen-bytes) (g .seen) (rw (g .end-is) at k) o;
+          put = put-then m p (g .seen-bytes) e r x f q (g .put) w;
+          end-is = g .end-is;
+          within = g .within;
+          long = c ∙ g .long;
+        }
+
+    -- the header before them has their size
+    module _ (d : List ℕ) (at body : ℕ) (y : h ≡ true) (z : body ≡ capped (length (setBody (setAt t s h n from .set)))) (w : body ≤ fileBytes → Put d at (header setTag body) m p) where
+      whole : OwnAll t s n from next (g .seen-bytes) → SetPut d at (setAt t s h n from) e (record { at = r; next = next })
+      unfolding setAt setBytes
+      whole a =
+          let b : body ≡ capped (length (g .seen-bytes)) = (rw y at z) ∙ ap (λ (x : List ℕ). capped (length x)) (a .0) in
+          rw y record {
+            put = put-as d at (tlv setTag (g .seen-bytes)) _ e r (ap (tlv setTag) (sym (a .0))) (put-sized d at setTag body m p (g .seen-bytes) e r w b (g .put));
+            next = sym (a .1);
+          }
+
+      pub set-all : end ≤ next → SetPut d at (setAt t s h n from) e (record { at = r; next = next })
+      set-all k = whole (own-ends t s n from next (g .seen-bytes) (g .seen) (rw (g .end-is) at k))
+
+      pub set-leave : next < end → (attributeValue t s next .bag ≡ n → ⊥) → SetPut d at (setAt t s h n from) e (record { at = r; next = next })
+      set-leave k o = whole (own-leaves t s n from next (g .seen-bytes) (g .seen) (rw (g .end-is) at k) o)
+
+-- ---- one bag
+
+-- the size of the attributes of a set that was measured, and that of the set
+pub owned-body : (p : SetPicked) (owned : Owned) → owned ≡ setSized p → owned .body ≡ capped (length (setBody (p .set)))
+unfolding setSized
+owned-body p owned e = ap (λ (x : Owned). x .body) e
+
+owned-size : (p : SetPicked) (owned : Owned) → owned ≡ setSized p → owned .size ≡ capped (length (setBytes (p .set)))
+unfolding setSized
+owned-size p owned e = ap (λ (x : Owned). x .size) e
+
+-- what the code learnt of a kind
+pub leaf-form : (f : Form) (k : BagKind) → f ≡ formOf k → f ≡ Form.Leaf → formOf k ≡ Form.Leaf
+leaf-form f k o h = sym o ∙ h
+
+module _ (t : Table) (s : List ℕ) (row : BagRow) (n from : ℕ) where
+  pub leaf-put : (content : ℕ) (owned : Owned) (d : List ℕ) (at : ℕ) (m : List ℕ) (p : ℕ) (m2 : List ℕ) (p2 : ℕ) (e : List ℕ) (r : SetEnd)
+      → formOf (row .kind) ≡ Form.Leaf → content ≡ capped (length (contentOf s (row .kind) (row .parts))) → owned ≡ setSized (setAt t s (row .«has_set») n from)
+      → (bagSize content (owned .size) ≤ fileBytes → Put d at (bagHead (row .kind) content (owned .size)) m p)
+      → Put m p (contentOf s (row .kind) (row .parts)) m2 p2 → SetPut m2 p2 (setAt t s (row .«has_set») n from) e r
+      → RowsPut d at (leafPart t s row n from) e (record { at = r .at; bag = n + 1; attribute = r .next })
+  unfolding leafPart
+  leaf-put content owned d at m p m2 p2 e r h c w f g v =
+      let set : SetPicked = setAt t s (row .«has_set») n from in
+      let body : List ℕ = contentOf s (row .kind) (row .parts) in
+      record {
+        put = bag-put (row .kind) body (set .set) content (owned .size) d at m p m2 p2 e (r .at) (leaf-some (formOf (row .kind)) (row .kind) refl h)
+            (sized-told content body c) (sized-told (owned .size) (setBytes (set .set)) (owned-size set owned w)) f g (v .put);
+        bag = refl;
+        attribute = v .next;
+      }
+
+module _ (t : Table) (s : List ℕ) (l k n from : ℕ) (row : BagRow) (e : row ≡ getD (t .bags) n noBag) (f : Form) (o : f ≡ formOf (row .kind)) where
+  content-is : bagValueAt t s n .content ≡ contentIn s (row .kind) (row .parts)
+  content-is = ap (λ (r : BagRow). contentIn s (r .kind) (r .parts)) (sym e)
+
+  set-is : (m : ℕ) → setAt t s (bagValueAt t s n .has-set) n m ≡ setAt t s (row .«has_set») n m
+  set-is m = ap (λ (r : BagRow). setAt t s (r .«has_set») n m) (sym e)
+
+  pub bag-nothing : (d : List ℕ) (at : ℕ) → f ≡ Form.None → RowsPut d at (onePart (bagAt t s l k n from) n from) d (record { at = at; bag = n; attribute = from })
+  unfolding onePart
+  bag-nothing d at h =
+      rw (bag-empty t s l k n from (content-is ∙ form-none s (row .kind) (row .parts) (sym o ∙ h))) record { put = put-nothing d at; bag = refl; attribute = refl }
+
+  pub bag-of-leaf : (d : List ℕ) (at : ℕ) (z : List ℕ) (r : RowsEnd) → f ≡ Form.Leaf → RowsPut d at (leafPart t s row n from) z r
+      → RowsPut d at (onePart (bagAt t s l k n from) n from) z r
+  unfolding onePart leafPart bagsBytes
+  bag-of-leaf d at z r h w =
+      let q = form-leaf s (row .kind) (row .parts) (sym o ∙ h) in
+      let set : SetPicked = setAt t s (row .«has_set») n from in
+      let found : bagAt t s l k n from ≡ some (record { front = bag (q .value) (set .set); bag = n + 1; attribute = set .next }) =
+      bag-leaf t s l k n from (q .value) (content-is ∙ q .shows)
+      ∙ ap {B = Option OnePicked} (λ (w : SetPicked). some (record { front = bag (q .value) (w .set); bag = n + 1; attribute = w .next })) (set-is from) in
+      let whole : bagsBytes (bag (q .value) (set .set) none) ≡ bagBytes (row .kind) (contentOf s (row .kind) (row .parts)) (set .set) =
+      append-nil (bagBytes (kindOfLeaf (q .value)) (leafBytes (q .value)) (set .set)) ∙ rw (q .kind, q .bytes) refl in
+      rw (found, whole) w
+
+  module _ (h : f ≡ Form.Nested) where
+    pub bag-deep : (d : List ℕ) (at : ℕ) → l ≡ 0 → RowsPut d at (onePart (bagAt t s l k n from) n from) d (record { at = at; bag = n; attribute = from })
+    unfolding onePart
+    bag-deep d at z =
+        rw (bag-too-deep t s l k n from (content-is ∙ form-nested s (row .kind) (row .parts) (sym o ∙ h) .0) z) record { put = put-nothing d at; bag = refl; attribute = refl }
+
+    module _ (inner : Taken) (i : inner ≡ takenSized (bagsAt t s (l - 1) k (Bag n) (n + 1) from)) where
+      inner-attribute : inner .attribute ≡ bagsAt t s (l - 1) k (Bag n) (n + 1) from .attribute
+      unfolding takenSized
+      inner-attribute = ap (λ (x : Taken). x .attribute) i
+
+      inner-size : inner .size ≡ capped (length (bagsBytes (bagsAt t s (l - 1) k (Bag n) (n + 1) from .bags)))
+      unfolding takenSized
+      inner-size = ap (λ (x : Taken). x .size) i
+
+      module _ (owned : Owned) (w : owned ≡ setSized (setAt t s (row .«has_set») n (inner .attribute)))
+          (m3 : List ℕ) (p3 : ℕ) (m4 : List ℕ) (all : RowsEnd) (a : RowsPut m3 p3 (bagsPart (bagsAt t s (l - 1) k (Bag n) (n + 1) from)) m4 all) where
+        next-is : inner .attribute ≡ all .attribute
+        unfolding bagsPart
+        next-is = inner-attribute ∙ sym (a .attribute)
+
+        -- what is asked of the set behind the bags
+        pub nest-body : owned .body ≡ capped (length (setBody (setAt t s (row .«has_set») n (all .attribute) .set)))
+        nest-body = rw next-is at (owned-body (setAt t s (row .«has_set») n (inner .attribute)) owned w)
+
+        pub nest-put : (content : ℕ) (d : List ℕ) (at : ℕ) (m : List ℕ) (p : ℕ) (z : List ℕ) (r : SetEnd) → (l ≡ 0 → ⊥) → content ≡ capped (elementSize (inner .size))
+            → (bagSize content (owned .size) ≤ fileBytes → Put d at (bagHead (row .kind) content (owned .size)) m p)
+            → (inner .size ≤ fileBytes → Put m p (header sequenceTag (inner .size)) m3 p3) → SetPut m4 (all .at) (setAt t s (row .«has_set») n (all .attribute)) z r
+            → RowsPut d at (onePart (bagAt t s l k n from) n from) z (record { at = r .at; bag = all .bag; attribute = r .next })
+        unfolding onePart bagsPart bagsBytes
+        nest-put content d at m p z r y c u v b =
+            let q = form-nested s (row .kind) (row .parts) (sym o ∙ h) in
+            let picked : Picked = bagsAt t s (l - 1) k (Bag n) (n + 1) from in
+            let set : SetPicked = setAt t s (row .«has_set») n (picked .attribute) in
+            let same : setAt t s (row .«has_set») n (all .attribute) ≡ set = ap (λ (x : ℕ). setAt t s (row .«has_set») n x) (a .attribute) in
+            let own : owned ≡ setSized set = w ∙ ap (λ (x : ℕ). setSized (setAt t s (row .«has_set») n x)) inner-attribute in
+            let body : List ℕ = sequence (bagsBytes (picked .bags)) in
+            let found : bagAt t s l k n from ≡ some (record { front = nest (picked .bags) (set .set); bag = picked .bag; attribute = set .next }) =
+            bag-nest-less t s l k n from (content-is ∙ q .0) y
+            ∙ ap {B = Option OnePicked} (λ (w : SetPicked). some (record { front = nest (picked .bags) (w .set); bag = picked .bag; attribute = w .next })) (set-is (picked .attribute)) in
+            let value : Put m p body m4 (all .at) = put-sized m p sequenceTag (inner .size) m3 p3 (bagsBytes (picked .bags)) m4 (all .at) v inner-size (a .put) in
+            let head : bagSize content (owned .size) ≤ fileBytes → Put d at (bagHead Nested content (owned .size)) m p = rw (q .1) at u in
+            let behind : SetPut m4 (all .at) set z r = rw same at b in
+            let whole : Put d at (bagBytes Nested body (set .set)) z (r .at) =
+            bag-put Nested body (set .set) content (owned .size) d at m p m4 (all .at) z (r .at) nested-some
+            (sized-element content (inner .size) sequenceTag (bagsBytes (picked .bags)) c (sized-told (inner .size) (bagsBytes (picked .bags)) inner-size))
+            (sized-told (owned .size) (setBytes (set .set)) (owned-size set owned own)) head value (behind .put) in
+            rw found record {
+              put = put-as d at (bagBytes Nested body (set .set)) _ z (r .at) (sym (append-nil (bagBytes Nested body (set .set)))) whole;
+              bag = a .bag;
+              attribute = behind .next;
+            }
+
+-- ---- bags side by side
+
+-- the loop of `bags`, from the place p of the buffer m on
+pub record BagsPutting (t : Table) (s : List ℕ) (l k : ℕ) (e : Enclosing) (first from end : ℕ) (m : List ℕ) (p : ℕ) (z : List ℕ) (r : RowsEnd) : Type 0 where
+  pub seen-bytes : List ℕ
+  pub seen : BagsSeen t s l k e first from (r .bag) (r .attribute) seen-bytes
+  pub put : Put m p seen-bytes z (r .at)
+  pub end-is : end ≡ bagEnd t
+  pub within : end ≤ bagRows
+  pub long : length z ≡ length m
+
+-- what one row gave, if it was a bag
+abbrev OneGave : List ℕ → ℕ → Option OnePicked → ℕ → ℕ → List ℕ → RowsEnd → Type 0
+OneGave d at option.none n m z r = (Put d at [] z (r .at)) × (r .bag ≡ n) × (r .attribute ≡ m)
+OneGave d at (some p) n m z r = (Put d at (bagsBytes (p .front none)) z (r .at)) × (r .bag ≡ p .bag) × (r .attribute ≡ p .attribute)
+
+one-gave : (d : List ℕ) (at : ℕ) (o : Option OnePicked) (n m : ℕ) (z : List ℕ) (r : RowsEnd) → RowsPut d at (onePart o n m) z r → OneGave d at o n m z r
+unfolding onePart
+one-gave d at option.none n m z r w = (w .put, w .bag, w .attribute)
+one-gave d at (some p) n m z r w = (w .put, w .bag, w .attribute)
+
+module _ (t : Table) (s : List ℕ) (l k : ℕ) (e : Enclosing) (first from : ℕ) where
+  pub bags-begin : (end : ℕ) (m : List ℕ) (p : ℕ) → end ≡ bagEnd t → BagsPutting t s l k e first from end m p m (record { at = p; bag = first; attribute = from })
+  bags-begin end m p h =
+      record { seen-bytes = []; seen = bags-start t s l k e first from; put = put-nothing m p; end-is = h; within = omega (arith, h, fewer-bound (t .«bag_count») bagRows); long = refl }
+
+  module _ (end : ℕ) (m : List ℕ) (p : ℕ) (z : List ℕ) (r : RowsEnd) (g : BagsPutting t s l k e first from end m p z r) where
+    all-put : (y : List ℕ) (x : RowsEnd) → x .bag ≡ r .bag → x .attribute ≡ r .attribute → Put m p (g .seen-bytes) y (x .at)
+        → BagsAll t s l k e first from (r .bag) (r .attribute) (g .seen-bytes) → RowsPut m p (bagsPart (bagsAt t s l k e first from)) y x
+    unfolding bagsPart
+    all-put y x u v w a = rw (a .bytes, a .bag, a .attribute) record { put = w; bag = u; attribute = v }
+
+    pub bags-done : end ≤ r .bag → RowsPut m p (bagsPart (bagsAt t s l k e first from)) z r
+    bags-done h = all-put z r refl refl (g .put) (bags-end t s l k e first from (r .bag) (r .attribute) (g .seen-bytes) (g .seen) (rw (g .end-is) at h))
+
+    module _ (h : r .bag < end) (u : Bool) (b : u ≡ both (eqb (bagValueAt t s (r .bag) .safe) k) (sameEnclosing (bagValueAt t s (r .bag) .enclosing) e)) where
+      pub bags-other-place : u ≡ false → RowsPut m p (bagsPart (bagsAt t s l k e first from)) z r
+      bags-other-place y =
+          all-put z r refl refl (g .put) (bags-leave t s l k e first from (r .bag) (r .attribute) (g .seen-bytes) (g .seen) (rw (g .end-is) at h) (sym b ∙ y))
+
+      module _ (y : u ≡ true) (f : List ℕ) (x : RowsEnd) (w : RowsPut z (r .at) (onePart (bagAt t s l k (r .bag) (r .attribute)) (r .bag) (r .attribute)) f x) where
+        gave : (o : Option OnePicked) → bagAt t s l k (r .bag) (r .attribute) ≡ o → OneGave z (r .at) o (r .bag) (r .attribute) f x
+        gave o q = one-gave z (r .at) o (r .bag) (r .attribute) f x (rw q at w)
+
+        -- the row was no bag
+        pub bags-no-bag : x .bag ≤ r .bag → RowsPut m p (bagsPart (bagsAt t s l k e first from)) f x
+        bags-no-bag v = go (bagAt t s l k (r .bag) (r .attribute)) refl
+          where
+            go : (o : Option OnePicked) → bagAt t s l k (r .bag) (r .attribute) ≡ o → RowsPut m p (bagsPart (bagsAt t s l k e first from)) f x
+            go option.none q =
+                let a = gave option.none q in
+                all-put f x (a .1) (a .2) (put-as m p (g .seen-bytes ++ []) (g .seen-bytes) f (x .at) (append-nil (g .seen-bytes)) (put-then m p (g .seen-bytes) z (r .at) [] f (x .at) (g .put) (a .0)))
+                (bags-not t s l k e first from (r .bag) (r .attribute) (g .seen-bytes) (g .seen) (rw (g .end-is) at h) (sym b ∙ y) q)
+            go (some j) q = absurd (omega (arith, v, bag-ahead t s l k (r .bag) (r .attribute) j q, gave (some j) q .1))
+
+        -- the row was a bag
+        pub bags-one-more : length f ≡ length z → r .bag < x .bag → BagsPutting t s l k e first from end m p f x
+        bags-one-more c v = go (bagAt t s l k (r .bag) (r .attribute)) refl
+          where
+            go : (o : Option OnePicked) → bagAt t s l k (r .bag) (r .attribute) ≡ o → BagsPutting t s l k e first from end m p f x
+            go option.none q = absurd (omega (arith, v, gave option.none q .1))
+            go (some j) q =
+                let a = gave (some j) q in
+                record {
+                  seen-bytes = g .seen-bytes ++ bagsBytes (j .front none);
+                  seen = rw (a .1, a .2) (bags-turn t s l k e first from (r .bag) (r .attribute) (g .seen-bytes) (g .seen) (rw (g .end-is) at h) (sym b ∙ y) j q);
+                  put = put-then m p (g .seen-bytes) z (r .at) (bagsBytes (j .front none)) f (x .at) (g .put) (a .0);
+                  end-is = g .end-is;
+                  within = g .within;
+                  long = c ∙ g .long;
+                }

@@ -1,0 +1,23 @@
+-- A byte is stored where there is room.
+use borrow.Author.Needs.{needs}
+use Rattle.writer.proofs.Puts.{byte-past, byte-put}
+use Rattle.writer.proofs.out.byte.Statement.{statement}
+use Rattle.writer.proofs.out.byte.Tie as tie
+
+returns : tie.Need-returns
+returns c = search byte-past
+
+slice-write-out : tie.Need-slice-write-out
+slice-write-out c = search needs
+
+add-result : tie.Need-add-result
+add-result c = search needs
+
+same-length : tie.Need-same-length
+same-length c = search needs
+
+returns-2 : tie.Need-returns-2
+returns-2 c = search needs
+
+pub byte-spec : {M : Type 1} → statement M
+byte-spec = tie.close (tie.spec returns slice-write-out add-result same-length returns-2)

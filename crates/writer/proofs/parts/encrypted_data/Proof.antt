@@ -1,0 +1,28 @@
+-- The parts behind the header, which has their size.
+use Rattle.sizes.specs.Bodies.{encryptedDataBody}
+use Rattle.writer.proofs.Puts.{put-then}
+use Rattle.writer.proofs.Elements.{put-sized}
+use borrow.Author.Needs.{needs}
+use Rattle.writer.proofs.parts.encrypted_data.Statement.{statement}
+use Rattle.writer.proofs.parts.encrypted_data.Tie as tie
+
+header-requires : tie.Need-header-requires
+header-requires c κs = search needs
+
+integer-requires : tie.Need-integer-requires
+integer-requires c κs = search needs
+
+encrypted-info-requires : tie.Need-encrypted-info-requires
+encrypted-info-requires c κs = search needs
+
+same-length : tie.Need-same-length
+same-length c = search needs
+
+returns : tie.Need-returns
+unfolding encryptedDataBody
+returns c = put-sized _ _ _ _ _ _ _ _ _ (c .before .before .before .before .before .before .before .before .before .before .header .ensures) (c .before .before .before .before .before .before .before .before .before .before .before .before .before .before .pre) (put-then _ _ _ _ _ _ _ _ (c .before .before .before .before .before .before .integer .ensures) (c .before .before .encrypted-info .ensures))
+
+pub encrypted-data-spec : {M : Type 1} → statement M
+encrypted-data-spec =
+    tie.close
+    (tie.spec header-requires integer-requires encrypted-info-requires same-length returns)

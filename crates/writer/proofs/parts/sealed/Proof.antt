@@ -1,0 +1,38 @@
+-- The parts behind the header, which has their size.
+use Rattle.pkcs12.specs.Encode.{sealedBytes}
+use Rattle.sizes.specs.Bodies.{sealedBody}
+use Rattle.writer.proofs.Puts.{put-then}
+use Rattle.writer.proofs.Elements.{put-sized}
+use borrow.Author.Needs.{needs}
+use Rattle.writer.proofs.parts.sealed.Statement.{statement}
+use Rattle.writer.proofs.parts.sealed.Tie as tie
+
+sealed-requires : tie.Need-sealed-requires
+sealed-requires c κs = search needs
+
+header-requires : tie.Need-header-requires
+header-requires c κs = search needs
+
+algorithm-requires : tie.Need-algorithm-requires
+algorithm-requires c κs = search needs
+
+named-requires : tie.Need-named-requires
+named-requires c κs = search needs
+
+same-length : tie.Need-same-length
+same-length c = search needs
+
+returns : tie.Need-returns
+unfolding sealedBytes sealedBody
+returns c = put-sized _ _ _ _ _ _ _ _ _ (c .before .before .before .before .before .before .before .before .before .before .header .ensures) (c .before .before .before .before .before .before .before .before .before .before .before .before .sealed .ensures) (put-then _ _ _ _ _ _ _ _ (c .before .before .before .before .before .before .algorithm .ensures) (c .before .before .named .ensures))
+
+pub sealed-spec : {M : Type 1} → statement M
+sealed-spec =
+    tie.close
+    (tie.spec
+    sealed-requires
+    header-requires
+    algorithm-requires
+    named-requires
+    same-length
+    returns)

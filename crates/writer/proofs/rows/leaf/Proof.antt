@@ -1,0 +1,42 @@
+-- The head, the content and the set, one behind another.
+use Rattle.writer.proofs.Rowing.{owned-body, leaf-put}
+use borrow.Author.Needs.{needs}
+use Rattle.writer.proofs.rows.leaf.Statement.{statement}
+use Rattle.writer.proofs.rows.leaf.Tie as tie
+
+add-next : tie.Need-add-next
+add-next c = search needs
+
+content-requires : tie.Need-content-requires
+content-requires c κs = search needs
+
+set-requires : tie.Need-set-requires
+set-requires c κs = search needs
+
+bag-head-requires : tie.Need-bag-head-requires
+bag-head-requires c κs = search needs
+
+content-requires-2 : tie.Need-content-requires-2
+content-requires-2 c κs = search needs
+
+set-requires-2 : tie.Need-set-requires-2
+set-requires-2 c κs = owned-body _ _ (c .before .before .before .before .before .before .before .before .before .set .ensures)
+
+same-length : tie.Need-same-length
+same-length c = search needs
+
+returns : tie.Need-returns
+returns c = leaf-put _ _ _ _ _ _ _ _ _ _ _ _ _ _ _ (c .before .before .before .before .before .before .before .before .before .before .before .before .before .before .before .before .before .pre .1) (c .before .before .before .before .before .before .before .before .before .before .before .before .before .content .ensures) (c .before .before .before .before .before .before .before .before .before .before .before .before .set .ensures) (c .before .before .before .before .before .before .before .before .before .before .bag-head .ensures) (c .before .before .before .before .before .before .content2 .ensures) (c .before .before .set2 .ensures)
+
+pub leaf-spec : {M : Type 1} → statement M
+leaf-spec =
+    tie.close
+    (tie.spec
+    add-next
+    content-requires
+    set-requires
+    bag-head-requires
+    content-requires-2
+    set-requires-2
+    same-length
+    returns)
