@@ -1,31 +1,37 @@
--- What is proved of reading a file, stated over `readFile`, the definition that the reading call follows. The proofs are elsewhere.
+-- What is proved of reading a file and of writing one, stated over `readFile`, the definition that the reading call follows, and `writeFile`, that of the writing call. The proofs are elsewhere.
 -- `Bytes f`: each number of the list is below 256. `IsAccepted f`: `readFile f` accepts. `Follows f x`: f is what the valid reading x is written
--- as, and has at most 65,535 bytes. `readingFrom f`: the reading that the table of f shows of f.
+-- as, and has at most 65,535 bytes. `readingFrom f`: the reading that the table of f shows of f. `Sound t s`: the table t is sound for the bytes s.
 use mathlib.Core.Logic.{_↔_}
 use mathlib.Core.Path.{_≡_}
 use mathlib.Core.List.{List, [], _++_}
 use mathlib.Core.Option.{some}
 use Prim.Native.Nat.{ℕ, _+_, _*_, _≤_, _<_}
-use lib.ListN.{length}
+use lib.ListN.{length, drop}
 use Rattle.der.specs.Span.{Bytes}
+use Rattle.der.specs.Element.{fault}
 use Rattle.der.specs.Tree.{elementsIn}
 use Rattle.der.specs.declared.Fault.{Fault}
-use Rattle.pkcs12.specs.Numbers.{safeRows, bagRows, attributeRows}
+use Rattle.pkcs12.specs.Numbers.{safeRows, bagRows, attributeRows, fileBytes, notSound}
 use Rattle.pkcs12.specs.Syntax.{Pfx}
+use Rattle.pkcs12.specs.Encode.{encode}
 use Rattle.pkcs12.specs.Valid.{Valid, Opaques}
 use Rattle.pkcs12.specs.Elements.{opaqueCount, elements}
 use Rattle.pkcs12.specs.Values.{Values, rowsOf, treeOf}
-use Rattle.pkcs12.specs.Table.{Rows, tableOf, emptyTable, withSafe, withBag, withAttribute, rowsIn}
+use Rattle.pkcs12.specs.Table.{Rows, tableOf, emptyTable, withSafe, withBag, withAttribute, rowsIn, readingOf}
 use Rattle.pkcs12.specs.Walk.{addSafe, addBag, addAttribute, readFile}
 use Rattle.pkcs12.specs.Laid.{ElementLaid, PfxLaid}
 use Rattle.pkcs12.specs.Accepted.{IsAccepted, Follows, tableFrom, readingFrom, endToEnd, Each}
 use Rattle.pkcs12.specs.Sound.{Sound}
+use Rattle.pkcs12.specs.Written.{fileOf, success, writeFile}
 use Rattle.pkcs12.specs.declared.Range.{Range}
 use Rattle.pkcs12.specs.declared.SafeRow.{SafeRow}
 use Rattle.pkcs12.specs.declared.BagRow.{BagRow}
 use Rattle.pkcs12.specs.declared.AttributeRow.{AttributeRow}
 use Rattle.pkcs12.specs.declared.Mac.{Mac}
+use Rattle.pkcs12.specs.declared.Table.{Table}
 use Rattle.pkcs12.specs.declared.Answer.{Answer}
+use Rattle.pkcs12.specs.declared.Written.{Written}
+use Rattle.pkcs12.specs.declared.Written.the-variants.{Length}
 use Rattle.pkcs12.specs.Bench.{Holds, benchCases}
 use Rattle.pkcs12.specs.Telling.{slipCases, numberCases}
 use Rattle.pkcs12.proofs.Bench as bench
@@ -33,6 +39,8 @@ use Rattle.pkcs12.proofs.Rows as rows
 use Rattle.pkcs12.proofs.Stored as stored
 use Rattle.pkcs12.proofs.Refusals as refusals
 use Rattle.pkcs12.proofs.Corollaries as corollaries
+use Rattle.pkcs12.proofs.Checked as checked
+use Rattle.pkcs12.proofs.Writing as writing
 
 -- ---- exactly the standard
 
@@ -74,6 +82,36 @@ rows-past-counts-empty = corollaries.accepted-table
 -- The table of a refused file is empty.
 pub refused-table-empty : (f : List ℕ) (fault : Fault) → readFile f .answer ≡ Answer.Refused fault → tableFrom f ≡ emptyTable
 refused-table-empty = refusals.refused-empty
+
+-- ---- writing, and reading back what was written
+
+-- A table has a file exactly if it is sound, and that is what its reading is written as.
+pub file-iff-sound : (t : Table) (s : List ℕ) → Bytes s → (f : List ℕ) → fileOf t s ≡ some f ↔ ((o : Sound t s) × (encode (o .reading) ≡ f))
+file-iff-sound = checked.file-iff-sound
+
+-- Writing refuses by 11 exactly if the table is not sound.
+pub refused-iff-unsound : (t : Table) (s room : List ℕ) → Bytes s → writeFile t s room .answer ≡ Written.Refused (fault notSound 0) ↔ (Sound t s → ⊥)
+refused-iff-unsound = writing.answers
+
+-- The file of a sound table, if it isn't too long, is accepted and has the table's reading; and it is the only file with that reading.
+pub written-is-read : (t : Table) (s : List ℕ) → Bytes s → (o : Sound t s) → length (encode (o .reading)) ≤ fileBytes
+    → IsAccepted (encode (o .reading)) × (readingFrom (encode (o .reading)) ≡ readingOf t s)
+written-is-read = writing.written-is-read
+
+pub written-is-only : (t : Table) (s : List ℕ) (o : Sound t s) (g : List ℕ) → Bytes g → IsAccepted g → readingFrom g ≡ readingOf t s → g ≡ encode (o .reading)
+written-is-only = writing.only-file
+
+-- The same of what `writeFile` leaves in the buffer: an accepted file with the table's reading, and behind it what stood there.
+pub written-buffer : (t : Table) (s room : List ℕ) → Bytes s → (n : ℕ) → writeFile t s room .answer ≡ Length n
+    → (f : List ℕ) × (length f ≡ n) × (writeFile t s room .buffer ≡ f ++ drop n room) × IsAccepted f × (readingFrom f ≡ readingOf t s)
+written-buffer = writing.written-file
+
+pub refused-buffer : (t : Table) (s room : List ℕ) (f : Fault) → writeFile t s room .answer ≡ Written.Refused f → writeFile t s room .buffer ≡ room
+refused-buffer = writing.refused-buffer
+
+-- Reading an accepted file and writing its table gives the same file.
+pub read-is-written : (f room : List ℕ) → Bytes f → IsAccepted f → length f ≤ length room → writeFile (tableFrom f) f room ≡ success f room
+read-is-written = writing.rewritten
 
 -- ---- one reading, one file
 

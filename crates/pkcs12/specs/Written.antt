@@ -28,6 +28,11 @@ abbrev pub onFile : {A : Type 0} → Option (List ℕ) → A → (List ℕ → A
 onFile option.none unsound good = unsound
 onFile (some f) unsound good = good f
 
+-- the length written, 0 where nothing is
+abbrev pub lengthOf : Written → ℕ
+lengthOf (Length n) = n
+lengthOf (Written.Refused f) = 0
+
 -- the answer, and the buffer (the scope's room) afterwards
 pub record Outcome : Type 0 where
   pub answer : Written
