@@ -1,12 +1,10 @@
 -- The MAC input: that of an accepted file is its AuthenticatedSafe as it is written, the body of the outer OCTET STRING without its tag and length; a
--- refused file has none. And the part of the bytes that a range names, as the code takes it.
+-- refused file has none.
 use mathlib.Core.Path.{_≡_, sym, _∙_}
 use mathlib.Core.List.{List, []}
 use mathlib.Core.Option.{some}
-use Prim.Native.Nat.{ℕ, _-_, _≤_, _<_}
-use native.Mathlib.Omega.{arith}
-use lib.ListN.{length, take, drop, length-take, drop-of-length-le}
-use lib.Seq.{slice, slice-empty, take-all}
+use Prim.Native.Nat.{ℕ}
+use lib.Seq.{slice-empty}
 use Rattle.der.specs.Span.{Bytes}
 use Rattle.der.specs.declared.Fault.{Fault}
 use Rattle.der.proofs.Spans.{slice-span}
@@ -17,7 +15,6 @@ use Rattle.pkcs12.specs.Walk.{readFile}
 use Rattle.pkcs12.specs.Accepted.{IsAccepted, Follows, tableFrom, readingFrom}
 use Rattle.pkcs12.specs.declared.Answer.{Answer}
 use Rattle.pkcs12.proofs.Theorems.{accepted-iff-follows, table-shows-reading, ranges-within-parents, refused-table-empty}
-use Rattle.reader.proofs.Rules.{part-slice}
 
 -- ---- of a file
 

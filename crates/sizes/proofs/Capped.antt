@@ -1,13 +1,12 @@
 -- Sizes that are told as one byte more than the longest file has if they are any more: sums and elements of them, and the rules that `search`
 -- follows the code's sums by.
 use mathlib.Core.Path.{_≡_, refl, sym, _∙_}
-use mathlib.Core.List.{List, [], _∷_, _++_}
+use mathlib.Core.List.{List, _++_}
 use Prim.Native.Nat.{ℕ, _+_, _≤_, _<_}
 use native.Mathlib.Omega.{arith}
-use lib.Dec.{leb}
 use lib.ListN.{length, length-append}
 use borrow.Author.Tests.{le-leb, lt-leb}
-use Rattle.der.specs.Octets.{lengthOctets, tlv}
+use Rattle.der.specs.Octets.{tlv}
 use Rattle.der.proofs.Choices.{either}
 use Rattle.der.proofs.Octets.{octets-short, octets-one, octets-two, octets-some, length-tlv}
 use Rattle.pkcs12.specs.Numbers.{fileBytes}

@@ -1,6 +1,6 @@
 -- Sizes of an INTEGER, of what a range names, and of what is written by kind.
-use mathlib.Core.Path.{_≡_, refl, sym, ap, _∙_}
-use mathlib.Core.List.{List, []}
+use mathlib.Core.Path.{_≡_, refl, ap, _∙_}
+use mathlib.Core.List.{List}
 use Prim.Native.Nat.{ℕ, _+_, _≤_, _<_}
 use native.Mathlib.Omega.{arith}
 use lib.Dec.{eqb}
@@ -23,10 +23,8 @@ use Rattle.pkcs12.specs.declared.BagKind.the-variants.{Key, ShroudedKey, Certif
 use Rattle.sizes.specs.Bodies.{sealedBody, typedBody, contentOf}
 use Rattle.sizes.specs.Sizes.{capped, elementSize, bagSize, sizedAs, oneOf}
 use Rattle.sizes.specs.declared.rows.Taken.{Taken}
-use Rattle.sizes.specs.declared.rows.One.{One}
 use Rattle.sizes.specs.declared.rows.One.the-variants.{Found}
-use Rattle.sizes.proofs.Capped.{Sized, near-told, element-told, element-is, sized-told, sized-is, near-is, length-element}
-use Rattle.der.proofs.Octets.{octets-short}
+use Rattle.sizes.proofs.Capped.{Sized, near-told, element-told, element-is, sized-told, sized-is, near-is}
 
 module _ (n : ℕ) where
   pub size-1 : n < 128 → 1 ≡ length (integerOctets n)

@@ -2,12 +2,11 @@
 use mathlib.Core.Path.{_≡_, refl, ap, _∙_}
 use mathlib.Core.List.{List, _++_}
 use Prim.Native.Nat.{ℕ, _+_}
-use native.Mathlib.Omega.{arith}
 use lib.ListN.{length, length-append}
 use Rattle.der.specs.Octets.{digitsFrom, digits, lengthOctets, tlv, integerOctets}
 use Rattle.pkcs12.specs.Numbers.{contextTag, pfxVersion}
 use Rattle.pkcs12.specs.Identifiers.{dataType, encryptedType, identifierOf}
-use Rattle.pkcs12.specs.Syntax.{Set, Sealed, plain, encrypted, Pfx}
+use Rattle.pkcs12.specs.Syntax.{Set, Sealed, encrypted, Pfx}
 use Rattle.pkcs12.specs.Encode.{integer, identifier, sequence, octetString, contentInfo, dataBytes, setBytes, bagBytes, safeBytes, safesBytes, macBytes, encode}
 use Rattle.pkcs12.specs.declared.BagKind.{BagKind}
 use Rattle.pkcs12.specs.declared.BagKind.the-variants.{Key, ShroudedKey, Certificate, Crl, Secret, Nested}

@@ -1,13 +1,13 @@
 -- The loops over rows: bytes that were seen so far and bytes to come are together those of all rows; the same for measuring and for writing.
-use mathlib.Core.Path.{_≡_, refl, sym, ap, _∙_}
-use mathlib.Core.Bool.{Bool, true, false}
-use mathlib.Core.List.{List, [], _∷_, _++_, append-assoc, append-nil}
-use mathlib.Core.Option.{Option, some}
+use mathlib.Core.Path.{_≡_, refl, ap, _∙_}
+use mathlib.Core.Bool.{true, false}
+use mathlib.Core.List.{List, [], _++_, append-assoc, append-nil}
+use mathlib.Core.Option.{some}
 use mathlib.Core.Option as option
 use Prim.Native.Nat.{ℕ, _+_, _≤_, _<_}
 use native.Mathlib.Omega.{arith}
 use lib.Dec.{eqb}
-use lib.ListN.{length, getD}
+use lib.ListN.{getD}
 use borrow.Author.Tests.{le-leb, lt-leb}
 use Rattle.der.proofs.Choices.{either}
 use Rattle.pkcs12.specs.Syntax.{none}
@@ -18,7 +18,7 @@ use Rattle.pkcs12.specs.Table.{noAttribute}
 use Rattle.pkcs12.specs.declared.Enclosing.{Enclosing}
 use Rattle.pkcs12.specs.declared.Table.{Table}
 use Rattle.sizes.specs.Bodies.{attributeIn}
-use Rattle.sizes.specs.Picked.{fewer, attributeEnd, bagEnd, safeEnd, attributeValue, bagValueAt, OwnPicked, ownAt, Picked, nothing, before, OnePicked, bagAt, bagsAt, SafePicked, SafesPicked, noSafes, alsoSafe, safeAt, safesAt}
+use Rattle.sizes.specs.Picked.{fewer, attributeEnd, bagEnd, safeEnd, attributeValue, bagValueAt, ownAt, nothing, OnePicked, bagAt, bagsAt, SafePicked, noSafes, safeAt, safesAt}
 use Rattle.sizes.proofs.Picks.{own-past, own-other, own-more, bags-past, bags-other, bags-none, bags-more, front-bytes, safes-past, safes-none, safes-more}
 
 pub fewer-bound : (a b : ℕ) → fewer a b ≤ b

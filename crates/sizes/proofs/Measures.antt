@@ -1,18 +1,18 @@
 -- Measuring rows: what the code's loops and calls give is the size of what the definitions take.
 use mathlib.Core.Path.{_≡_, refl, sym, ap, _∙_}
 use mathlib.Core.Bool.{Bool, true, false, not}
-use mathlib.Core.List.{List, [], _∷_, _++_, append-nil}
+use mathlib.Core.List.{List, [], _++_, append-nil}
 use mathlib.Core.Option.{Option, some}
 use mathlib.Core.Option as option
 use Prim.Native.Nat.{ℕ, _+_, _-_, _≤_, _<_}
 use native.Mathlib.Omega.{arith}
 use lib.Dec.{eqb}
 use lib.ListN.{length, getD}
-use Rattle.pkcs12.specs.Numbers.{bagRows, attributeRows, safeRows, sequenceTag, setTag}
-use Rattle.pkcs12.specs.Syntax.{Leaf, Set, Bags, none, bag, nest, kindOfLeaf}
-use Rattle.pkcs12.specs.Encode.{sequence, attributeBytes, attributesBytes, setBytes, leafBytes, bagBytes, bagsBytes, safeBytes, safesBytes}
+use Rattle.pkcs12.specs.Numbers.{bagRows, attributeRows, sequenceTag, setTag}
+use Rattle.pkcs12.specs.Syntax.{Leaf, Set, none, bag, nest, kindOfLeaf}
+use Rattle.pkcs12.specs.Encode.{sequence, attributeBytes, setBytes, leafBytes, bagBytes, bagsBytes}
 use Rattle.pkcs12.specs.Checks.{both}
-use Rattle.pkcs12.specs.Values.{Content, empty-bag, leaf, nested, sameEnclosing}
+use Rattle.pkcs12.specs.Values.{empty-bag, leaf, nested, sameEnclosing}
 use Rattle.pkcs12.specs.Table.{noAttribute, noBag, contentIn}
 use Rattle.pkcs12.specs.declared.Parts.{Parts}
 use Rattle.pkcs12.specs.declared.BagKind.{BagKind}
@@ -20,11 +20,10 @@ use Rattle.pkcs12.specs.declared.BagKind.the-variants.{Key, ShroudedKey, Certif
 use Rattle.pkcs12.specs.declared.BagRow.{BagRow}
 use Rattle.pkcs12.specs.declared.Enclosing.{Enclosing}
 use Rattle.pkcs12.specs.declared.Enclosing.the-variants.{Bag}
-use Rattle.pkcs12.specs.declared.AttributeRow.{AttributeRow}
 use Rattle.pkcs12.specs.declared.Table.{Table}
 use Rattle.sizes.specs.Bodies.{contentOf, attributeIn, attributeBody}
-use Rattle.sizes.specs.Picked.{attributeEnd, bagEnd, safeEnd, attributeValue, bagValueAt, formOf, ownAt, SetPicked, setAt, Picked, OnePicked, bagAt, bagsAt, SafePicked, safeAt, safesAt}
-use Rattle.sizes.specs.Sizes.{capped, elementSize, bagSize, presentAs, setSized, sizedAs, oneOf, takenSized, oneSized, withSafe, safeSized, safesSized}
+use Rattle.sizes.specs.Picked.{attributeEnd, bagEnd, attributeValue, bagValueAt, formOf, SetPicked, setAt, Picked, OnePicked, bagAt, bagsAt}
+use Rattle.sizes.specs.Sizes.{capped, elementSize, bagSize, presentAs, setSized, sizedAs, oneOf, takenSized, oneSized}
 use Rattle.sizes.specs.declared.rows.Owned.{Owned}
 use Rattle.sizes.specs.declared.rows.Taken.{Taken}
 use Rattle.sizes.specs.declared.rows.Form.{Form}
@@ -33,7 +32,7 @@ use Rattle.sizes.specs.declared.rows.One.the-variants.{Found}
 use Rattle.sizes.proofs.Capped.{Sized, sized-told, sum-is, element-is, sized-element, near-element, near-bag}
 use Rattle.sizes.proofs.Lengths.{length-bag}
 use Rattle.sizes.proofs.Picks.{bag-ahead, bag-empty, bag-leaf, bag-too-deep, bag-nest-less}
-use Rattle.sizes.proofs.Loops.{fewer-bound, OwnSeen, OwnAll, own-start, own-ends, own-leaves, own-turn, BagsSeen, BagsAll, bags-start, bags-end, bags-leave, bags-not, bags-turn, SafesSeen, SafesAll, safes-start, safes-end, safes-not, safes-turn}
+use Rattle.sizes.proofs.Loops.{fewer-bound, OwnSeen, OwnAll, own-start, own-ends, own-leaves, own-turn, BagsSeen, BagsAll, bags-start, bags-end, bags-leave, bags-not, bags-turn}
 
 -- a test that the code makes of a bool's opposite
 pub off : (u : Bool) → not u ≡ true → u ≡ false

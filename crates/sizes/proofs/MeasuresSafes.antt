@@ -8,7 +8,7 @@ use native.Mathlib.Omega.{arith}
 use lib.ListN.{length, getD}
 use Rattle.pkcs12.specs.Numbers.{safeRows}
 use Rattle.pkcs12.specs.Syntax.{plain, encrypted}
-use Rattle.pkcs12.specs.Encode.{dataBytes, bagsBytes, safeBytes}
+use Rattle.pkcs12.specs.Encode.{bagsBytes, safeBytes}
 use Rattle.pkcs12.specs.Values.{SafeValue}
 use Rattle.pkcs12.specs.Table.{noSafe, sealedIn, safeShown}
 use Rattle.pkcs12.specs.declared.SafeKind.{SafeKind}
@@ -17,7 +17,7 @@ use Rattle.pkcs12.specs.declared.SafeRow.{SafeRow}
 use Rattle.pkcs12.specs.declared.Enclosing.{Enclosing}
 use Rattle.pkcs12.specs.declared.Table.{Table}
 use Rattle.sizes.specs.Bodies.{encryptedDataBody}
-use Rattle.sizes.specs.Picked.{safeEnd, safeValueAt, Picked, bagsAt, SafePicked, safeOf, safeAt, safesAt}
+use Rattle.sizes.specs.Picked.{safeEnd, Picked, bagsAt, SafePicked, safeOf, safeAt, safesAt}
 use Rattle.sizes.specs.Sizes.{capped, elementSize, contentInfoSize, dataSize, sizedAs, oneOf, takenSized, withSafe, safeSized, safesSized}
 use Rattle.sizes.specs.declared.rows.Taken.{Taken}
 use Rattle.sizes.specs.declared.rows.Safes.{Safes}

@@ -4,8 +4,8 @@ use Prim.Native.Nat.{ℕ}
 use Rattle.der.specs.Octets.{tlv}
 use Rattle.pkcs12.specs.Numbers.{setTag, contextTag, ciphertextTag, pfxVersion, encryptedVersion}
 use Rattle.pkcs12.specs.Identifiers.{dataType, identifierOf}
-use Rattle.pkcs12.specs.Syntax.{Algorithm, Sealed, Leaf, Attribute, Set, MacData, Pfx}
-use Rattle.pkcs12.specs.Encode.{integer, octetString, identifier, sequence, algorithmBytes, sealedBytes, dataBytes, setBytes, leafBytes, encryptedInfo, safesBytes, iterationsBytes, macBytes}
+use Rattle.pkcs12.specs.Syntax.{Algorithm, Sealed, Attribute, Set, MacData, Pfx}
+use Rattle.pkcs12.specs.Encode.{integer, octetString, identifier, algorithmBytes, sealedBytes, dataBytes, setBytes, leafBytes, encryptedInfo, safesBytes, iterationsBytes, macBytes}
 use Rattle.pkcs12.specs.Values.{onContent}
 use Rattle.pkcs12.specs.Table.{bytesIn, contentIn}
 use Rattle.pkcs12.specs.declared.Parts.{Parts}

@@ -2,33 +2,30 @@
 use mathlib.Core.Path.{_≡_, refl, sym, ap, _∙_}
 use mathlib.Core.Bool.{Bool, true, false, not}
 use mathlib.Core.List.{List, map}
-use mathlib.Core.Option.{Option, some}
+use mathlib.Core.Option.{some}
 use mathlib.Core.Option as option
-use Prim.Native.Nat.{ℕ, _≤_}
-use native.Mathlib.Omega.{arith}
-use lib.Dec.{leb, eqb}
+use Prim.Native.Nat.{ℕ}
+use lib.Dec.{leb}
 use lib.ListN.{length, length-map}
 use borrow.Author.Tests.{not-true, not-false, leb-true, eq-eqb, ne-eqb}
-use Rattle.der.specs.Choice.{if_then_else_}
 use Rattle.pkcs12.specs.Numbers.{safeRows, bagRows, attributeRows}
 use Rattle.pkcs12.specs.Syntax.{Pfx}
 use Rattle.pkcs12.specs.Encode.{safesBytes, encode}
 use Rattle.pkcs12.specs.Checks.{both, countsFit, rowsTest, keepsRules}
 use Rattle.pkcs12.specs.Table.{macShown, rowsIn, readingOf}
-use Rattle.pkcs12.specs.Written.{fileOf, onFile, writtenAs}
+use Rattle.pkcs12.specs.Written.{fileOf}
 use Rattle.pkcs12.specs.declared.SafeRow.{SafeRow}
 use Rattle.pkcs12.specs.declared.BagRow.{BagRow}
 use Rattle.pkcs12.specs.declared.AttributeRow.{AttributeRow}
 use Rattle.pkcs12.specs.declared.Table.{Table}
 use Rattle.sizes.specs.Bodies.{macBody}
-use Rattle.sizes.specs.Picked.{SafesPicked, safesAt}
+use Rattle.sizes.specs.Picked.{safesAt}
 use Rattle.sizes.specs.Sizes.{capped, elementSize, pfxSize, safesSized}
 use Rattle.sizes.specs.declared.rows.Safes.{Safes}
-use Rattle.sizes.proofs.Capped.{Near, near-told, near-then, near-element, near-pfx, sized-told, element-told}
+use Rattle.sizes.proofs.Capped.{near-told, near-then, near-pfx, sized-told, element-told}
 use Rattle.sizes.proofs.Lengths.{length-encode}
 use Rattle.sizes.proofs.Reading.{CountsFit, reading-law}
 use Rattle.sound.specs.Measured.{measured}
-use Rattle.sound.specs.declared.Measured.{Measured}
 use Rattle.sound.specs.declared.Measured.the-variants.{Unsound, Size}
 
 -- the arrays of a table, as the code is told of them

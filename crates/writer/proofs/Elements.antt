@@ -1,11 +1,11 @@
 -- Elements of a file, each behind its header: what stands before the content of a bag, of a ContentInfo and of data, and the whole.
 use mathlib.Core.Path.{_≡_, refl, sym, ap, _∙_}
-use mathlib.Core.List.{List, [], _∷_, _++_, append-assoc}
-use Prim.Native.Nat.{ℕ, _+_, _≤_, _<_}
+use mathlib.Core.List.{List, _++_, append-assoc}
+use Prim.Native.Nat.{ℕ, _+_, _≤_}
 use native.Mathlib.Omega.{arith}
-use lib.ListN.{length, drop, length-append}
-use lib.Seq.{sets, sets-eq}
-use Rattle.der.specs.Octets.{lengthOctets, tlv}
+use lib.ListN.{length, drop}
+use lib.Seq.{sets-eq}
+use Rattle.der.specs.Octets.{tlv}
 use Rattle.der.specs.Numbers.{octetStringTag}
 use Rattle.der.proofs.Octets.{octets-some}
 use Rattle.pkcs12.specs.Numbers.{fileBytes, sequenceTag, contextTag, pfxVersion}
@@ -18,9 +18,9 @@ use Rattle.sizes.specs.Bodies.{contentOf, encryptedDataBody, macBody}
 use Rattle.sizes.specs.Picked.{formOf}
 use Rattle.sizes.specs.Sizes.{capped, elementSize, bagSize, contentInfoSize, dataSize, pfxSize}
 use Rattle.sizes.specs.declared.rows.Form.{Form}
-use Rattle.sizes.proofs.Capped.{Near, Sized, near-cases, near-told, near-is, near-then, near-element, near-data, near-pfx, capped-small, sized-told, sized-element, length-element}
+use Rattle.sizes.proofs.Capped.{Near, Sized, near-cases, near-told, near-is, near-then, near-pfx, capped-small, sized-told, sized-element, length-element}
 use Rattle.sizes.proofs.Lengths.{bag-body-long, length-bag, info-body-long, length-info, length-data, pfx-body-long, data-type-long, encrypted-type-long}
-use Rattle.writer.specs.Put.{Room, Done, Put, header, bagHead, infoHead, dataHead}
+use Rattle.writer.specs.Put.{Put, header, bagHead, infoHead, dataHead}
 use Rattle.writer.proofs.Puts.{put-then, put-as, put-element}
 
 -- the body behind a header whose size was told

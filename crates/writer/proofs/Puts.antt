@@ -1,15 +1,15 @@
 -- The algebra of writing: bytes behind bytes, an element behind its header, and what the leaves do to the buffer.
 use mathlib.Core.Path.{_≡_, refl, sym, ap, _∙_}
-use mathlib.Core.List.{List, [], _∷_, _++_, append-assoc}
-use Prim.Native.Nat.{ℕ, zero, suc, _+_, _-_, _/_, _%_, _≤_, _<_}
+use mathlib.Core.List.{List, [], _∷_, _++_}
+use Prim.Native.Nat.{ℕ, suc, _+_, _-_, _/_, _%_, _≤_, _<_}
 use native.Mathlib.Omega.{arith}
 use lib.ListN.{length, getD, take, set, length-append, length-take}
 use lib.Seq.{sets, length-sets, take-suc, take-all}
-use Rattle.der.specs.Octets.{lengthOctets, tlv, integerOctets}
+use Rattle.der.specs.Octets.{tlv, integerOctets}
 use Rattle.der.proofs.Octets.{octets-short, octets-one, octets-two, tlv-long}
 use Rattle.der.proofs.Integers.{one-octet, two-octets, three-octets, four-octets, five-octets}
 use Rattle.pkcs12.specs.Numbers.{fileBytes}
-use Rattle.sizes.proofs.Capped.{Near, Sized, near-cases}
+use Rattle.sizes.proofs.Capped.{Sized, near-cases}
 use Rattle.writer.specs.Put.{Room, Done, Put, header}
 
 sets-then : (x y d : List ℕ) (at : ℕ) → sets d at (x ++ y) ≡ sets (sets d at x) (at + length x) y

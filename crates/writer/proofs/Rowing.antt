@@ -1,7 +1,7 @@
 -- Writing rows: what the code's loops and calls write is what the definitions take.
 use mathlib.Core.Path.{_≡_, refl, sym, ap, _∙_}
 use mathlib.Core.Bool.{Bool, true, false}
-use mathlib.Core.List.{List, [], _∷_, _++_, append-nil}
+use mathlib.Core.List.{List, [], _++_, append-nil}
 use mathlib.Core.Option.{Option, some}
 use mathlib.Core.Option as option
 use Prim.Native.Nat.{ℕ, _+_, _-_, _≤_, _<_}
@@ -9,34 +9,30 @@ use native.Mathlib.Omega.{arith}
 use lib.Dec.{eqb}
 use lib.ListN.{length, getD}
 use Rattle.der.specs.Octets.{tlv}
-use Rattle.pkcs12.specs.Numbers.{fileBytes, bagRows, attributeRows, safeRows, sequenceTag, setTag}
-use Rattle.pkcs12.specs.Identifiers.{dataType}
-use Rattle.pkcs12.specs.Syntax.{Leaf, Set, none, bag, nest, plain, encrypted, kindOfLeaf}
-use Rattle.pkcs12.specs.Encode.{sequence, attributeBytes, attributesBytes, setBytes, leafBytes, bagBytes, bagsBytes, dataBytes, safeBytes, safesBytes}
+use Rattle.pkcs12.specs.Numbers.{fileBytes, bagRows, attributeRows, sequenceTag, setTag}
+use Rattle.pkcs12.specs.Syntax.{Leaf, none, bag, nest, kindOfLeaf}
+use Rattle.pkcs12.specs.Encode.{sequence, attributeBytes, setBytes, leafBytes, bagBytes, bagsBytes}
 use Rattle.pkcs12.specs.Checks.{both}
 use Rattle.pkcs12.specs.Values.{sameEnclosing}
-use Rattle.pkcs12.specs.Table.{noAttribute, noBag, noSafe, sealedIn, contentIn}
+use Rattle.pkcs12.specs.Table.{noAttribute, noBag, contentIn}
 use Rattle.pkcs12.specs.declared.BagKind.{BagKind}
 use Rattle.pkcs12.specs.declared.BagKind.the-variants.{Nested}
-use Rattle.pkcs12.specs.declared.SafeKind.{SafeKind}
-use Rattle.pkcs12.specs.declared.SafeKind.the-variants.{Plain, Encrypted}
-use Rattle.pkcs12.specs.declared.SafeRow.{SafeRow}
 use Rattle.pkcs12.specs.declared.BagRow.{BagRow}
 use Rattle.pkcs12.specs.declared.Enclosing.{Enclosing}
 use Rattle.pkcs12.specs.declared.Enclosing.the-variants.{Bag}
 use Rattle.pkcs12.specs.declared.Table.{Table}
 use Rattle.sizes.specs.Bodies.{contentOf, attributeIn}
-use Rattle.sizes.specs.Picked.{attributeEnd, bagEnd, safeEnd, attributeValue, bagValueAt, safeValueAt, formOf, ownAt, SetPicked, setAt, Picked, OnePicked, bagAt, bagsAt, SafePicked, safeAt, safesAt}
-use Rattle.sizes.specs.Sizes.{capped, elementSize, bagSize, dataSize, setBody, setSized, takenSized}
+use Rattle.sizes.specs.Picked.{attributeEnd, bagEnd, attributeValue, bagValueAt, formOf, SetPicked, setAt, Picked, OnePicked, bagAt, bagsAt}
+use Rattle.sizes.specs.Sizes.{capped, elementSize, bagSize, setBody, setSized, takenSized}
 use Rattle.sizes.specs.declared.rows.Owned.{Owned}
 use Rattle.sizes.specs.declared.rows.Taken.{Taken}
 use Rattle.sizes.specs.declared.rows.Form.{Form}
 use Rattle.sizes.proofs.Capped.{sized-told, sized-element}
-use Rattle.sizes.proofs.Loops.{fewer-bound, OwnSeen, OwnAll, own-start, own-ends, own-leaves, own-turn, BagsSeen, BagsAll, bags-start, bags-end, bags-leave, bags-not, bags-turn, SafesSeen, SafesAll, safes-start, safes-end, safes-not, safes-turn}
-use Rattle.sizes.proofs.Measures.{form-none, form-nested, LeafIs, form-leaf, leaf-some, nested-some}
+use Rattle.sizes.proofs.Loops.{fewer-bound, OwnSeen, OwnAll, own-start, own-ends, own-leaves, own-turn, BagsSeen, BagsAll, bags-start, bags-end, bags-leave, bags-not, bags-turn}
+use Rattle.sizes.proofs.Measures.{form-none, form-nested, form-leaf, leaf-some, nested-some}
 use Rattle.sizes.proofs.Picks.{bag-ahead, bag-empty, bag-leaf, bag-too-deep, bag-nest-less}
-use Rattle.writer.specs.Put.{Put, header, bagHead, dataHead}
-use Rattle.writer.specs.Rows.{SetPut, Part, RowsPut, noPart, leafPart, onePart, bagsPart, safePart, isEmptySafe}
+use Rattle.writer.specs.Put.{Put, header, bagHead}
+use Rattle.writer.specs.Rows.{SetPut, RowsPut, leafPart, onePart, bagsPart}
 use Rattle.writer.specs.declared.rows.SetEnd.{SetEnd}
 use Rattle.writer.specs.declared.rows.RowsEnd.{RowsEnd}
 use Rattle.writer.proofs.Puts.{put-nothing, put-as, put-then}

@@ -2,15 +2,15 @@
 use mathlib.Core.Path.{_≡_, refl, sym, ap, _∙_}
 use mathlib.Core.Bool.{Bool, true, false}
 use mathlib.Core.List.{List, [], _++_}
-use mathlib.Core.Option.{Option, some}
+use mathlib.Core.Option.{some}
 use mathlib.Core.Option as option
 use Prim.Native.Nat.{ℕ, _+_, _≤_, _<_}
 use native.Mathlib.Omega.{arith}
 use lib.ListN.{length, getD}
 use Rattle.pkcs12.specs.Numbers.{fileBytes, safeRows, sequenceTag, pfxVersion}
 use Rattle.pkcs12.specs.Identifiers.{dataType}
-use Rattle.pkcs12.specs.Syntax.{plain, encrypted}
-use Rattle.pkcs12.specs.Encode.{integer, bagsBytes, dataBytes, safeBytes, safesBytes, macBytes, encode}
+use Rattle.pkcs12.specs.Syntax.{encrypted}
+use Rattle.pkcs12.specs.Encode.{integer, bagsBytes, safeBytes, safesBytes, macBytes, encode}
 use Rattle.pkcs12.specs.Table.{noSafe, sealedIn, macShown}
 use Rattle.pkcs12.specs.declared.SafeKind.{SafeKind}
 use Rattle.pkcs12.specs.declared.SafeKind.the-variants.{Plain, Encrypted}
@@ -18,7 +18,7 @@ use Rattle.pkcs12.specs.declared.SafeRow.{SafeRow}
 use Rattle.pkcs12.specs.declared.Enclosing.{Enclosing}
 use Rattle.pkcs12.specs.declared.Table.{Table}
 use Rattle.sizes.specs.Bodies.{macBody}
-use Rattle.sizes.specs.Picked.{safeEnd, Picked, bagsAt, SafePicked, safeAt, safesAt}
+use Rattle.sizes.specs.Picked.{safeEnd, bagsAt, SafePicked, safeAt, safesAt}
 use Rattle.sizes.specs.Sizes.{capped, dataSize, pfxSize, takenSized, safesSized}
 use Rattle.sizes.specs.declared.rows.Taken.{Taken}
 use Rattle.sizes.specs.declared.rows.Safes.{Safes}

@@ -1,10 +1,9 @@
 -- What the functions that write do to the buffer: bytes x at a place of the buffer d, where there is room for them, and the place behind them.
 use mathlib.Core.Path.{_≡_}
-use mathlib.Core.List.{List, [], _∷_, _++_}
+use mathlib.Core.List.{List, _∷_, _++_}
 use Prim.Native.Nat.{ℕ, _+_, _≤_}
 use lib.ListN.{length}
 use lib.Seq.{sets}
-use Rattle.der.specs.Numbers.{identifierTag}
 use Rattle.der.specs.Octets.{lengthOctets}
 use Rattle.pkcs12.specs.Numbers.{fileBytes, sequenceTag, contextTag}
 use Rattle.pkcs12.specs.Identifiers.{identifierOf}
