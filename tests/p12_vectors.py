@@ -1,6 +1,7 @@
 #!/usr/bin/env python3
-"""Writes crates/vectors/stdin, a frame for each file, and crates/vectors/stdout, the listings that p12_reader.py gives; and
-crates/list/stdin and stdout, M and its listing.
+"""Writes crates/vectors/stdin, a frame for each file, and crates/vectors/stdout, the listings that p12_reader.py gives, each of an
+accepted file with the line that it is written back the same; crates/list/stdin and stdout, M and its listing; and crates/rewrite/stdin
+and stdout, a file of a common tool, twice.
 
     p12_vectors.py                       # writes these files
     p12_vectors.py --check               # says whether they are what the files give
@@ -23,6 +24,7 @@ ROOT = pathlib.Path(__file__).resolve().parent.parent
 FILES = p12_tools.FILES
 SEED, DAMAGED = 1, 200  # as many damaged and as many mended ones
 EACH = 6  # damaged copies of each stored file
+REWRITTEN = "openssl-default"  # the tool's file that is read and written back by itself
 
 
 def keep_sources(documents):
@@ -57,6 +59,24 @@ def kinds():
     yield "of documents and tools, damaged", list(changed(sources + tools))
 
 
+def lines(result):
+    """What `vectors` prints of a file. Reading and writing undo each other, so an accepted one comes back as it was."""
+    refused = isinstance(result, p12_reader.Refusal)
+    return p12_reader.listing(result) + ("" if refused else "written back, the same\n")
+
+
+def stored(frames, listings):
+    """(the path below crates/, its bytes) for each stored file"""
+    m = dict(p12_make.files())["bench_a"]
+    tool = (FILES / (REWRITTEN + ".p12")).read_bytes()
+    yield "vectors/stdin", b"".join(frames)
+    yield "vectors/stdout", "".join(listings).encode()
+    yield "list/stdin", m
+    yield "list/stdout", p12_reader.listing(p12_reader.read(m)).encode()
+    yield "rewrite/stdin", tool
+    yield "rewrite/stdout", tool
+
+
 def main(arguments):
     if arguments[:1] == ["--sources"]:
         keep_sources(arguments[1:])
@@ -67,11 +87,9 @@ def main(arguments):
             result = p12_reader.read(data)
             answers[result.number if isinstance(result, p12_reader.Refusal) else "accepted"] += 1
             frames.append(len(data).to_bytes(4, "big") + data)
-            listings.append(p12_reader.listing(result))
-    m = dict(p12_make.files())["bench_a"]
+            listings.append(lines(result))
     differs = 0
-    for name, data in (("vectors/stdin", b"".join(frames)), ("vectors/stdout", "".join(listings).encode()),
-                       ("list/stdin", m), ("list/stdout", p12_reader.listing(p12_reader.read(m)).encode())):
+    for name, data in stored(frames, listings):
         path = ROOT / "crates" / name
         if arguments == ["--check"]:
             differs += path.read_bytes() != data

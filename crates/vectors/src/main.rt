@@ -1,6 +1,10 @@
-// Lists the files of standard input, one after another. Each stands in a frame: its length in four bytes, high first, then its bytes.
+// Lists the files of standard input, one after another, and says of each that is accepted whether the writer makes the same bytes of its table.
+// Each stands in a frame: its length in four bytes, high first, then its bytes.
 // A frame that is cut, or longer than the buffer, is answered by the line `cut`, and nothing after it is read.
 ghost use Prim.Native.Nat.{_<_};
+use pkcs12::Answer;
+use pkcs12::Table;
+use pkcs12::Written;
 
 const HEADER: usize = 4;
 
@@ -22,19 +26,51 @@ fn number(h: &[u8; HEADER]) -> usize {
     high * 65536 + low
 }
 
+// Whether the first n bytes of what was written are the file.
+fn same_front(out: &[u8], n: usize, file: &[u8]) -> bool {
+    if out.len() < n {
+        return false;
+    }
+    pkcs12::same(&out[0..n], file)
+}
+
+// Writes the file of a table, and says whether it is this one.
+fn write_back(table: Table, file: &[u8], out: &mut [u8]) {
+    let written = writer::write(table, file, out);
+    let same = match written {
+        Written::Length(n) => same_front(out, n, file),
+        Written::Refused(_) => false,
+    };
+    if same {
+        io::write_all(libc::STDOUT_FILENO, b"written back, the same\n");
+    } else {
+        io::write_all(libc::STDOUT_FILENO, b"written back, another\n");
+    }
+}
+
+// Lists a file and, if it is accepted, writes it back.
+fn list(file: &[u8], out: &mut [u8]) {
+    let reading = reader::read(file);
+    listing::show(file.len(), reading);
+    let answer = reading.answer;
+    match answer {
+        Answer::Accepted => write_back(reading.table, file, out),
+        Answer::Refused(_) => {}
+    }
+}
+
 // Fills the part with a file and lists it. Answers whether the file stood there whole.
-fn file(part: &mut [u8]) -> bool {
-    let n = part.len();
+fn file(part: &mut [u8], out: &mut [u8]) -> bool {
     let got = io::read_full(libc::STDIN_FILENO, part);
-    if got < n {
+    if got < part.len() {
         return cut();
     }
-    listing::show(n, reader::read(part));
+    list(part, out);
     true
 }
 
 // One frame, and whether to go on.
-fn frame(buffer: &mut [u8]) -> bool {
+fn frame(buffer: &mut [u8], out: &mut [u8]) -> bool {
     let mut header = [0u8; HEADER];
     let got = io::read_full(libc::STDIN_FILENO, &mut header);
     if got == 0 {
@@ -47,18 +83,19 @@ fn frame(buffer: &mut [u8]) -> bool {
     if buffer.len() < n {
         return cut();
     }
-    file(&mut buffer[..n])
+    file(&mut buffer[0..n], out)
 }
 
 // Nothing says that the input ends, so the frames are counted down, from a number that no input has.
-fn frames(buffer: &mut [u8]) {
+fn frames(buffer: &mut [u8], out: &mut [u8]) {
     let mut left = u64::MAX;
-    while left > 0 && frame(buffer) {
+    while left > 0 && frame(buffer, out) {
         left = left - 1;
     }
 }
 
 fn main() {
     let mut buffer = io::large_buffer();
-    frames(&mut buffer);
+    let mut out = io::large_buffer();
+    frames(&mut buffer, &mut out);
 }

@@ -1,0 +1,2 @@
+-- What the calls for C lean on.
+pub mod Rewriting

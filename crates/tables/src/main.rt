@@ -1,0 +1,401 @@
+// Runs the writer over the tables of standard input, sound ones and others. Each stands in a frame: its length in four bytes, high first, then
+// the size of the room, the counts, the rows, the MAC fields and the bytes. docs/TESTS.md has the frame's parts and the lines.
+// A frame that doesn't hold these is answered by the line `cut`, and nothing after it is read.
+ghost use Prim.Native.Nat.{_<_};
+use der::Fault;
+use pkcs12::ATTRIBUTE_ROWS;
+use pkcs12::AttributeRow;
+use pkcs12::BAG_ROWS;
+use pkcs12::BagKind;
+use pkcs12::BagRow;
+use pkcs12::Enclosing;
+use pkcs12::Mac;
+use pkcs12::Parts;
+use pkcs12::Range;
+use pkcs12::SAFE_ROWS;
+use pkcs12::SafeKind;
+use pkcs12::SafeRow;
+use pkcs12::Table;
+use pkcs12::Written;
+
+// Bytes of a frame's parts: its length, what stands in front of the rows, a row of each kind, the MAC fields.
+const LENGTH: usize = 4;
+
+const HEAD: usize = 13;
+
+const SAFE: usize = 13;
+
+const BAG: usize = 19;
+
+const ATTRIBUTE: usize = 10;
+
+const MAC: usize = 20;
+
+fn text(t: &[u8]) {
+    io::write_all(libc::STDOUT_FILENO, t);
+}
+
+fn decimal(n: usize) {
+    io::print_decimal(libc::STDOUT_FILENO, n as u64);
+}
+
+fn cut() -> bool {
+    text(b"cut\n");
+    false
+}
+
+// The byte at a place, 0 past the end.
+fn byte(s: &[u8], at: usize) -> u8 {
+    if at < s.len() { s[at] } else { 0 }
+}
+
+fn wide(b: u8) -> usize
+    ensures { λ r. ⌜ r < 256 ⌝ }
+{
+    b as usize
+}
+
+// Two bytes as a number, high first.
+fn pair(s: &[u8], at: usize) -> u16
+    requires { ⌜ at < 65536 ⌝ }
+{
+    let high = wide(byte(s, at));
+    let low = wide(byte(s, at + 1));
+    (high * 256 + low) as u16
+}
+
+fn wide_pair(p: u16) -> usize
+    ensures { λ r. ⌜ r < 65536 ⌝ }
+{
+    p as usize
+}
+
+// Four bytes as a number, high first.
+fn four(s: &[u8], at: usize) -> u32
+    requires { ⌜ at < 65000 ⌝ }
+{
+    let high = wide_pair(pair(s, at));
+    let low = wide_pair(pair(s, at + 2));
+    (high * 65536 + low) as u32
+}
+
+// A start and an end.
+fn range(s: &[u8], at: usize) -> Range
+    requires { ⌜ at < 60000 ⌝ }
+{
+    Range {
+        start: pair(s, at),
+        end: pair(s, at + 2),
+    }
+}
+
+fn parts(s: &[u8], at: usize) -> Parts
+    requires { ⌜ at < 50000 ⌝ }
+{
+    Parts {
+        identifier: range(s, at),
+        parameters: range(s, at + 4),
+        value: range(s, at + 8),
+    }
+}
+
+fn safe_kind(b: u8) -> SafeKind {
+    match b {
+        1 => SafeKind::Plain,
+        2 => SafeKind::Encrypted,
+        _ => SafeKind::None,
+    }
+}
+
+fn bag_kind(b: u8) -> BagKind {
+    match b {
+        1 => BagKind::Key,
+        2 => BagKind::ShroudedKey,
+        3 => BagKind::Certificate,
+        4 => BagKind::Crl,
+        5 => BagKind::Secret,
+        6 => BagKind::Nested,
+        _ => BagKind::None,
+    }
+}
+
+// A byte that is 0 where no bag encloses this one, and the bag's number.
+fn enclosing(s: &[u8], at: usize) -> Enclosing
+    requires { ⌜ at < 60000 ⌝ }
+{
+    if byte(s, at) == 0 {
+        return Enclosing::None;
+    }
+    Enclosing::Bag(pair(s, at + 1))
+}
+
+fn safe_row(s: &[u8], at: usize) -> SafeRow
+    requires { ⌜ at < 20000 ⌝ }
+{
+    SafeRow {
+        kind: safe_kind(byte(s, at)),
+        parts: parts(s, at + 1),
+    }
+}
+
+fn bag_row(s: &[u8], at: usize) -> BagRow
+    requires { ⌜ at < 20000 ⌝ }
+{
+    BagRow {
+        kind: bag_kind(byte(s, at)),
+        safe: pair(s, at + 1),
+        enclosing: enclosing(s, at + 3),
+        parts: parts(s, at + 6),
+        has_set: byte(s, at + 18) != 0,
+    }
+}
+
+fn attribute_row(s: &[u8], at: usize) -> AttributeRow
+    requires { ⌜ at < 20000 ⌝ }
+{
+    AttributeRow {
+        bag: pair(s, at),
+        identifier: range(s, at + 2),
+        values: range(s, at + 6),
+    }
+}
+
+fn mac(s: &[u8], at: usize) -> Mac
+    requires { ⌜ at < 20000 ⌝ }
+{
+    Mac {
+        parts: parts(s, at),
+        salt: range(s, at + 12),
+        iterations: four(s, at + 16),
+    }
+}
+
+// How many rows of each kind stand in the frame.
+struct Rows {
+    safes: u8,
+    bags: u8,
+    attributes: u8,
+}
+
+impl Rows {
+    fn of(s: &[u8]) -> Rows {
+        Rows {
+            safes: byte(s, 10),
+            bags: byte(s, 11),
+            attributes: byte(s, 12),
+        }
+    }
+
+    // Whether a table has so many.
+    fn fit(self) -> bool {
+        if SAFE_ROWS < wide(self.safes) {
+            return false;
+        }
+        if BAG_ROWS < wide(self.bags) {
+            return false;
+        }
+        wide(self.attributes) <= ATTRIBUTE_ROWS
+    }
+
+    // Where the bag rows begin, and so on.
+    fn bags_at(self) -> usize
+        ensures { λ r. ⌜ r < 4000 ⌝ }
+    {
+        HEAD + wide(self.safes) * SAFE
+    }
+
+    fn attributes_at(self) -> usize
+        ensures { λ r. ⌜ r < 9000 ⌝ }
+    {
+        self.bags_at() + wide(self.bags) * BAG
+    }
+
+    fn mac_at(self) -> usize
+        ensures { λ r. ⌜ r < 12000 ⌝ }
+    {
+        self.attributes_at() + wide(self.attributes) * ATTRIBUTE
+    }
+
+    fn bytes_at(self) -> usize {
+        self.mac_at() + MAC
+    }
+}
+
+// The table with n more rows, from that place of the frame on.
+fn with_safes(mut table: Table, s: &[u8], start: usize, n: usize) -> Table
+    requires { ⌜ (start < 10000) × (n < 256) ⌝ }
+{
+    let mut i = 0;
+    while i < n {
+        table = table.with_safe(safe_row(s, start + i * SAFE));
+        i = i + 1;
+    }
+    table
+}
+
+fn with_bags(mut table: Table, s: &[u8], start: usize, n: usize) -> Table
+    requires { ⌜ (start < 10000) × (n < 256) ⌝ }
+{
+    let mut i = 0;
+    while i < n {
+        table = table.with_bag(bag_row(s, start + i * BAG));
+        i = i + 1;
+    }
+    table
+}
+
+fn with_attributes(mut table: Table, s: &[u8], start: usize, n: usize) -> Table
+    requires { ⌜ (start < 10000) × (n < 256) ⌝ }
+{
+    let mut i = 0;
+    while i < n {
+        table = table.with_attribute(attribute_row(s, start + i * ATTRIBUTE));
+        i = i + 1;
+    }
+    table
+}
+
+// The frame's table. Its counts are the frame's, whatever they are.
+fn table_of(s: &[u8], rows: Rows) -> Table {
+    let safes = with_safes(Table::empty(), s, HEAD, wide(rows.safes));
+    let bags = with_bags(safes, s, rows.bags_at(), wide(rows.bags));
+    let mut table = with_attributes(bags, s, rows.attributes_at(), wide(rows.attributes));
+    table.safe_count = wide_pair(pair(s, 4));
+    table.bag_count = wide_pair(pair(s, 6));
+    table.attribute_count = wide_pair(pair(s, 8));
+    let fields = mac(s, rows.mac_at());
+    table.mac = fields;
+    table
+}
+
+// What stands at a place of the room before the writer is called.
+fn pattern(i: usize) -> u8 {
+    let low = i % 256;
+    ((low * 7 + 3) % 256) as u8
+}
+
+fn fill(room: &mut [u8]) {
+    let mut i = 0;
+    while i < room.len() {
+        room[i] = pattern(i);
+        i = i + 1;
+    }
+}
+
+// Whether the room is as it was filled, from that place on.
+fn unchanged(room: &[u8], from: usize) -> bool {
+    let mut i = from;
+    while i < room.len() {
+        if room[i] != pattern(i) {
+            return false;
+        }
+        i = i + 1;
+    }
+    true
+}
+
+// Says whether the room is as it was filled, and ends the line.
+fn show_rest(room: &[u8], from: usize) {
+    if unchanged(room, from) {
+        text(b" as before\n");
+    } else {
+        text(b" changed\n");
+    }
+}
+
+// The bytes in hex, on one line.
+fn show_bytes(s: &[u8]) {
+    let mut i = 0;
+    while i < s.len() {
+        io::print_hex(libc::STDOUT_FILENO, wide(s[i]) as u64, 2);
+        i = i + 1;
+    }
+    text(b"\n");
+}
+
+fn show_file(room: &[u8], n: usize) {
+    text(b"length ");
+    decimal(n);
+    text(b", rest");
+    show_rest(room, n);
+    if n <= room.len() {
+        show_bytes(&room[0..n]);
+    }
+}
+
+fn show_refusal(room: &[u8], fault: Fault) {
+    text(b"refused ");
+    decimal(fault.number as usize);
+    text(b" at ");
+    decimal(fault.offset);
+    text(b", buffer");
+    show_rest(room, 0);
+}
+
+// One call of the writer, and what came of it.
+fn run(table: Table, bytes: &[u8], room: &mut [u8]) {
+    fill(room);
+    let written = writer::write(table, bytes, room);
+    match written {
+        Written::Length(n) => show_file(room, n),
+        Written::Refused(fault) => show_refusal(room, fault),
+    }
+}
+
+// Runs the writer over a frame's table. Answers whether the frame holds one.
+fn table_frame(s: &[u8], room: &mut [u8]) -> bool {
+    let rows = Rows::of(s);
+    let start = rows.bytes_at();
+    let size = four(s, 0) as usize;
+    if s.len() < start {
+        return cut();
+    }
+    if room.len() < size {
+        return cut();
+    }
+    if !rows.fit() {
+        return cut();
+    }
+    run(table_of(s, rows), &s[start..], &mut room[0..size]);
+    true
+}
+
+// Fills the part with a frame and runs it. Answers whether to go on.
+fn body(part: &mut [u8], room: &mut [u8]) -> bool {
+    let got = io::read_full(libc::STDIN_FILENO, part);
+    if got < part.len() {
+        return cut();
+    }
+    table_frame(part, room)
+}
+
+// One frame, and whether to go on.
+fn frame(buffer: &mut [u8], room: &mut [u8]) -> bool {
+    let mut header = [0u8; LENGTH];
+    let got = io::read_full(libc::STDIN_FILENO, &mut header);
+    if got == 0 {
+        return false;
+    }
+    if got < LENGTH {
+        return cut();
+    }
+    let n = four(&header, 0) as usize;
+    if buffer.len() < n {
+        return cut();
+    }
+    body(&mut buffer[0..n], room)
+}
+
+// Nothing says that the input ends, so the frames are counted down, from a number that no input has.
+fn frames(buffer: &mut [u8], room: &mut [u8]) {
+    let mut left = u64::MAX;
+    while left > 0 && frame(buffer, room) {
+        left = left - 1;
+    }
+}
+
+fn main() {
+    let mut buffer = io::large_buffer();
+    let mut room = io::large_buffer();
+    frames(&mut buffer, &mut room);
+}
