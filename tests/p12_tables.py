@@ -5,8 +5,8 @@ the name and the answer of each frame, in order.
     p12_tables.py            # writes these files
     p12_tables.py --check    # says whether they are what the tables give
 
-Every answer is also held against p12_reader.py: a table whose ranges lie in the bytes is sound exactly if the file that is written with
-nothing asked reads back as what the table shows. docs/TESTS.md has the frame. The element count and the MAC input range aren't in it.
+Every answer is also held against p12_reader.py, but for files of more than 65,535 bytes, which it doesn't read: a table whose ranges lie in
+the bytes is sound exactly if the file that is written with nothing asked reads back as what the table shows. docs/TESTS.md has the frame. The element count and the MAC input range aren't in it.
 """
 import copy
 import pathlib
@@ -667,6 +667,7 @@ def main(arguments):
             path.write_bytes(data)
     print("frames: %d, written: %d, refused: %s, cut: 1" % (
         len(frames), numbers["length"], ", ".join("%d: %d" % (n, numbers[n]) for n in (9, 10, 11))))
+    wrong += sum(not numbers[n] for n in ("length", 9, 10, 11))
     if wrong:
         print("wrong: %d" % wrong)
     return 1 if wrong else 0
