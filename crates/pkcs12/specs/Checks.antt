@@ -1,4 +1,5 @@
--- The rules of a sound table as tests, in the order of `Sound`'s fields (see Sound.antt; the two are proved to say the same).
+-- The rules of a sound table as tests, all but the order of its rows. With `readingOf`, which asks for that order, they are proved to be `Sound` (see
+-- Sound.antt, and `file-iff-sound` among the theorems).
 use mathlib.Core.Bool.{Bool, true, false}
 use mathlib.Core.List.{List, [], _∷_}
 use Prim.Native.Nat.{ℕ}
