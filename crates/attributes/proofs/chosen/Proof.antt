@@ -1,0 +1,18 @@
+use borrow.Author.Needs.{needs}
+use Rattle.der.proofs.Choices.{choices}
+use Rattle.attributes.specs.Elements.{chosenOf}
+use Rattle.attributes.proofs.chosen.Statement.{statement}
+use Rattle.attributes.proofs.chosen.Tie as tie
+use Rattle.attributes.proofs.chosen.Reads as reads
+use Rattle.attributes.proofs.chosen.Lts as lts
+
+returns : tie.Need-returns
+unfolding chosenOf
+returns c = search choices depth 14
+
+returns-2 : tie.Need-returns-2
+unfolding chosenOf
+returns-2 c = search choices depth 14
+
+pub chosen-spec : {M : Type 1} → statement M
+chosen-spec = tie.close (tie.spec returns returns-2)

@@ -1,0 +1,83 @@
+-- The loop keeps the elements that were seen; each is found within the values (Siblings).
+use Prim.Native.Nat.{_-_}
+use native.Mathlib.Omega.{arith}
+use borrow.Author.Needs.{needs}
+use Rattle.attributes.specs.Elements.{elementRanges}
+use Rattle.attributes.proofs.Siblings.{Walking, walking-start, walking-ends, walking-stops, stop-fits, walking-less, walking-on}
+use Rattle.attributes.proofs.element.Statement.{statement}
+use Rattle.attributes.proofs.element.Tie as tie
+use Rattle.attributes.proofs.element.Reads as reads
+use Rattle.attributes.proofs.element.Lts as lts
+use Rattle.attributes.proofs.chosen.Reads as chosen-reads
+use Rattle.der.proofs.Cursor.element.Reads as element-reads
+
+abbrev Inv-loop : tie.InvT-loop
+Inv-loop bytes i end at₀ count₀ found₀ at count found = Walking bytes i end at₀ at count found
+
+abbrev μ-loop : tie.MeasureT-loop
+μ-loop bytes i end at₀ count₀ found₀ at count found = end - at
+
+cast-end : tie.Need-cast-end Inv-loop μ-loop
+cast-end c = search needs
+
+cast-at : tie.Need-cast-at Inv-loop μ-loop
+cast-at c = search needs
+
+loop-holds : tie.Need-loop-holds Inv-loop μ-loop
+loop-holds c = walking-start _ _ _ _ (omega arith)
+
+element-requires : tie.Need-element-requires Inv-loop μ-loop
+element-requires c κs = search needs
+
+enum-told : tie.Need-enum-told Inv-loop μ-loop
+enum-told c = search needs
+
+returns : tie.Need-returns Inv-loop μ-loop
+unfolding elementRanges
+returns c = walking-stops _ _ _ _ _ _ _ (c .before .before .before .before .loop .inv) (c .before .before .before .loop-test .taken) _ (c .before .before .element .ensures) _ (c .enum-told .given .1)
+
+enum-known-next : tie.Need-enum-known-next Inv-loop μ-loop
+enum-known-next c = search needs
+
+cast-start16 : tie.Need-cast-start16 Inv-loop μ-loop
+cast-start16 c = omega (arith, c .before .before .before .before .before .loop .inv .small)
+
+cast-stop16 : tie.Need-cast-stop16 Inv-loop μ-loop
+cast-stop16 c = omega (arith, stop-fits _ _ _ _ _ _ _ (c .before .before .before .before .before .loop .inv) (c .before .before .before .before .loop-test .taken) _ (c .before .before .before .element .ensures) _ _ _ (c .before .next .given .1))
+
+chosen-requires : tie.Need-chosen-requires Inv-loop μ-loop
+chosen-requires c κs = search needs
+
+add-count : tie.Need-add-count Inv-loop μ-loop
+add-count c = omega (arith, c .before .before .before .before .before .before .loop .inv .few, c .before .before .before .before .before .before .loop .inv .small)
+
+loop-less : tie.Need-loop-less Inv-loop μ-loop
+loop-less c = walking-less _ _ _ _ _ _ _ (c .before .before .before .before .before .before .loop .inv) (c .before .before .before .before .before .loop-test .taken) _ (c .before .before .before .before .element .ensures) _ _ _ (c .before .before .next .given .1)
+
+loop-again : tie.Need-loop-again Inv-loop μ-loop
+loop-again c = walking-on _ _ _ _ _ _ _ (c .before .before .before .before .before .before .loop .inv) (c .before .before .before .before .before .loop-test .taken) _ (c .before .before .before .before .element .ensures) _ _ _ (c .before .before .next .given .1) _ (c .chosen .ensures)
+
+returns-2 : tie.Need-returns-2 Inv-loop μ-loop
+unfolding elementRanges
+returns-2 c = walking-ends _ _ _ _ _ _ _ (c .before .loop .inv) (c .loop-test .left)
+
+pub element-spec : {M : Type 1} → statement M
+element-spec =
+    tie.close
+    (tie.spec
+    Inv-loop
+    μ-loop
+    cast-end
+    cast-at
+    loop-holds
+    element-requires
+    enum-told
+    returns
+    enum-known-next
+    cast-start16
+    cast-stop16
+    chosen-requires
+    add-count
+    loop-less
+    loop-again
+    returns-2)

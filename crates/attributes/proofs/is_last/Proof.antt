@@ -1,0 +1,39 @@
+use Rattle.attributes.specs.Reader.{isLast}
+use borrow.Author.Needs.{needs}
+use Rattle.attributes.proofs.is_last.Statement.{statement}
+use Rattle.attributes.proofs.is_last.Tie as tie
+use Rattle.attributes.proofs.is_last.Reads as reads
+use Rattle.attributes.proofs.is_last.Lts as lts
+
+enum-told : tie.Need-enum-told
+enum-told c = search needs
+
+enum-told-2 : tie.Need-enum-told-2
+enum-told-2 c = search needs
+
+enum-told-3 : tie.Need-enum-told-3
+enum-told-3 c = search needs
+
+enum-told-4 : tie.Need-enum-told-4
+enum-told-4 c = search needs
+
+returns : tie.Need-returns
+unfolding isLast
+returns c = cc
+
+returns-2 : tie.Need-returns-2
+unfolding isLast
+returns-2 c = cc
+
+returns-3 : tie.Need-returns-3
+unfolding isLast
+returns-3 c = cc
+
+returns-4 : tie.Need-returns-4
+unfolding isLast
+returns-4 c = cc
+
+pub is-last-spec : {M : Type 1} → statement M
+is-last-spec =
+    tie.close
+    (tie.spec enum-told enum-told-2 enum-told-3 enum-told-4 returns returns-2 returns-3 returns-4)

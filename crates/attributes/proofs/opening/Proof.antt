@@ -1,0 +1,45 @@
+use Rattle.attributes.proofs.Rules.{open-unsound, open-missing, open-ready}
+use borrow.Author.Needs.{needs}
+use Rattle.attributes.proofs.opening.Statement.{statement}
+use Rattle.attributes.proofs.opening.Tie as tie
+use Rattle.attributes.proofs.opening.Reads as reads
+use Rattle.attributes.proofs.opening.Lts as lts
+use Rattle.attributes.proofs.refused.Reads as refused-reads
+use Rattle.sound.proofs.measure.Reads as measure-reads
+
+measure-requires : tie.Need-measure-requires
+measure-requires c κs = search needs
+
+enum-told : tie.Need-enum-told
+enum-told c = search needs
+
+refused-requires : tie.Need-refused-requires
+refused-requires c κs = search needs
+
+enum-told-2 : tie.Need-enum-told-2
+enum-told-2 c = search needs
+
+returns : tie.Need-returns
+returns c = open-ready _ _ _ _ (c .before .before .before .before .before .measure .ensures) _ (c .before .before .before .enum-told2 .given .1) (c .before .if1 .taken)
+
+refused-requires-2 : tie.Need-refused-requires-2
+refused-requires-2 c κs = search needs
+
+returns-2 : tie.Need-returns-2
+returns-2 c = open-unsound _ _ _ _ (c .before .before .before .measure .ensures) _ (c .before .enum-told .given .1) (c .refused .ensures)
+
+returns-3 : tie.Need-returns-3
+returns-3 c = open-missing _ _ _ _ (c .before .before .before .before .before .measure .ensures) _ (c .before .before .before .enum-told2 .given .1) _ (c .before .if1 .left) (c .refused2 .ensures)
+
+pub opening-spec : {M : Type 1} → statement M
+opening-spec =
+    tie.close
+    (tie.spec
+    measure-requires
+    enum-told
+    refused-requires
+    enum-told-2
+    returns
+    refused-requires-2
+    returns-2
+    returns-3)

@@ -1,0 +1,3 @@
+-- The attribute reader: its positions, what it gives, and the elements of an attribute.
+pub mod Reader
+pub mod Elements

@@ -1,0 +1,89 @@
+-- The attribute reader (scope, "Attributes and pairs"): it stays on one bag and keeps the file while it gives the attributes in turn.
+use mathlib.Core.Bool.{Bool, true, false}
+use mathlib.Core.List.{List, [], _∷_}
+use Prim.Native.Nat.{ℕ, zero, suc, _+_}
+use lib.Dec.{ltb, eqb}
+use lib.ListN.{length, getD, take, drop, replicate}
+use denote.Ref.{RefT, now}
+use Rattle.der.specs.Choice.{if_then_else_}
+use Rattle.der.specs.Element.{fault}
+use Rattle.der.specs.declared.Fault.{Fault}
+use Rattle.pkcs12.specs.Numbers.{attributeRows, notSound}
+use Rattle.pkcs12.specs.Table.{noAttribute}
+use Rattle.pkcs12.specs.Written.{fileOf, onFile}
+use Rattle.pkcs12.specs.declared.AttributeRow.{AttributeRow}
+use Rattle.pkcs12.specs.declared.Table.{Table}
+use Rattle.attributes.specs.declared.Item.{Item}
+use Rattle.attributes.specs.declared.Item.the-variants.{Ready, Done}
+use Rattle.attributes.specs.declared.Position.{Position}
+use Rattle.attributes.specs.declared.Attributes.{Attributes}
+
+-- "row number not in the table"
+abbrev pub noRow : ℕ
+noRow = 12
+
+abbrev pub position : List AttributeRow → ℕ → ℕ → ℕ → Item → Position
+position rows count bag at item = record { rows = rows; count = count; bag = bag; at = at; item = item }
+
+-- "For 9 to 14 the place is 0."
+unfoldable pub refusedBy : ℕ → Position
+refusedBy number = position (replicate attributeRows noAttribute) 0 0 0 (Item.Refused (fault number 0))
+
+-- "Opening it with a table not sound for the lent bytes is 11, then on a row that isn't there 12." A table that is not sound has no file.
+unfoldable pub openingOf : Table → List ℕ → ℕ → Position
+openingOf t s bag =
+    onFile (fileOf t s)
+    (refusedBy notSound)
+    (λ f. if ltb bag (t .«bag_count») then position (t .attributes) (t .«attribute_count») bag 0 Ready else refusedBy noRow)
+
+-- the number of the first row that passes a test, where `at` rows stand before these; past the last if none does
+unfoldable pub firstFrom : {A : Type 0} → (A → Bool) → List A → ℕ → ℕ
+firstFrom test [] at = at
+firstFrom test (r ∷ rs) at = if test r then at else firstFrom test rs (at + 1)
+
+abbrev pub names : ℕ → AttributeRow → Bool
+names bag r = eqb (r .bag) bag
+
+-- the rows that are counted
+abbrev pub counted : Position → List AttributeRow
+counted p = take (p .count) (p .rows)
+
+-- the next row that names the bag
+unfoldable pub nextRow : Position → ℕ
+nextRow p = firstFrom (names (p .bag)) (drop (p .at) (counted p)) (p .at)
+
+-- "it gives the attributes in turn, then says it is done": row i is the next one, if there is one
+unfoldable pub movedTo : Position → ℕ → Position
+movedTo p i =
+    if ltb i (length (counted p)) then position (p .rows) (p .count) (p .bag) (i + 1) (Item.Attribute (getD (p .rows) i noAttribute)) else
+    position (p .rows) (p .count) (p .bag) i Done
+
+abbrev pub onItem : {A : Type 0} → Item → A → A → A
+onItem (Item.Refused f) bad good = bad
+onItem Ready bad good = good
+onItem (Item.Attribute r) bad good = good
+onItem Done bad good = good
+
+-- one call
+unfoldable pub nextOf : Position → Position
+nextOf p = onItem (p .item) p (movedTo p (nextRow p))
+
+-- so many calls
+unfoldable pub after : ℕ → Position → Position
+after zero p = p
+after (suc n) p = after n (nextOf p)
+
+-- what call i gives, counted from 0
+unfoldable pub itemAfter : ℕ → Position → Item
+itemAfter i p = after (i + 1) p .item
+
+-- "then says it is done, at every further call too"; a refusal stays too
+unfoldable pub isLast : Item → Bool
+isLast Ready = false
+isLast (Item.Attribute r) = false
+isLast Done = true
+isLast (Item.Refused f) = true
+
+-- "keeps the file": a reader is the file and a position
+abbrev pub readerOf : RefT (List ℕ) → Position → Attributes
+readerOf f p = record { file = f; position = p }

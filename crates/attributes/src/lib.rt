@@ -1,0 +1,256 @@
+// Gives the attributes of one bag in turn. `Attributes` keeps the file and a position; the work is done on the position, which is plain.
+ghost use mathlib.Core.Path.{_≡_};
+ghost use Prim.Native.Nat.{_+_};
+ghost use Rattle.pkcs12.specs.Table.{bytesIn};
+ghost use Rattle.attributes.specs.Reader.{refusedBy, openingOf, nextRow, movedTo, nextOf, itemAfter, readerOf, isLast};
+ghost use Rattle.attributes.specs.Elements.{elementRanges, countedOf, chosenOf};
+use der::Cursor;
+use der::Element;
+use der::Fault;
+use pkcs12::AttributeRow;
+use pkcs12::Range;
+use pkcs12::Table;
+use sound::Measured;
+
+// The number of the refusal of a row that isn't there.
+pub const NO_ROW: u8 = 12;
+
+// What a call gave: nothing yet, an attribute, the word that there are no more, or the refusal of opening.
+pub enum Item {
+    Ready,
+    Attribute(AttributeRow),
+    Done,
+    Refused(Fault),
+}
+
+// Where a reader stands: the attribute rows and their number, the bag's row, the next row to look at, and what the last call gave.
+pub struct Position {
+    pub rows: [AttributeRow; pkcs12::ATTRIBUTE_ROWS],
+    pub count: usize,
+    pub bag: usize,
+    pub at: usize,
+    pub item: Item,
+}
+
+// A reader of one bag's attributes. It keeps the file (the scope's lent bytes) that its ranges point into.
+pub struct Attributes<'a> {
+    pub file: &'a [u8],
+    pub position: Position,
+}
+
+// The number of elements of an attribute, and one of them.
+pub struct Counted {
+    pub count: usize,
+    pub element: Range,
+}
+
+// A refused opening has no row.
+fn refused(number: u8) -> Position
+    ensures { λ r. ⌜ r ≡ refusedBy number ⌝ }
+{
+    Position {
+        rows: [AttributeRow::EMPTY; pkcs12::ATTRIBUTE_ROWS],
+        count: 0,
+        bag: 0,
+        at: 0,
+        item: Item::Refused(Fault { number, offset: 0 }),
+    }
+}
+
+// The position before the first attribute of a bag.
+pub fn opening(table: Table, file: &[u8], bag: usize) -> Position
+    ensures { λ r. ⌜ r ≡ openingOf table (now (file .entry)) bag ⌝ }
+{
+    match sound::measure(table, file) {
+        Measured::Unsound => refused(pkcs12::NOT_SOUND),
+        Measured::Size(_) => {
+            if bag < table.bag_count {
+                let rows = table.attributes;
+                let count = table.attribute_count;
+                return Position {
+                    rows,
+                    count,
+                    bag,
+                    at: 0,
+                    item: Item::Ready,
+                };
+            }
+            refused(NO_ROW)
+        }
+    }
+}
+
+// The next row that names the position's bag; the end of the rows where there is none.
+fn next_row(p: Position) -> usize
+    ensures { λ r. ⌜ r ≡ nextRow p ⌝ }
+{
+    let end = sizes::rows::fewer(p.count, pkcs12::ATTRIBUTE_ROWS);
+    let bag = p.bag;
+    let mut i = p.at;
+    while i < end {
+        let row = p.rows[i];
+        let owner = row.bag as usize;
+        if owner == bag {
+            return i;
+        }
+        i = i + 1;
+    }
+    i
+}
+
+// The position with the row that comes next, or with the word that there are no more.
+fn moved(p: Position) -> Position
+    ensures { λ r. ⌜ r ≡ movedTo p (nextRow p) ⌝ }
+{
+    let rows = p.rows;
+    let count = p.count;
+    let bag = p.bag;
+    let i = next_row(p);
+    let end = sizes::rows::fewer(count, pkcs12::ATTRIBUTE_ROWS);
+    if i < end {
+        let row = rows[i];
+        let at = i + 1;
+        return Position {
+            rows,
+            count,
+            bag,
+            at,
+            item: Item::Attribute(row),
+        };
+    }
+    Position {
+        rows,
+        count,
+        bag,
+        at: i,
+        item: Item::Done,
+    }
+}
+
+impl Position {
+    // One call: the next attribute, or the word that there are no more. A refused opening stays so.
+    pub fn next(self) -> Position
+        ensures { λ r. ⌜ r ≡ nextOf self ⌝ }
+    {
+        let item = self.item;
+        match item {
+            Item::Ready => moved(self),
+            Item::Attribute(_) => moved(self),
+            Item::Done => moved(self),
+            Item::Refused(_) => self,
+        }
+    }
+}
+
+// A reader of the attributes of one bag.
+pub fn open<'a>(table: Table, file: &'a [u8], bag: usize) -> Attributes<'a>
+    ensures { λ r. ⌜ r ≡ readerOf (file .entry) (openingOf table (now (file .entry)) bag) ⌝ }
+{
+    let position = opening(table, file, bag);
+    Attributes { file, position }
+}
+
+// One call: the same reader, with what the call gave.
+pub fn next<'a>(r: Attributes<'a>) -> Attributes<'a>
+    ensures { λ q. ⌜ q ≡ readerOf (r .entry .file) (nextOf (r .entry .position)) ⌝ }
+{
+    let position = r.position.next();
+    Attributes {
+        file: r.file,
+        position,
+    }
+}
+
+// What the last call gave.
+pub fn given<'a>(r: Attributes<'a>) -> Item
+    ensures { λ x. ⌜ x ≡ r .entry .position .item ⌝ }
+{
+    r.position.item
+}
+
+// The bytes of the kept file that a range names, as that part of the file.
+pub fn part<'a>(r: Attributes<'a>, range: Range) -> &'a [u8]
+    ensures { λ x. ⌜ now x ≡ bytesIn (now (r .entry .file)) range ⌝ }
+{
+    range.part(r.file)
+}
+
+// Whether every further call gives the same.
+fn is_last(item: Item) -> bool
+    ensures { λ r. ⌜ r ≡ isLast item ⌝ }
+{
+    match item {
+        Item::Ready => false,
+        Item::Attribute(_) => false,
+        Item::Done => true,
+        Item::Refused(_) => true,
+    }
+}
+
+// What call i gives, counted from 0, of a reader that is opened for it.
+pub fn attribute(table: Table, file: &[u8], bag: usize, i: usize) -> Item
+    ensures { λ r. ⌜ r ≡ itemAfter i (openingOf table (now (file .entry)) bag) ⌝ }
+{
+    let mut position = opening(table, file, bag).next();
+    let mut left = i;
+    while 0 < left {
+        let item = position.item;
+        if is_last(item) {
+            return item;
+        }
+        position = position.next();
+        left = left - 1;
+    }
+    position.item
+}
+
+// The range that is looked for, once it is met.
+fn chosen(n: usize, i: usize, found: Range, here: Range) -> Range
+    ensures { λ r. ⌜ r ≡ chosenOf n i found here ⌝ }
+{
+    if n == i {
+        return here;
+    }
+    found
+}
+
+// The number of elements in an attribute's values, and element i, whole; 0..0 where there is none.
+pub fn element(bytes: &[u8], values: Range, i: usize) -> Counted
+    ensures { λ r. ⌜ r ≡ countedOf (elementRanges (now (bytes .entry)) values) i ⌝ }
+{
+    let end = values.end as usize;
+    let mut at = values.start as usize;
+    let mut count: usize = 0;
+    let mut found = Range::EMPTY;
+    while at < end {
+        let here = Cursor { at, end };
+        match here.element(bytes) {
+            Element::Refused(_) => {
+                return Counted {
+                    count,
+                    element: found,
+                };
+            }
+            Element::Found {
+                tag: _,
+                body: _,
+                next,
+            } => {
+                let stop = next.at;
+                let start16 = at as u16;
+                let stop16 = stop as u16;
+                let met = Range {
+                    start: start16,
+                    end: stop16,
+                };
+                found = chosen(count, i, found, met);
+                count = count + 1;
+                at = stop;
+            }
+        }
+    }
+    Counted {
+        count,
+        element: found,
+    }
+}

@@ -1,0 +1,3 @@
+-- What is proved of pairing.
+pub mod Folds
+pub mod Rules

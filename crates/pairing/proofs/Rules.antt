@@ -1,0 +1,65 @@
+-- Rules by which `search` follows the definitions of pairing as the code's own tests decided them (see der's Choices).
+use mathlib.Core.Path.{_≡_, refl, sym, _∙_}
+use mathlib.Core.Bool.{Bool, true, false, not}
+use mathlib.Core.List.{List}
+use Prim.Native.Nat.{ℕ}
+use borrow.Author.Tests.{not-true, not-false}
+use Rattle.der.specs.Choice.{if_then_else_}
+use Rattle.der.proofs.Choices.{told-true, told-false, at-lt, at-not-lt, at-le, at-not-le, at-eq, at-ne, same}
+use Rattle.pkcs12.specs.Identifiers.{sameBytes}
+use Rattle.pkcs12.specs.Checks.{both}
+use Rattle.pairing.specs.Pairs.{idLies, pairsWith}
+use Rattle.pairing.specs.Search.{search, keyAt, tallied, lastAt, visited}
+use Rattle.pairing.specs.declared.IdentityRow.{IdentityRow}
+use Rattle.pairing.specs.declared.Search.{Search}
+
+module _ {A : Type 0} where
+  -- a test whose opposite the code asks for
+  pub denied : (t u : Bool) (r x y : A) → u ≡ t → not u ≡ true → r ≡ y → r ≡ (if t then x else y)
+  denied t u r x y p q e = rw (sym p ∙ not-true u q) e
+
+  pub granted : (t u : Bool) (r x y : A) → u ≡ t → not u ≡ false → r ≡ x → r ≡ (if t then x else y)
+  granted t u r x y p q e = rw (sym p ∙ not-false u q) e
+
+  -- a bool that the code tested itself
+  pub is-true : (t : Bool) (r x y : A) → t ≡ true → r ≡ x → r ≡ (if t then x else y)
+  is-true t r x y q e = rw q e
+
+  pub is-false : (t : Bool) (r x y : A) → t ≡ false → r ≡ y → r ≡ (if t then x else y)
+  is-false t r x y q e = rw q e
+
+  pub not-is-true : (t : Bool) (r x y : A) → not t ≡ true → r ≡ y → r ≡ (if t then x else y)
+  not-is-true t r x y q e = rw (not-true t q) e
+
+  pub not-is-false : (t : Bool) (r x y : A) → not t ≡ false → r ≡ x → r ≡ (if t then x else y)
+  not-is-false t r x y q e = rw (not-false t q) e
+
+-- what a callee told of parts is told of the bytes that they are
+pub same-parts : (r : Bool) (x y u v : List ℕ) → x ≡ u → y ≡ v → r ≡ sameBytes x y → r ≡ sameBytes u v
+same-parts r x y u v p q e = rw (← p, ← q) e
+
+pub ruleset pairs = (
+  at-lt,
+  at-not-lt,
+  at-le,
+  at-not-le,
+  at-eq,
+  at-ne,
+  told-true,
+  told-false,
+  denied,
+  granted,
+  is-true,
+  is-false,
+  not-is-true,
+  not-is-false,
+  same-parts,
+  same,
+)
+
+-- one row more, from what each callee told
+pub visit-is : (s : List ℕ) (i : ℕ) (r : IdentityRow) (st : Search) (p : Bool) (k : IdentityRow) (t : Bool) (c l : ℕ)
+    → p ≡ pairsWith s (st .key) r → k ≡ keyAt (st .number) i (st .key) r → t ≡ both (st .sound) (idLies s r) → c ≡ tallied p (st .count) → l ≡ lastAt p i (st .row)
+    → search (st .number) k t c l ≡ visited s i r st
+unfolding visited
+visit-is s i r st p k t c l e f g h j = rw (h, j, e, f, g)

@@ -1,0 +1,88 @@
+-- Pairing of keys with certificates over a list of identity rows (scope, "Attributes and pairs").
+use mathlib.Core.Bool.{Bool, true, false}
+use mathlib.Core.List.{List, [], _∷_}
+use Prim.Native.Nat.{ℕ, _+_}
+use lib.ListN.{getD}
+use Rattle.der.specs.Choice.{if_then_else_}
+use Rattle.der.specs.Element.{fault}
+use Rattle.pkcs12.specs.Numbers.{notSound}
+use Rattle.pkcs12.specs.Identifiers.{sameBytes}
+use Rattle.pkcs12.specs.Table.{noRange, bytesIn}
+use Rattle.pkcs12.specs.Checks.{both, all, lies}
+use Rattle.pkcs12.specs.declared.Range.{Range}
+use Rattle.pkcs12.specs.declared.BagKind.{BagKind}
+use Rattle.pkcs12.specs.declared.BagKind.the-variants.{Key, ShroudedKey, Certificate, Crl, Secret, Nested}
+use Rattle.pairing.specs.declared.IdentityRow.{IdentityRow}
+use Rattle.pairing.specs.declared.Paired.{Paired}
+
+-- "row number not in the table, or a row that isn't a key"
+abbrev pub noKey : ℕ
+noKey = 12
+
+-- "no certificate for this key; more than one"
+abbrev pub noCertificate : ℕ
+noCertificate = 13
+
+abbrev pub moreThanOne : ℕ
+moreThanOne = 14
+
+-- "identity rows: kind, whether an id is there, and the id's bytes"
+abbrev pub identity : BagKind → Bool → Range → IdentityRow
+identity k h r = record { kind = k; «has_id» = h; id = r }
+
+-- what stands for a row that isn't there: it is no key
+abbrev pub noIdentity : IdentityRow
+noIdentity = identity BagKind.None false noRange
+
+-- "a key row (kinds 01 and 02)"
+unfoldable pub isKey : BagKind → Bool
+isKey BagKind.None = false
+isKey Key = true
+isKey ShroudedKey = true
+isKey Certificate = false
+isKey Crl = false
+isKey Secret = false
+isKey Nested = false
+
+unfoldable pub isCertificate : BagKind → Bool
+isCertificate BagKind.None = false
+isCertificate Key = false
+isCertificate ShroudedKey = false
+isCertificate Certificate = true
+isCertificate Crl = false
+isCertificate Secret = false
+isCertificate Nested = false
+
+-- "An id that is there is a range of lent bytes"
+unfoldable pub idLies : List ℕ → IdentityRow → Bool
+idLies s r = if r .«has_id» then lies s (r .id) else true
+
+-- "an equal id": both have one, of the same bytes. "Ids of length 0 are equal to each other."
+unfoldable pub sameId : List ℕ → IdentityRow → IdentityRow → Bool
+sameId s k r = both (k .«has_id») (both (r .«has_id») (sameBytes (bytesIn s (k .id)) (bytesIn s (r .id))))
+
+-- a "certificate row with an equal id"
+unfoldable pub pairsWith : List ℕ → IdentityRow → IdentityRow → Bool
+pairsWith s k r = both (isCertificate (r .kind)) (sameId s k r)
+
+-- the numbers of those rows, where n rows stand before these
+unfoldable pub matching : List ℕ → IdentityRow → ℕ → List IdentityRow → List ℕ
+matching s k n [] = []
+matching s k n (r ∷ rs) = if pairsWith s k r then n ∷ matching s k (n + 1) rs else matching s k (n + 1) rs
+
+-- "For 9 to 14 the place is 0."
+abbrev pub refusedBy : ℕ → Paired
+refusedBy number = Paired.Refused (fault number 0)
+
+-- "the answer is the only certificate row with an equal id; 13 exactly if there is none or the key has none; 14 exactly if there are two or more"
+unfoldable pub onlyOne : List ℕ → Paired
+onlyOne [] = refusedBy noCertificate
+onlyOne (n ∷ []) = Paired.Certificate n
+onlyOne (n ∷ m ∷ ns) = refusedBy moreThanOne
+
+-- "one outside them, in any row, is 11, before 12"
+unfoldable pub paired : List ℕ → List IdentityRow → ℕ → Paired
+paired s rows k =
+    if all (idLies s) rows then
+    (if isKey (getD rows k noIdentity .kind) then onlyOne (matching s (getD rows k noIdentity) 0 rows) else refusedBy noKey) else
+    refusedBy notSound
