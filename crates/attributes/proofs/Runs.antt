@@ -5,12 +5,15 @@ use mathlib.Core.List.{List, [], _∷_}
 use Prim.Native.Nat.{ℕ, zero, suc, _+_, _-_, _≤_, _<_}
 use native.Mathlib.Numerals.{add-one}
 use native.Mathlib.Omega.{arith}
-use borrow.Author.Tests.{lt-ltb, le-ltb, ltb-false}
-use lib.Dec.{ltb}
-use lib.ListN.{length, getD, take, drop, drop-of-length-le}
+use borrow.Author.Tests.{lt-ltb, le-ltb}
+use lib.ListN.{length, getD, drop, drop-of-length-le, length-take, length-drop}
+use lib.Seq.{drop-cons, getD-take}
 use Rattle.der.specs.Choice.{if_then_else_}
 use Rattle.der.proofs.Choices.{by-lt, never}
 use Rattle.der.specs.declared.Fault.{Fault}
+use Rattle.pkcs12.specs.Table.{noAttribute}
+use Rattle.pkcs12.specs.declared.AttributeRow.{AttributeRow}
+use Rattle.attributes.specs.Own.{ownRows}
 use Rattle.attributes.specs.Reader.{firstFrom, names, counted, position, nextRow, movedTo, onItem, nextOf, after, itemAfter, isLast}
 use Rattle.attributes.specs.declared.Item.{Item}
 use Rattle.attributes.specs.declared.Item.the-variants.{Ready, Done}
@@ -93,3 +96,68 @@ module _ (n : ℕ) (p₀ : Position) where
 pub first-call : (i : ℕ) (p q : Position) → q ≡ nextOf p → after i q .item ≡ itemAfter i p
 unfolding itemAfter after
 first-call i p q e = ap {B = Item} (λ (x : Position). after i x .item) e ∙ ap {B = Item} (λ (n : ℕ). after n p .item) (sym (add-one i))
+
+-- ---- the rows of the bag in turn
+
+-- Row k is the first of some rows that name a bag, and then come the others; if none does, k is past the last row.
+abbrev Foremost : ℕ → List AttributeRow → ℕ → List AttributeRow → Type 0
+Foremost n xs k [] = length xs ≤ k
+Foremost n xs k (r ∷ rs) = (k < length xs) × (getD xs k noAttribute ≡ r) × (ownRows n (drop (k + 1) xs) ≡ rs)
+
+foremost : (n : ℕ) (xs : List AttributeRow) (at : ℕ) (l : List AttributeRow) → drop at xs ≡ l → Foremost n xs (firstFrom (names n) l at) (ownRows n l)
+unfolding firstFrom ownRows
+foremost n xs at [] e = omega (arith, length-drop at xs, ap length e)
+foremost n xs at (r ∷ l) e = go (names n r) (foremost n xs (at + 1) l k)
+  where
+    h : at < length xs
+    h = omega (arith, length-drop at xs, ap length e)
+
+    c : getD xs at noAttribute ∷ drop (at + 1) xs ≡ r ∷ l
+    c = rw add-one (sym (drop-cons xs at noAttribute h) ∙ e)
+
+    k : drop (at + 1) xs ≡ l
+    k = cc c
+
+    go : (u : Bool) → Foremost n xs (firstFrom (names n) l (at + 1)) (ownRows n l)
+        → Foremost n xs (if u then at else firstFrom (names n) l (at + 1)) (if u then r ∷ ownRows n l else ownRows n l)
+    go true f = (h, cc c, rw k)
+    go false f = f
+
+-- a reader that goes on, with the rows that it has yet to give
+pub record Left (p : Position) (xs : List AttributeRow) : Type 0 where
+  pub moves : nextOf p ≡ movedTo p (nextRow p)
+  pub rest : ownRows (p .bag) (drop (p .at) (counted p)) ≡ xs
+
+-- one call gives the first of them and leaves the others
+module _ (p : Position) where
+  next-row : (xs : List AttributeRow) → Left p xs → Foremost (p .bag) (counted p) (nextRow p) xs
+  unfolding nextRow
+  next-row xs g = rw (g .rest) at (foremost (p .bag) (counted p) (p .at) (drop (p .at) (counted p)) refl)
+
+  next-gives : (r : AttributeRow) (rs : List AttributeRow) → Left p (r ∷ rs) → (nextOf p .item ≡ Item.Attribute r) × Left (nextOf p) rs
+  unfolding movedTo nextOf
+  next-gives r rs g =
+      let f = next-row (r ∷ rs) g in
+      let k : nextRow p < p .count = omega (arith, f .0, length-take (p .count) (p .rows)) in
+      let e : getD (p .rows) (nextRow p) noAttribute ≡ r = sym (getD-take (p .count) (p .rows) (nextRow p) noAttribute k) ∙ f .1 in
+      rw (g .moves, lt-ltb (nextRow p) (length (counted p)) (f .0), e) (refl, record { moves = refl; rest = f .2 })
+
+  next-ends : Left p [] → (nextOf p .item ≡ Done) × Left (nextOf p) []
+  unfolding movedTo nextOf ownRows
+  next-ends g =
+      let f = next-row [] g in
+      rw (g .moves, le-ltb (nextRow p) (length (counted p)) f) (refl, record { moves = refl; rest = rw (drop-of-length-le (counted p) {i = nextRow p} f) })
+
+-- call i is to give row i of them, and every call past them the word that there are no more
+abbrev pub Turn : ℕ → List AttributeRow → Item → Type 0
+Turn i xs x = (i < length xs → x ≡ Item.Attribute (getD xs i noAttribute)) × (length xs ≤ i → x ≡ Done)
+
+turn : (i : ℕ) (p : Position) (xs : List AttributeRow) → Left p xs → Turn i xs (after i (nextOf p) .item)
+unfolding after
+turn zero p [] g = (λ h. absurd (omega arith), λ h. next-ends p g .0)
+turn zero p (r ∷ rs) g = (λ h. next-gives p r rs g .0, λ h. absurd (omega arith))
+turn (suc i) p [] g = (λ h. absurd (omega arith), λ h. turn i (nextOf p) [] (next-ends p g .1) .1 (omega arith))
+turn (suc i) p (r ∷ rs) g = let t = turn i (nextOf p) rs (next-gives p r rs g .1) in (λ h. t .0 (omega arith), λ h. t .1 (omega arith))
+
+pub in-turn : (i : ℕ) (p : Position) (xs : List AttributeRow) → Left p xs → Turn i xs (itemAfter i p)
+in-turn i p xs g = rw (← first-call i p (nextOf p) refl) (turn i p xs g)

@@ -1,3 +1,4 @@
 -- The attribute reader: its positions, what it gives, and the elements of an attribute.
 pub mod Reader
 pub mod Elements
+pub mod Own

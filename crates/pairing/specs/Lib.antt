@@ -1,3 +1,4 @@
--- Pairing: what it answers (`Pairs`), and how the code goes over the rows (`Search`, for its private functions).
+-- Pairing: what it answers (`Pairs`), what the answers say (`Only`), and how the code goes over the rows (`Search`, for its private functions).
 pub mod Pairs
+pub mod Only
 pub mod Search

@@ -1,0 +1,3 @@
+-- What is proved of identity rows.
+pub mod Rules
+pub mod Fills

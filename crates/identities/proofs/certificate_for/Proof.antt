@@ -1,0 +1,43 @@
+-- The table is not sound, or its rows are paired.
+use Rattle.identities.proofs.Rules.{certificate-unsound, certificate-paired}
+use borrow.Author.Needs.{needs}
+use Rattle.identities.proofs.certificate_for.Statement.{statement}
+use Rattle.identities.proofs.certificate_for.Tie as tie
+use Rattle.identities.proofs.certificate_for.Reads as reads
+use Rattle.identities.proofs.certificate_for.Lts as lts
+use Rattle.identities.proofs.rows_of.Reads as rows-of-reads
+use Rattle.pairing.proofs.pair_all.Reads as pair-all-reads
+use Rattle.sound.proofs.measure.Reads as measure-reads
+
+measure-requires : tie.Need-measure-requires
+measure-requires c κs = search needs
+
+enum-told : tie.Need-enum-told
+enum-told c = search needs
+
+enum-told-2 : tie.Need-enum-told-2
+enum-told-2 c = search needs
+
+rows-of-requires : tie.Need-rows-of-requires
+rows-of-requires c κs = search needs
+
+pair-all-requires : tie.Need-pair-all-requires
+pair-all-requires c κs = search needs
+
+returns : tie.Need-returns
+returns c = certificate-unsound _ _ _ (c .before .before .measure .ensures) _ (c .enum-told .given .1)
+
+returns-2 : tie.Need-returns-2
+returns-2 c = certificate-paired _ _ _ (c .before .before .before .before .measure .ensures) _ (c .before .before .enum-told2 .given .1) _ _ _ (c .before .rows-of .ensures) (c .pair-all .ensures)
+
+pub certificate-for-spec : {M : Type 1} → statement M
+certificate-for-spec =
+    tie.close
+    (tie.spec
+    measure-requires
+    enum-told
+    enum-told-2
+    rows-of-requires
+    pair-all-requires
+    returns
+    returns-2)

@@ -1,0 +1,45 @@
+-- The first localKeyID of the bag is looked into, if there is one.
+use native.Mathlib.Omega.{arith}
+use Rattle.attributes.proofs.First.{at-most}
+use Rattle.identities.proofs.Rules.{id-found, id-none}
+use borrow.Author.Needs.{needs}
+use Rattle.identities.proofs.id_of.Statement.{statement}
+use Rattle.identities.proofs.id_of.Tie as tie
+use Rattle.identities.proofs.id_of.Reads as reads
+use Rattle.identities.proofs.id_of.Lts as lts
+use Rattle.identities.proofs.id_in.Reads as id-in-reads
+use Rattle.identities.proofs.key_row.Reads as key-row-reads
+use Rattle.sizes.proofs.rows.fewer.Reads as fewer-reads
+
+key-row-requires : tie.Need-key-row-requires
+key-row-requires c κs = search needs
+
+fewer-requires : tie.Need-fewer-requires
+fewer-requires c κs = search needs
+
+mul-row : tie.Need-mul-row
+mul-row c = omega (arith, at-most _ _ _ (c .before .fewer .ensures))
+
+element-copy-out-row : tie.Need-element-copy-out-row
+element-copy-out-row c = omega (arith, at-most _ _ _ (c .before .fewer .ensures))
+
+id-in-requires : tie.Need-id-in-requires
+id-in-requires c κs = search needs
+
+returns : tie.Need-returns
+returns c = id-found _ _ _ _ _ (c .before .before .before .before .before .key-row .ensures) _ _ _ (c .before .before .before .before .before .before .before .good .0 .1 .1 .1 .1 .1 .1 .0 .1 .0 .1) (c .before .before .before .before .fewer .ensures) _ _ (c .before .before .before .if1 .taken) (c .id-in .ensures)
+
+returns-2 : tie.Need-returns-2
+returns-2 c = id-none _ _ _ _ _ (c .before .before .key-row .ensures) _ _ _ (c .before .before .before .before .good .0 .1 .1 .1 .1 .1 .1 .0 .1 .0 .1) (c .before .fewer .ensures) (c .if1 .left)
+
+pub id-of-spec : {M : Type 1} → statement M
+id-of-spec =
+    tie.close
+    (tie.spec
+    key-row-requires
+    fewer-requires
+    mul-row
+    element-copy-out-row
+    id-in-requires
+    returns
+    returns-2)

@@ -1,0 +1,50 @@
+-- Storing the identity rows of a table in a caller's rows.
+use mathlib.Core.List.{List, _++_}
+use Prim.Native.Nat.{ℕ}
+use lib.Dec.{ltb}
+use lib.ListN.{length, drop, replicate}
+use Rattle.der.specs.Choice.{if_then_else_}
+use Rattle.der.specs.Element.{fault}
+use Rattle.pkcs12.specs.Numbers.{bagRows, noRoom, notSound}
+use Rattle.pkcs12.specs.Written.{fileOf, onFile}
+use Rattle.pkcs12.specs.declared.Table.{Table}
+use Rattle.pkcs12.specs.declared.Written.{Written}
+use Rattle.pkcs12.specs.declared.Written.the-variants.{Length}
+use Rattle.pairing.specs.Pairs.{noIdentity}
+use Rattle.pairing.specs.declared.IdentityRow.{IdentityRow}
+use Rattle.identities.specs.Identities.{identitiesOf, identityRows}
+use Rattle.identities.specs.declared.Filling.{Filling}
+
+-- the answer, and the caller's rows afterwards
+pub record Filled : Type 0 where
+  pub answer : Written
+  pub rows : List IdentityRow
+
+-- On refusal, "the whole room is" as before; the place is 0.
+abbrev pub refusal : ℕ → List IdentityRow → Filled
+refusal number out = record { answer = Written.Refused (fault number 0); rows = out }
+
+-- the rows stand at the front, their number is returned, and what stands behind them is as before
+abbrev pub placed : List IdentityRow → List IdentityRow → Filled
+placed xs out = record { answer = Length (length xs); rows = xs ++ drop (length xs) out }
+
+-- 11 for a table that is not sound, then 10 for fewer rows than there are bags
+unfoldable pub fillOf : Table → List ℕ → List IdentityRow → Filled
+fillOf t s out =
+    onFile (fileOf t s)
+    (refusal notSound out)
+    (λ f. if ltb (length out) (t .«bag_count») then refusal noRoom out else placed (identitiesOf t s) out)
+
+-- ---- what the private functions compute
+
+abbrev pub fillingAs : Written → ℕ → List IdentityRow → Filling
+fillingAs a n rows = record { answer = a; count = n; rows = rows }
+
+unfoldable pub refusedFilling : ℕ → Filling
+refusedFilling number = fillingAs (Written.Refused (fault number 0)) 0 (replicate bagRows noIdentity)
+
+unfoldable pub fillingOf : Table → List ℕ → ℕ → Filling
+fillingOf t s room =
+    onFile (fileOf t s)
+    (refusedFilling notSound)
+    (λ f. if ltb room (t .«bag_count») then refusedFilling noRoom else fillingAs (Length (t .«bag_count»)) (t .«bag_count») (identityRows t s))

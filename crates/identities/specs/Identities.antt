@@ -1,0 +1,91 @@
+-- The identity rows of a table's bags (scope, "Attributes and pairs").
+use mathlib.Core.Bool.{Bool, true, false}
+use mathlib.Core.List.{List, [], _∷_, _++_}
+use Prim.Native.Nat.{ℕ, zero, suc}
+use lib.Dec.{leb, ltb}
+use lib.ListN.{length, getD, take}
+use Rattle.der.specs.Choice.{if_then_else_}
+use Rattle.der.specs.Numbers.{octetStringTag}
+use Rattle.der.specs.Element.{cursor, expectAt, onElement}
+use Rattle.der.specs.declared.Fault.{Fault}
+use Rattle.pkcs12.specs.Numbers.{bagRows, notSound}
+use Rattle.pkcs12.specs.Identifiers.{sameBytes}
+use Rattle.pkcs12.specs.Checks.{both}
+use Rattle.pkcs12.specs.Table.{range, noRange, noBag, noAttribute, padded, bytesIn}
+use Rattle.pkcs12.specs.Written.{fileOf, onFile}
+use Rattle.pkcs12.specs.declared.Range.{Range}
+use Rattle.pkcs12.specs.declared.AttributeRow.{AttributeRow}
+use Rattle.pkcs12.specs.declared.Table.{Table}
+use Rattle.sizes.specs.Picked.{fewer}
+use Rattle.attributes.specs.Reader.{firstFrom, names, openingOf}
+use Rattle.attributes.specs.declared.Item.{Item}
+use Rattle.attributes.specs.declared.Item.the-variants.{Ready, Done}
+use Rattle.pairing.specs.Pairs.{identity, noIdentity, refusedBy, paired}
+use Rattle.pairing.specs.declared.IdentityRow.{IdentityRow}
+use Rattle.pairing.specs.declared.Paired.{Paired}
+use Rattle.identities.specs.declared.Id.{Id}
+use Rattle.identities.specs.declared.Identity.{Identity}
+
+-- "localKeyID": 2A 86 48 86 F7 0D 01 09 15
+unfoldable pub localKeyType : List ℕ
+localKeyType = 42 ∷ 134 ∷ 72 ∷ 134 ∷ 247 ∷ 13 ∷ 1 ∷ 9 ∷ 21 ∷ []
+
+abbrev pub anId : Bool → Range → Id
+anId h r = record { present = h; range = r }
+
+abbrev pub noId : Id
+noId = anId false noRange
+
+-- the attribute rows of a table
+abbrev pub attributesOf : Table → List AttributeRow
+attributesOf t = take (t .«attribute_count») (t .attributes)
+
+-- a bag's "localKeyID attribute"
+unfoldable pub isLocalKey : List ℕ → ℕ → AttributeRow → Bool
+isLocalKey s bag r = both (names bag r) (sameBytes (bytesIn s (r .identifier)) localKeyType)
+
+-- the bag's first one, by number; past the last row where there is none
+unfoldable pub keyRow : Table → List ℕ → ℕ → ℕ
+keyRow t s bag = firstFrom (isLocalKey s bag) (attributesOf t) 0
+
+-- "if that holds exactly one element and it is an OCTET STRING; otherwise the bag has none"
+unfoldable pub idIn : List ℕ → Range → Id
+idIn s r =
+    onElement (expectAt octetStringTag s (cursor (r .start) (r .end)))
+    (λ f. noId)
+    (λ t b n. if leb (n .end) (n .at) then anId true (range (b .at) (b .end)) else noId)
+
+-- "A bag's id comes from its first localKeyID attribute"
+unfoldable pub idOf : Table → List ℕ → ℕ → Id
+idOf t s bag = if ltb (keyRow t s bag) (length (attributesOf t)) then idIn s (getD (t .attributes) (keyRow t s bag) noAttribute .values) else noId
+
+-- "kind, whether an id is there, and the id's bytes"
+unfoldable pub identityOf : Table → List ℕ → ℕ → IdentityRow
+identityOf t s bag = identity (getD (t .bags) bag noBag .kind) (idOf t s bag .present) (idOf t s bag .range)
+
+abbrev pub onOpening : {A : Type 0} → Item → (Fault → A) → A → A
+onOpening (Item.Refused f) bad good = bad f
+onOpening Ready bad good = good
+onOpening (Item.Attribute r) bad good = good
+onOpening Done bad good = good
+
+-- refused as opening the bag's attributes is
+unfoldable pub identityAt : Table → List ℕ → ℕ → Identity
+identityAt t s bag = onOpening (openingOf t s bag .item) Identity.Refused (Identity.Row (identityOf t s bag))
+
+-- the first n of what f numbers
+unfoldable pub firstOf : {A : Type 0} → (ℕ → A) → ℕ → List A
+firstOf f zero = []
+firstOf f (suc n) = firstOf f n ++ (f n ∷ [])
+
+-- the identity rows of all bags, in the bags' order
+abbrev pub identitiesOf : Table → List ℕ → List IdentityRow
+identitiesOf t s = firstOf (identityOf t s) (fewer (t .«bag_count») bagRows)
+
+-- the same as an array, padded with rows that are no key's and no certificate's
+unfoldable pub identityRows : Table → List ℕ → List IdentityRow
+identityRows t s = padded bagRows noIdentity (identitiesOf t s)
+
+-- the certificate for the key of a table
+unfoldable pub certificateFor : Table → List ℕ → ℕ → Paired
+certificateFor t s k = onFile (fileOf t s) (refusedBy notSound) (λ f. paired s (identityRows t s) k)
