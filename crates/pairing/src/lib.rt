@@ -46,7 +46,8 @@ struct Search {
     row: usize,
 }
 
-fn is_key(kind: BagKind) -> bool
+// Whether a kind is a key's: 01 and 02.
+pub fn is_key(kind: BagKind) -> bool
     ensures { λ r. ⌜ r ≡ isKey kind ⌝ }
 {
     match kind {
