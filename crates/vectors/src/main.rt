@@ -1,4 +1,5 @@
-// Lists the files of standard input, one after another, and says of each that is accepted whether the writer makes the same bytes of its table.
+// Lists the files of standard input, one after another, and of each that is accepted pairs its keys with certificates and says whether the writer makes
+// the same bytes of its table.
 // Each stands in a frame: its length in four bytes, high first, then its bytes.
 // A frame that is cut, or longer than the buffer, is answered by the line `cut`, and nothing after it is read.
 ghost use Prim.Native.Nat.{_<_};
@@ -48,13 +49,16 @@ fn write_back(table: Table, file: &[u8], out: &mut [u8]) {
     }
 }
 
-// Lists a file and, if it is accepted, writes it back.
+// Lists a file and, if it is accepted, pairs its keys and writes it back.
 fn list(file: &[u8], out: &mut [u8]) {
     let reading = reader::read(file);
     listing::show(file.len(), reading);
     let answer = reading.answer;
     match answer {
-        Answer::Accepted => write_back(reading.table, file, out),
+        Answer::Accepted => {
+            pair_lines::show(reading.table, file);
+            write_back(reading.table, file, out);
+        }
         Answer::Refused(_) => {}
     }
 }

@@ -1,0 +1,2 @@
+-- The loop over a table's bags.
+pub mod Counting

@@ -1,0 +1,2 @@
+-- How many lines the pairs of a table have.
+pub mod Lines
