@@ -1,9 +1,8 @@
 -- The elements of an attribute by value.
 use mathlib.Core.Path.{_≡_, refl, sym}
-use mathlib.Core.List.{List, [], _∷_, map}
-use Prim.Native.Nat.{ℕ, zero, suc, _+_, _≤_, _<_}
+use mathlib.Core.List.{List, [], map}
+use Prim.Native.Nat.{ℕ, zero, suc, _+_, _≤_}
 use native.Mathlib.Omega.{arith}
-use borrow.Author.Tests.{lt-ltb, le-ltb}
 use lib.ListN.{length, getD, length-map, List·getD-map}
 use Rattle.der.specs.Element.{cursor, elementAt}
 use Rattle.der.specs.Span.{Span}
@@ -14,11 +13,12 @@ use Rattle.der.proofs.Header.{header-then}
 use Rattle.der.proofs.Spans.{span-slice, slice-span, span-split}
 use Rattle.der.proofs.Trees.{tree-long, tree-some}
 use Rattle.pkcs12.specs.Sound.{Lies}
-use Rattle.pkcs12.specs.Table.{range, noRange, bytesIn}
+use Rattle.pkcs12.specs.Table.{noRange, bytesIn}
 use Rattle.pkcs12.specs.Valid.{Opaques}
 use Rattle.pkcs12.specs.declared.Range.{Range}
 use Rattle.attributes.specs.Elements.{elementsFrom, elementRanges, countedOf}
 use Rattle.attributes.specs.Own.{each, Chain}
+use Rattle.attributes.proofs.Siblings.{run-end, run-more}
 
 -- what a tree is written as is found as one element: k is told so
 tree-then : {P : Type 0} (s : List ℕ) (x : Tree) (at e end : ℕ) → Formed x → Span s at e (encode x) → e ≤ end → end ≤ length s
@@ -28,23 +28,11 @@ tree-then s (primitive t body) at e end f p h i k = header-then s at e end t bod
 tree-then s (constructed t xs) at e end f p h i k = header-then s at e end t (encodes xs) (f .0) (f .2) p h i (λ b g q. k t (cursor b e) g)
 
 module _ (s : List ℕ) (end : ℕ) where
-  -- no byte is left
-  from-end : (fuel at : ℕ) → end ≤ at → elementsFrom fuel s end at ≡ []
-  unfolding elementsFrom
-  from-end zero at h = refl
-  from-end (suc fuel) at h = rw (le-ltb at end h)
-
-  -- one element, and those behind it
-  from-more : (fuel at e t : ℕ) (b : Cursor) → at < end → elementAt s (cursor at end) ≡ Found t b (cursor e end)
-      → elementsFrom (suc fuel) s end at ≡ range at e ∷ elementsFrom fuel s end e
-  unfolding elementsFrom
-  from-more fuel at e t b h f = rw (lt-ltb at end h, f)
-
   -- the elements of a run of trees, with any fuel that reaches its end: by value, and one behind another
   each-from : (xs : Trees) (fuel at : ℕ) → AllFormed xs → Span s at end (encodes xs) → end ≤ at + fuel
       → (map (bytesIn s) (elementsFrom fuel s end at) ≡ each xs) × Chain at end (elementsFrom fuel s end at)
   unfolding encode Formed each Chain
-  each-from none fuel at f p h = rw (from-end fuel at (omega (arith, p .size))) (refl, omega (arith, p .size))
+  each-from none fuel at f p h = rw (run-end fuel s end at (omega (arith, p .size))) (refl, omega (arith, p .size))
   each-from (more x xs) zero at f p h =
       span-split s at end (encode x) (encodes xs) p
       (λ b q r. absurd (omega (arith, q .size, r .size, tree-long x, tree-some x)))
@@ -55,7 +43,7 @@ module _ (s : List ℕ) (end : ℕ) where
       let m : b ≤ end = omega (arith, r .size) in
       let k = each-from xs fuel b (f .1) r (omega arith) in
       tree-then s x at b end (f .0) q m (r .inside)
-      (λ t c g. rw (from-more fuel at b t c (omega arith) g) (rw (slice-span s at b (encode x) q, k .0), (refl, omega arith, k .1))))
+      (λ t c g. rw (run-more fuel s end at t c (cursor b end) (omega arith) g) (rw (slice-span s at b (encode x) q, k .0), (refl, omega arith, k .1))))
 
 module _ (s : List ℕ) (r : Range) (h : Lies s r) (o : Opaques (bytesIn s r)) where
   ranges : (map (bytesIn s) (elementRanges s r) ≡ each (o .as-trees)) × Chain (r .start) (r .end) (elementRanges s r)

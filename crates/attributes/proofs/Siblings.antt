@@ -8,7 +8,7 @@ use borrow.Author.Tests.{lt-ltb, le-ltb, eq-eqb, ne-eqb}
 use lib.ListN.{length, getD, length-append}
 use lib.Dec.{ltb, eqb}
 use Rattle.der.specs.Choice.{if_then_else_}
-use Rattle.der.specs.Element.{cursor, elementAt, onElement}
+use Rattle.der.specs.Element.{cursor, elementAt}
 use Rattle.der.specs.declared.Fault.{Fault}
 use Rattle.der.specs.declared.Cursor.{Cursor}
 use Rattle.der.specs.declared.Element.{Element}
@@ -17,8 +17,7 @@ use Rattle.der.proofs.Choices.{by-eq}
 use Rattle.der.proofs.Placed.{found as found-at}
 use Rattle.pkcs12.specs.Table.{range, noRange}
 use Rattle.pkcs12.specs.declared.Range.{Range}
-use Rattle.attributes.specs.Elements.{elementsFrom, elementRanges, counts, countedOf, chosenOf}
-use Rattle.attributes.specs.declared.Counted.{Counted}
+use Rattle.attributes.specs.Elements.{elementsFrom, counts, countedOf, chosenOf}
 
 -- one element more: the one that is looked for, or another
 pub chosen-last : (xs : List Range) (i : ℕ) (m : Range) → getD (xs ++ (m ∷ [])) i noRange ≡ chosenOf (length xs) i (getD xs i noRange) m
@@ -32,24 +31,24 @@ chosen-last (x ∷ xs) (suc i) m =
     (λ n. rw (ne-eqb (suc (length xs)) (suc i) (λ e. n (omega arith))))
 
 -- the run of elements from a place on: at the end, before what is no element, and before one
-ended : (fuel : ℕ) (s : List ℕ) (end at : ℕ) → end ≤ at → elementsFrom fuel s end at ≡ []
+pub run-end : (fuel : ℕ) (s : List ℕ) (end at : ℕ) → end ≤ at → elementsFrom fuel s end at ≡ []
 unfolding elementsFrom
-ended zero s end at h = refl
-ended (suc fuel) s end at h = rw (le-ltb at end h)
+run-end zero s end at h = refl
+run-end (suc fuel) s end at h = rw (le-ltb at end h)
 
-broken : (fuel : ℕ) (s : List ℕ) (end at : ℕ) (f : Fault) → elementAt s (cursor at end) ≡ Element.Refused f → elementsFrom fuel s end at ≡ []
+run-broken : (fuel : ℕ) (s : List ℕ) (end at : ℕ) (f : Fault) → elementAt s (cursor at end) ≡ Element.Refused f → elementsFrom fuel s end at ≡ []
 unfolding elementsFrom
-broken zero s end at f e = refl
-broken (suc fuel) s end at f e = rw e (go (ltb at end))
+run-broken zero s end at f e = refl
+run-broken (suc fuel) s end at f e = rw e (go (ltb at end))
   where
     go : (u : Bool) → _≡_ {A = List Range} (if u then [] else []) []
     go true = refl
     go false = refl
 
-one-more : (fuel : ℕ) (s : List ℕ) (end at t : ℕ) (b n : Cursor) → at < end → elementAt s (cursor at end) ≡ Found t b n
+pub run-more : (fuel : ℕ) (s : List ℕ) (end at t : ℕ) (b n : Cursor) → at < end → elementAt s (cursor at end) ≡ Found t b n
     → elementsFrom (suc fuel) s end at ≡ range at (n .at) ∷ elementsFrom fuel s end (n .at)
 unfolding elementsFrom
-one-more fuel s end at t b n h e = rw (lt-ltb at end h, e)
+run-more fuel s end at t b n h e = rw (lt-ltb at end h, e)
 
 module _ (s : List ℕ) (i end start : ℕ) where
   abbrev pub Whole : List Range
@@ -81,11 +80,11 @@ module _ (s : List ℕ) (i end start : ℕ) where
     walking-ends h = all-seen (none-left (g .fuel))
       where
         none-left : (fuel : ℕ) → elementsFrom fuel s end at ≡ []
-        none-left fuel = ended fuel s end at h
+        none-left fuel = run-end fuel s end at h
 
     module _ (h : at < end) (w : Element) (e : w ≡ elementAt s (cursor at end)) where
       pub walking-stops : (f : Fault) → w ≡ Element.Refused f → counts count found ≡ countedOf Whole i
-      walking-stops f q = all-seen (broken (g .fuel) s end at f (sym e ∙ q))
+      walking-stops f q = all-seen (run-broken (g .fuel) s end at f (sym e ∙ q))
 
       module _ (t : ℕ) (b n : Cursor) (q : w ≡ Found t b n) where
         -- the element ends past its own place and within its parent
@@ -111,7 +110,7 @@ module _ (s : List ℕ) (i end start : ℕ) where
                   fuel = fuel;
                   enough = omega (arith, ends-within .0);
                   seen = g .seen ++ (range at (n .at) ∷ []);
-                  rest = r ∙ rw (one-more fuel s end at t b n h (sym e ∙ q), append-assoc);
+                  rest = r ∙ rw (run-more fuel s end at t b n h (sym e ∙ q), append-assoc);
                   counted = rw length-append (omega (arith, g .counted));
                   met = k ∙ rw (g .counted, g .met) (sym (chosen-last (g .seen) i (range at (n .at))));
                   few = omega (arith, ends-within .0, g .few);

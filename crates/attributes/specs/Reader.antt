@@ -4,10 +4,9 @@ use mathlib.Core.List.{List, [], _∷_}
 use Prim.Native.Nat.{ℕ, zero, suc, _+_}
 use lib.Dec.{ltb, eqb}
 use lib.ListN.{length, getD, take, drop, replicate}
-use denote.Ref.{RefT, now}
+use denote.Ref.{RefT}
 use Rattle.der.specs.Choice.{if_then_else_}
 use Rattle.der.specs.Element.{fault}
-use Rattle.der.specs.declared.Fault.{Fault}
 use Rattle.pkcs12.specs.Numbers.{attributeRows, notSound}
 use Rattle.pkcs12.specs.Table.{noAttribute}
 use Rattle.pkcs12.specs.Written.{fileOf, onFile}

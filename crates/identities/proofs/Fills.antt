@@ -9,10 +9,10 @@ use native.Mathlib.Numerals.{add-one}
 use native.Mathlib.Omega.{arith}
 use borrow.Author.Tests.{le-leb, leb-true, ltb-false}
 use lib.Dec.{leb, ltb}
-use lib.ListN.{length, getD, set, take, drop, length-append, length-drop, List·getD-append}
+use lib.ListN.{length, getD, set, drop, length-append, length-drop, List·getD-append}
 use lib.Seq.{drop-cons, getD-at, set-append-seam}
 use Rattle.der.specs.Choice.{if_then_else_}
-use Rattle.der.proofs.Choices.{never, by-test, by-le, by-lt, either}
+use Rattle.der.proofs.Choices.{never, by-test, either}
 use Rattle.pkcs12.specs.Numbers.{safeRows, bagRows, notSound, noRoom}
 use Rattle.pkcs12.specs.Table.{padded, rowsIn, readingOf}
 use Rattle.pkcs12.specs.Checks.{countsFit, rowsTest, keepsRules}

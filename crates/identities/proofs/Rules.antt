@@ -1,12 +1,11 @@
 -- Rules by which `search` follows the definitions of identity rows as the code's own tests decided them (see der's Choices), and bounds.
-use mathlib.Core.Path.{_≡_, refl, sym, _∙_, ap}
+use mathlib.Core.Path.{_≡_, refl, sym, _∙_}
 use mathlib.Core.Bool.{Bool, true, false}
-use mathlib.Core.List.{List, [], _∷_, map}
-use Prim.Native.Nat.{ℕ, zero, suc, _+_, _≤_, _<_}
+use mathlib.Core.List.{List, [], map}
+use Prim.Native.Nat.{ℕ, _+_, _≤_, _<_}
 use native.Mathlib.Omega.{arith}
 use borrow.Author.Tests.{eq-eqb, ne-eqb, lt-ltb, le-ltb, le-leb, lt-leb}
-use lib.ListN.{length, getD, take, length-map, length-take, List·getD-eq-default}
-use Rattle.der.specs.Choice.{if_then_else_}
+use lib.ListN.{length, getD, length-map, length-take, List·getD-eq-default}
 use Rattle.der.specs.Numbers.{octetStringTag}
 use Rattle.der.specs.Element.{cursor, elementAt, expectAt}
 use Rattle.der.specs.declared.Fault.{Fault}
@@ -17,7 +16,6 @@ use Rattle.der.proofs.Placed.{expected, found}
 use Rattle.der.proofs.Choices.{at-lt, at-not-lt}
 use Rattle.pkcs12.specs.Numbers.{notSound, noRoom}
 use Rattle.pkcs12.specs.declared.Written.the-variants.{Length}
-use Rattle.pkcs12.specs.Checks.{both}
 use Rattle.pkcs12.specs.Identifiers.{sameBytes}
 use Rattle.pkcs12.specs.Table.{bytesIn, range, noAttribute}
 use Rattle.pkcs12.specs.declared.Range.{Range}
@@ -35,7 +33,7 @@ use Rattle.attributes.proofs.Rules.{has-no-file, has-file}
 use Rattle.pairing.specs.Pairs.{refusedBy, paired}
 use Rattle.pairing.specs.declared.Paired.{Paired}
 use Rattle.pairing.specs.declared.IdentityRow.{IdentityRow}
-use Rattle.attributes.proofs.First.{counted-length, getD-in, at-most, Looking, look-start, look-found, look-on, look-end}
+use Rattle.attributes.proofs.First.{counted-length, getD-in, Looking, look-start, look-found, look-on, look-end}
 use Rattle.identities.specs.Identities.{localKeyType, anId, noId, attributesOf, isLocalKey, keyRow, idIn, idOf, identityOf, identityAt, identityRows, certificateFor}
 use Rattle.identities.specs.Filling.{fillingAs, refusedFilling, fillingOf}
 use Rattle.identities.specs.declared.Filling.{Filling}

@@ -1,5 +1,6 @@
--- What is proved of pairing: the statements are in `Theorems`.
+-- What is proved of pairing: `Theorems` states it. Below: passes over the rows, rules for the code, the only match, steps of walks.
 pub mod Folds
 pub mod Rules
 pub mod Only
 pub mod Theorems
+pub mod Walks

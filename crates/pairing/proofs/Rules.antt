@@ -1,5 +1,5 @@
 -- Rules by which `search` follows the definitions of pairing as the code's own tests decided them (see der's Choices).
-use mathlib.Core.Path.{_≡_, refl, sym, _∙_}
+use mathlib.Core.Path.{_≡_, sym, _∙_}
 use mathlib.Core.Bool.{Bool, true, false, not}
 use mathlib.Core.List.{List}
 use Prim.Native.Nat.{ℕ}

@@ -4,11 +4,6 @@ use borrow.Author.Needs.{needs}
 use Rattle.attributes.proofs.Runs.{Calling, calling-start, calling-stops, calling-on, calling-ends, first-call}
 use Rattle.attributes.proofs.attribute.Statement.{statement}
 use Rattle.attributes.proofs.attribute.Tie as tie
-use Rattle.attributes.proofs.attribute.Reads as reads
-use Rattle.attributes.proofs.attribute.Lts as lts
-use Rattle.attributes.proofs.Position.next.Reads as next-reads
-use Rattle.attributes.proofs.is_last.Reads as is-last-reads
-use Rattle.attributes.proofs.opening.Reads as opening-reads
 
 abbrev Inv-loop : tie.InvT-loop
 Inv-loop file bag i position₀ left₀ position left = Calling i position₀ left position

@@ -1,10 +1,8 @@
-use borrow.Author.Needs.{needs}
+-- Each way out is the definition's, by the test.
 use Rattle.der.proofs.Choices.{choices}
 use Rattle.attributes.specs.Elements.{chosenOf}
 use Rattle.attributes.proofs.chosen.Statement.{statement}
 use Rattle.attributes.proofs.chosen.Tie as tie
-use Rattle.attributes.proofs.chosen.Reads as reads
-use Rattle.attributes.proofs.chosen.Lts as lts
 
 returns : tie.Need-returns
 unfolding chosenOf

@@ -6,10 +6,6 @@ use Rattle.attributes.specs.Elements.{elementRanges}
 use Rattle.attributes.proofs.Siblings.{Walking, walking-start, walking-ends, walking-stops, stop-fits, walking-less, walking-on}
 use Rattle.attributes.proofs.element.Statement.{statement}
 use Rattle.attributes.proofs.element.Tie as tie
-use Rattle.attributes.proofs.element.Reads as reads
-use Rattle.attributes.proofs.element.Lts as lts
-use Rattle.attributes.proofs.chosen.Reads as chosen-reads
-use Rattle.der.proofs.Cursor.element.Reads as element-reads
 
 abbrev Inv-loop : tie.InvT-loop
 Inv-loop bytes i end at₀ count₀ found₀ at count found = Walking bytes i end at₀ at count found

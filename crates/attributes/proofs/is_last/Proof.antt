@@ -1,9 +1,8 @@
+-- By what was given.
 use Rattle.attributes.specs.Reader.{isLast}
 use borrow.Author.Needs.{needs}
 use Rattle.attributes.proofs.is_last.Statement.{statement}
 use Rattle.attributes.proofs.is_last.Tie as tie
-use Rattle.attributes.proofs.is_last.Reads as reads
-use Rattle.attributes.proofs.is_last.Lts as lts
 
 enum-told : tie.Need-enum-told
 enum-told c = search needs

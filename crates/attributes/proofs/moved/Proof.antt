@@ -1,12 +1,9 @@
+-- A row was found, or none is left (First).
 use Rattle.attributes.proofs.First.{at-most, moved-on, moved-off}
 use native.Mathlib.Omega.{arith}
 use borrow.Author.Needs.{needs}
 use Rattle.attributes.proofs.moved.Statement.{statement}
 use Rattle.attributes.proofs.moved.Tie as tie
-use Rattle.attributes.proofs.moved.Reads as reads
-use Rattle.attributes.proofs.moved.Lts as lts
-use Rattle.attributes.proofs.next_row.Reads as next-row-reads
-use Rattle.sizes.proofs.rows.fewer.Reads as fewer-reads
 
 next-row-requires : tie.Need-next-row-requires
 next-row-requires c κs = search needs

@@ -1,12 +1,10 @@
+-- The loop looks for the next row that names the bag (First).
 use Prim.Native.Nat.{_-_, _≤_}
 use Rattle.pkcs12.specs.Numbers.{attributeRows}
 use borrow.Author.Needs.{needs}
 use Rattle.attributes.proofs.First.{at-most, Next, next-start, next-found, next-on, next-end}
 use Rattle.attributes.proofs.next_row.Statement.{statement}
 use Rattle.attributes.proofs.next_row.Tie as tie
-use Rattle.attributes.proofs.next_row.Reads as reads
-use Rattle.attributes.proofs.next_row.Lts as lts
-use Rattle.sizes.proofs.rows.fewer.Reads as fewer-reads
 
 abbrev Inv-loop : tie.InvT-loop
 Inv-loop p end bag i₀ i = Next p end i × (end ≤ attributeRows)

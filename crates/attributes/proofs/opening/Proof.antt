@@ -1,11 +1,8 @@
+-- The table is not sound, the row isn't there, or it is.
 use Rattle.attributes.proofs.Rules.{open-unsound, open-missing, open-ready}
 use borrow.Author.Needs.{needs}
 use Rattle.attributes.proofs.opening.Statement.{statement}
 use Rattle.attributes.proofs.opening.Tie as tie
-use Rattle.attributes.proofs.opening.Reads as reads
-use Rattle.attributes.proofs.opening.Lts as lts
-use Rattle.attributes.proofs.refused.Reads as refused-reads
-use Rattle.sound.proofs.measure.Reads as measure-reads
 
 measure-requires : tie.Need-measure-requires
 measure-requires c κs = search needs

@@ -1,10 +1,8 @@
-use borrow.Author.Needs.{needs}
+-- Every field is the definition's.
 use Rattle.der.proofs.Choices.{choices}
 use Rattle.attributes.specs.Reader.{refusedBy}
 use Rattle.attributes.proofs.refused.Statement.{statement}
 use Rattle.attributes.proofs.refused.Tie as tie
-use Rattle.attributes.proofs.refused.Reads as reads
-use Rattle.attributes.proofs.refused.Lts as lts
 
 returns : tie.Need-returns
 unfolding refusedBy

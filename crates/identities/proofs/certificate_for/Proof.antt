@@ -3,11 +3,6 @@ use Rattle.identities.proofs.Rules.{certificate-unsound, certificate-pa
 use borrow.Author.Needs.{needs}
 use Rattle.identities.proofs.certificate_for.Statement.{statement}
 use Rattle.identities.proofs.certificate_for.Tie as tie
-use Rattle.identities.proofs.certificate_for.Reads as reads
-use Rattle.identities.proofs.certificate_for.Lts as lts
-use Rattle.identities.proofs.rows_of.Reads as rows-of-reads
-use Rattle.pairing.proofs.pair_all.Reads as pair-all-reads
-use Rattle.sound.proofs.measure.Reads as measure-reads
 
 measure-requires : tie.Need-measure-requires
 measure-requires c κs = search needs

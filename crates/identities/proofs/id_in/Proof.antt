@@ -4,9 +4,6 @@ use Rattle.identities.proofs.Rules.{body-fits, id-refused, id-only, id-
 use borrow.Author.Needs.{needs}
 use Rattle.identities.proofs.id_in.Statement.{statement}
 use Rattle.identities.proofs.id_in.Tie as tie
-use Rattle.identities.proofs.id_in.Reads as reads
-use Rattle.identities.proofs.id_in.Lts as lts
-use Rattle.der.proofs.Cursor.octet_string.Reads as octet-string-reads
 
 cast-at : tie.Need-cast-at
 cast-at c = search needs

@@ -5,11 +5,6 @@ use Rattle.identities.proofs.Rules.{id-found, id-none}
 use borrow.Author.Needs.{needs}
 use Rattle.identities.proofs.id_of.Statement.{statement}
 use Rattle.identities.proofs.id_of.Tie as tie
-use Rattle.identities.proofs.id_of.Reads as reads
-use Rattle.identities.proofs.id_of.Lts as lts
-use Rattle.identities.proofs.id_in.Reads as id-in-reads
-use Rattle.identities.proofs.key_row.Reads as key-row-reads
-use Rattle.sizes.proofs.rows.fewer.Reads as fewer-reads
 
 key-row-requires : tie.Need-key-row-requires
 key-row-requires c κs = search needs

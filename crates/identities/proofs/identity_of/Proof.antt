@@ -3,10 +3,6 @@ use Rattle.identities.proofs.Rules.{opened-refused, opened-ready, opene
 use borrow.Author.Needs.{needs}
 use Rattle.identities.proofs.identity_of.Statement.{statement}
 use Rattle.identities.proofs.identity_of.Tie as tie
-use Rattle.identities.proofs.identity_of.Reads as reads
-use Rattle.identities.proofs.identity_of.Lts as lts
-use Rattle.attributes.proofs.opening.Reads as opening-reads
-use Rattle.identities.proofs.row_of.Reads as row-of-reads
 
 opening-requires : tie.Need-opening-requires
 opening-requires c κs = search needs

@@ -4,10 +4,6 @@ use Rattle.identities.proofs.Rules.{local-named, local-other}
 use borrow.Author.Needs.{needs}
 use Rattle.identities.proofs.is_local_key.Statement.{statement}
 use Rattle.identities.proofs.is_local_key.Tie as tie
-use Rattle.identities.proofs.is_local_key.Reads as reads
-use Rattle.identities.proofs.is_local_key.Lts as lts
-use Rattle.pkcs12.proofs.Range.part.Reads as part-reads
-use Rattle.pkcs12.proofs.same.Reads as same-reads
 
 cast-owner : tie.Need-cast-owner
 cast-owner c = search needs

@@ -6,10 +6,6 @@ use Rattle.attributes.proofs.First.{at-most}
 use Rattle.identities.proofs.Rules.{Keys, keys-start, keys-found, keys-on, keys-end}
 use Rattle.identities.proofs.key_row.Statement.{statement}
 use Rattle.identities.proofs.key_row.Tie as tie
-use Rattle.identities.proofs.key_row.Reads as reads
-use Rattle.identities.proofs.key_row.Lts as lts
-use Rattle.identities.proofs.is_local_key.Reads as is-local-key-reads
-use Rattle.sizes.proofs.rows.fewer.Reads as fewer-reads
 
 abbrev Inv-loop : tie.InvT-loop
 Inv-loop bytes bag table end i₀ i = Keys table bytes bag end i × (end ≤ attributeRows)

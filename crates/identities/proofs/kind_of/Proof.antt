@@ -1,3 +1,4 @@
+-- A row past the array is none.
 use Rattle.pkcs12.specs.Table.{noBag}
 use mathlib.Core.Path.{ap}
 use Rattle.pkcs12.specs.declared.BagKind.{BagKind}
@@ -7,8 +8,6 @@ use Rattle.identities.proofs.Rules.{past-array}
 use borrow.Author.Needs.{needs}
 use Rattle.identities.proofs.kind_of.Statement.{statement}
 use Rattle.identities.proofs.kind_of.Tie as tie
-use Rattle.identities.proofs.kind_of.Reads as reads
-use Rattle.identities.proofs.kind_of.Lts as lts
 
 mul-row : tie.Need-mul-row
 mul-row c = search needs

@@ -3,11 +3,6 @@ use Rattle.identities.proofs.Rules.{filling-unsound, filling-short, fil
 use borrow.Author.Needs.{needs}
 use Rattle.identities.proofs.prepared.Statement.{statement}
 use Rattle.identities.proofs.prepared.Tie as tie
-use Rattle.identities.proofs.prepared.Reads as reads
-use Rattle.identities.proofs.prepared.Lts as lts
-use Rattle.identities.proofs.refused.Reads as refused-reads
-use Rattle.identities.proofs.rows_of.Reads as rows-of-reads
-use Rattle.sound.proofs.measure.Reads as measure-reads
 
 measure-requires : tie.Need-measure-requires
 measure-requires c κs = search needs

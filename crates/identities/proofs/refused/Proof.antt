@@ -1,11 +1,8 @@
 -- No row is stored.
-use borrow.Author.Needs.{needs}
 use Rattle.der.proofs.Choices.{choices}
 use Rattle.identities.specs.Filling.{refusedFilling}
 use Rattle.identities.proofs.refused.Statement.{statement}
 use Rattle.identities.proofs.refused.Tie as tie
-use Rattle.identities.proofs.refused.Reads as reads
-use Rattle.identities.proofs.refused.Lts as lts
 
 returns : tie.Need-returns
 unfolding refusedFilling

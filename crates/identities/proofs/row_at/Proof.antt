@@ -1,11 +1,10 @@
+-- A row past the array is none.
 use Rattle.pairing.specs.Pairs.{noIdentity}
 -- A row past the array is none.
 use Rattle.identities.proofs.Rules.{past-array}
 use borrow.Author.Needs.{needs}
 use Rattle.identities.proofs.row_at.Statement.{statement}
 use Rattle.identities.proofs.row_at.Tie as tie
-use Rattle.identities.proofs.row_at.Reads as reads
-use Rattle.identities.proofs.row_at.Lts as lts
 
 mul-result : tie.Need-mul-result
 mul-result c = search needs

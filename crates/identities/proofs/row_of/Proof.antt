@@ -3,10 +3,6 @@ use Rattle.identities.specs.Identities.{identityOf}
 use borrow.Author.Needs.{needs}
 use Rattle.identities.proofs.row_of.Statement.{statement}
 use Rattle.identities.proofs.row_of.Tie as tie
-use Rattle.identities.proofs.row_of.Reads as reads
-use Rattle.identities.proofs.row_of.Lts as lts
-use Rattle.identities.proofs.id_of.Reads as id-of-reads
-use Rattle.identities.proofs.kind_of.Reads as kind-of-reads
 
 kind-of-requires : tie.Need-kind-of-requires
 kind-of-requires c κs = search needs

@@ -7,10 +7,6 @@ use Rattle.attributes.proofs.First.{at-most}
 use Rattle.identities.proofs.Fills.{Collecting, collect-start, collect-on, collect-end}
 use Rattle.identities.proofs.rows_of.Statement.{statement}
 use Rattle.identities.proofs.rows_of.Tie as tie
-use Rattle.identities.proofs.rows_of.Reads as reads
-use Rattle.identities.proofs.rows_of.Lts as lts
-use Rattle.identities.proofs.row_of.Reads as row-of-reads
-use Rattle.sizes.proofs.rows.fewer.Reads as fewer-reads
 
 abbrev Inv-loop : tie.InvT-loop
 Inv-loop table bytes end rows₀ i₀ rows i = Collecting table bytes end rows i

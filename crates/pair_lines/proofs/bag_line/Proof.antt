@@ -3,11 +3,6 @@ use Rattle.pair_lines.proofs.Counting.{is-line, no-line}
 use borrow.Author.Needs.{needs}
 use Rattle.pair_lines.proofs.bag_line.Statement.{statement}
 use Rattle.pair_lines.proofs.bag_line.Tie as tie
-use Rattle.pair_lines.proofs.bag_line.Reads as reads
-use Rattle.pair_lines.proofs.bag_line.Lts as lts
-use Rattle.identities.proofs.certificate_for.Reads as certificate-for-reads
-use Rattle.pair_lines.proofs.line.Reads as line-reads
-use Rattle.pairing.proofs.is_key.Reads as is-key-reads
 
 is-key-requires : tie.Need-is-key-requires
 is-key-requires c κs = search needs

@@ -5,10 +5,6 @@ use borrow.Author.Needs.{needs}
 use Rattle.pair_lines.proofs.Counting.{Counting, count-start, count-fits, count-on, count-end}
 use Rattle.pair_lines.proofs.show.Statement.{statement}
 use Rattle.pair_lines.proofs.show.Tie as tie
-use Rattle.pair_lines.proofs.show.Reads as reads
-use Rattle.pair_lines.proofs.show.Lts as lts
-use Rattle.pair_lines.proofs.bag_line.Reads as bag-line-reads
-use Rattle.sizes.proofs.rows.fewer.Reads as fewer-reads
 
 abbrev Inv-loop : tie.InvT-loop
 Inv-loop file table end lines₀ i₀ lines i = Counting table end lines i

@@ -1,11 +1,9 @@
+-- Every field is the definition's.
 use Rattle.pairing.specs.Search.{begun}
 use Rattle.pairing.proofs.Rules.{pairs}
 use Rattle.pairing.proofs.begin.Statement.{statement}
 use Rattle.pairing.proofs.begin.Tie as tie
-use Rattle.pairing.proofs.begin.Reads as reads
-use Rattle.pairing.proofs.begin.Lts as lts
 
--- src/lib.rt:165:1
 returns : tie.Need-returns
 unfolding begun
 returns c = search pairs depth 14

@@ -1,31 +1,25 @@
+-- Each way out is the definition's, by the tests on the way.
 use Rattle.pairing.specs.Pairs.{idLies}
 use Rattle.pkcs12.specs.Checks.{lies}
 use Rattle.pairing.proofs.Rules.{pairs}
 use borrow.Author.Needs.{needs}
 use Rattle.pairing.proofs.id_lies.Statement.{statement}
 use Rattle.pairing.proofs.id_lies.Tie as tie
-use Rattle.pairing.proofs.id_lies.Reads as reads
-use Rattle.pairing.proofs.id_lies.Lts as lts
 
--- src/lib.rt:72:9
 returns : tie.Need-returns
 unfolding idLies lies
 returns c = search pairs depth 14
 
--- src/lib.rt:75:17
 cast-start : tie.Need-cast-start
 cast-start c = search needs
 
--- src/lib.rt:76:15
 cast-end : tie.Need-cast-end
 cast-end c = search needs
 
--- src/lib.rt:78:9
 returns-2 : tie.Need-returns-2
 unfolding idLies lies
 returns-2 c = search pairs depth 14
 
--- src/lib.rt:68:1
 returns-3 : tie.Need-returns-3
 unfolding idLies lies
 returns-3 c = search pairs depth 14

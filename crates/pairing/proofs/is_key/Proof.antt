@@ -1,70 +1,55 @@
+-- By the kind.
 use Rattle.pairing.specs.Pairs.{isKey}
 use Rattle.pairing.proofs.Rules.{pairs}
 use borrow.Author.Needs.{needs}
 use Rattle.pairing.proofs.is_key.Statement.{statement}
 use Rattle.pairing.proofs.is_key.Tie as tie
-use Rattle.pairing.proofs.is_key.Reads as reads
-use Rattle.pairing.proofs.is_key.Lts as lts
 
--- src/lib.rt:53:26
 enum-told : tie.Need-enum-told
 enum-told c = search needs
 
--- src/lib.rt:54:25
 enum-told-2 : tie.Need-enum-told-2
 enum-told-2 c = search needs
 
--- src/lib.rt:55:33
 enum-told-3 : tie.Need-enum-told-3
 enum-told-3 c = search needs
 
--- src/lib.rt:56:33
 enum-told-4 : tie.Need-enum-told-4
 enum-told-4 c = search needs
 
--- src/lib.rt:57:25
 enum-told-5 : tie.Need-enum-told-5
 enum-told-5 c = search needs
 
--- src/lib.rt:58:28
 enum-told-6 : tie.Need-enum-told-6
 enum-told-6 c = search needs
 
--- src/lib.rt:59:28
 enum-told-7 : tie.Need-enum-told-7
 enum-told-7 c = search needs
 
--- src/lib.rt:49:1
 returns : tie.Need-returns
 unfolding isKey
 returns c = search pairs depth 14
 
--- src/lib.rt:49:1
 returns-2 : tie.Need-returns-2
 unfolding isKey
 returns-2 c = search pairs depth 14
 
--- src/lib.rt:49:1
 returns-3 : tie.Need-returns-3
 unfolding isKey
 returns-3 c = search pairs depth 14
 
--- src/lib.rt:49:1
 returns-4 : tie.Need-returns-4
 unfolding isKey
 returns-4 c = search pairs depth 14
 
--- src/lib.rt:49:1
 returns-5 : tie.Need-returns-5
 unfolding isKey
 returns-5 c = search pairs depth 14
 
--- src/lib.rt:49:1
 returns-6 : tie.Need-returns-6
 unfolding isKey
 returns-6 c = search pairs depth 14
 
--- src/lib.rt:49:1
 returns-7 : tie.Need-returns-7
 unfolding isKey
 returns-7 c = search pairs depth 14

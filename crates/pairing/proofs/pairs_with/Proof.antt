@@ -1,27 +1,20 @@
+-- Each way out is the definition's, by what the callees told.
 use Rattle.pairing.specs.Pairs.{pairsWith}
 use Rattle.pairing.proofs.Rules.{pairs}
 use borrow.Author.Needs.{needs}
 use Rattle.pairing.proofs.pairs_with.Statement.{statement}
 use Rattle.pairing.proofs.pairs_with.Tie as tie
-use Rattle.pairing.proofs.pairs_with.Reads as reads
-use Rattle.pairing.proofs.pairs_with.Lts as lts
-use Rattle.pairing.proofs.is_certificate.Reads as is-certificate-reads
-use Rattle.pairing.proofs.same_id.Reads as same-id-reads
 
--- src/lib.rt:103:8
 is-certificate-requires : tie.Need-is-certificate-requires
 is-certificate-requires c κs = search needs
 
--- src/lib.rt:104:9
 same-id-requires : tie.Need-same-id-requires
 same-id-requires c κs = search needs
 
--- src/lib.rt:104:9
 returns : tie.Need-returns
 unfolding pairsWith
 returns c = search pairs depth 14
 
--- src/lib.rt:99:1
 returns-2 : tie.Need-returns-2
 unfolding pairsWith
 returns-2 c = search pairs depth 14

@@ -1,36 +1,27 @@
+-- Each way out is the definition's, by the tests on the way.
 use Rattle.pairing.specs.Pairs.{sameId}
 use Rattle.pairing.proofs.Rules.{pairs}
 use borrow.Author.Needs.{needs}
 use Rattle.pairing.proofs.same_id.Statement.{statement}
 use Rattle.pairing.proofs.same_id.Tie as tie
-use Rattle.pairing.proofs.same_id.Reads as reads
-use Rattle.pairing.proofs.same_id.Lts as lts
-use Rattle.pkcs12.proofs.Range.part.Reads as part-reads
-use Rattle.pkcs12.proofs.same.Reads as same-reads
 
--- src/lib.rt:88:9
 returns : tie.Need-returns
 unfolding sameId
 returns c = search pairs depth 14
 
--- src/lib.rt:91:9
 returns-2 : tie.Need-returns-2
 unfolding sameId
 returns-2 c = search pairs depth 14
 
--- src/lib.rt:95:18
 part-requires : tie.Need-part-requires
 part-requires c κs = search needs
 
--- src/lib.rt:95:36
 part-requires-2 : tie.Need-part-requires-2
 part-requires-2 c κs = search needs
 
--- src/lib.rt:95:5
 same-requires : tie.Need-same-requires
 same-requires c κs = search needs
 
--- src/lib.rt:84:1
 returns-3 : tie.Need-returns-3
 unfolding sameId
 returns-3 c = search pairs depth 14

@@ -1,10 +1,8 @@
+-- By what the last call gave.
 use Rattle.attributes.specs.Reader.{nextOf}
 use borrow.Author.Needs.{needs}
 use Rattle.attributes.proofs.Position.next.Statement.{statement}
 use Rattle.attributes.proofs.Position.next.Tie as tie
-use Rattle.attributes.proofs.Position.next.Reads as reads
-use Rattle.attributes.proofs.Position.next.Lts as lts
-use Rattle.attributes.proofs.moved.Reads as moved-reads
 
 enum-told : tie.Need-enum-told
 enum-told c = search needs
