@@ -3,7 +3,6 @@ use Rattle.pkcs12.specs.Table.{noBag}
 use mathlib.Core.Path.{ap}
 use Rattle.pkcs12.specs.declared.BagKind.{BagKind}
 use Rattle.pkcs12.specs.declared.BagRow.{BagRow}
--- A row past the array is none.
 use Rattle.identities.proofs.Rules.{past-array}
 use borrow.Author.Needs.{needs}
 use Rattle.identities.proofs.kind_of.Statement.{statement}

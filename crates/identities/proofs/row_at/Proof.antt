@@ -1,6 +1,5 @@
 -- A row past the array is none.
 use Rattle.pairing.specs.Pairs.{noIdentity}
--- A row past the array is none.
 use Rattle.identities.proofs.Rules.{past-array}
 use borrow.Author.Needs.{needs}
 use Rattle.identities.proofs.row_at.Statement.{statement}
