@@ -13,6 +13,7 @@ import tempfile
 from collections import Counter
 
 import p12_make
+import p12_pairs_make
 import p12_reader
 import p12_tools
 import p12_vectors
@@ -103,7 +104,7 @@ def main(arguments):
              for name in arguments]
     # damaged files have no answer of their own: of those that are accepted, the places are compared
     files += [(name, data, "damaged") for name, data
-              in p12_make.damaged(1, 200) + p12_make.mended(1, 200)]
+              in p12_make.damaged(1, 200) + p12_make.mended(1, 200) + list(p12_pairs_make.damaged(1, 2))]
     stored = [path.read_bytes() for path in sorted(p12_tools.FILES.glob("source-*.p12"))]
     stored += [data for _, data, _ in p12_tools.stored()]
     files += [("stored_damaged_%d" % n, data, "damaged")

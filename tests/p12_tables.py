@@ -119,7 +119,8 @@ def places(parts):
 
 def of_files():
     """Tables that reading gives, with room that is exact, one short and larger; and with the parts elsewhere in the bytes."""
-    files = [("file " + name, data) for name, data in MADE.items()]
+    # the files for pairs have no other parts than the rest, and the output has to stay short
+    files = [("file " + name, data) for name, data in MADE.items() if not name.startswith("pairs_")]
     files += [("file " + path.stem, path.read_bytes()) for path in sorted(p12_tools.FILES.glob("*.p12"))]
     for name, data in files:
         if len(data) > LONGEST or isinstance(p12_reader.read(data), p12_reader.Refusal):

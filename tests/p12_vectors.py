@@ -1,7 +1,7 @@
 #!/usr/bin/env python3
 """Writes crates/vectors/stdin, a frame for each file, and crates/vectors/stdout, the listings that p12_reader.py gives, each of an
-accepted file with the line that it is written back the same; crates/list/stdin and stdout, M and its listing; and crates/rewrite/stdin
-and stdout, a file of a common tool, twice.
+accepted file with the pairs that p12_pairs.py gives and the line that it is written back the same; crates/list/stdin and stdout, M and its
+listing; crates/rewrite/stdin and stdout, a file of a common tool, twice; and crates/pairs/stdin and stdout, a file and its pairs.
 
     p12_vectors.py                       # writes these files
     p12_vectors.py --check               # says whether they are what the files give
@@ -16,6 +16,8 @@ import sys
 from collections import Counter
 
 import p12_make
+import p12_pairs
+import p12_pairs_make
 import p12_reader
 import p12_sources
 import p12_tools
@@ -24,7 +26,9 @@ ROOT = pathlib.Path(__file__).resolve().parent.parent
 FILES = p12_tools.FILES
 SEED, DAMAGED = 1, 200  # as many damaged and as many mended ones
 EACH = 6  # damaged copies of each stored file
+EACH_PAIRED = 2  # damaged copies of each file for pairs
 REWRITTEN = "openssl-default"  # the tool's file that is read and written back by itself
+PAIRED = "pairs_all"  # the made file whose pairs are printed by themselves
 
 
 def keep_sources(documents):
@@ -52,22 +56,25 @@ def kinds():
     tools = [data for _, data, _ in p12_tools.stored()]
     yield "listed in the documents", sources
     yield "M and its variants", bench + [m[:n] for n in range(1, len(m) - 1)]
-    yield "made", [data for name, data in made if not name.startswith("bench_")]
+    yield "made", [data for name, data in made if not name.startswith(("bench_", "pairs_"))]
     yield "of common tools", tools
     yield "damaged", [data for _, data in p12_make.damaged(SEED, DAMAGED)]
     yield "damaged with lengths mended", [data for _, data in p12_make.mended(SEED, DAMAGED)]
     yield "of documents and tools, damaged", list(changed(sources + tools))
+    yield "made for pairs", [data for name, data in made if name.startswith("pairs_")]
+    yield "made for pairs, damaged", [data for _, data in p12_pairs_make.damaged(SEED, EACH_PAIRED)]
 
 
-def lines(result):
+def lines(data, result):
     """What `vectors` prints of a file. Reading and writing undo each other, so an accepted one comes back as it was."""
     refused = isinstance(result, p12_reader.Refusal)
-    return p12_reader.listing(result) + ("" if refused else "written back, the same\n")
+    return p12_reader.listing(result) + ("" if refused else p12_pairs.pairs(data, result) + "written back, the same\n")
 
 
 def stored(frames, listings):
     """(the path below crates/, its bytes) for each stored file"""
-    m = dict(p12_make.files())["bench_a"]
+    made = dict(p12_make.files())
+    m, paired = made["bench_a"], made[PAIRED]
     tool = (FILES / (REWRITTEN + ".p12")).read_bytes()
     yield "vectors/stdin", b"".join(frames)
     yield "vectors/stdout", "".join(listings).encode()
@@ -75,6 +82,8 @@ def stored(frames, listings):
     yield "list/stdout", p12_reader.listing(p12_reader.read(m)).encode()
     yield "rewrite/stdin", tool
     yield "rewrite/stdout", tool
+    yield "pairs/stdin", paired
+    yield "pairs/stdout", p12_pairs.pairs(paired, p12_reader.read(paired)).encode()
 
 
 def main(arguments):
@@ -87,13 +96,14 @@ def main(arguments):
             result = p12_reader.read(data)
             answers[result.number if isinstance(result, p12_reader.Refusal) else "accepted"] += 1
             frames.append(len(data).to_bytes(4, "big") + data)
-            listings.append(lines(result))
+            listings.append(lines(data, result))
     differs = 0
     for name, data in stored(frames, listings):
         path = ROOT / "crates" / name
         if arguments == ["--check"]:
             differs += path.read_bytes() != data
         else:
+            path.parent.mkdir(exist_ok=True)
             path.write_bytes(data)
     print("files: %d, accepted: %d" % (len(frames), answers["accepted"]))
     print("refused: " + ", ".join("%d: %d" % (n, answers[n]) for n in range(1, 10)))

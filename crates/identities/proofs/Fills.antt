@@ -134,7 +134,7 @@ bags-fit t s f =
 
 module _ (t : Table) (s : List ℕ) (out : List IdentityRow) where
   -- what holds of each outcome holds of the one that filling has
-  by-filling : (P : Filling → Filled → Type 0)
+  pub by-filling : (P : Filling → Filled → Type 0)
       → ((n : ℕ) → P (refusedFilling n) (refusal n out))
       → (t .«bag_count» ≤ length out → t .«bag_count» ≤ bagRows → P (fillingAs (Length (t .«bag_count»)) (t .«bag_count») (identityRows t s)) (placed (identitiesOf t s) out))
       → P (fillingOf t s (length out)) (fillOf t s out)
