@@ -3,30 +3,24 @@ use mathlib.Core.Bool.{Bool, true, false}
 use mathlib.Core.Logic.{_↔_}
 use mathlib.Core.Path.{_≡_, refl, sym, _∙_, ap}
 use mathlib.Core.List.{List, [], _∷_, map}
-use mathlib.Core.Option.{Option, some}
-use mathlib.Core.Option as option
 use Prim.Native.Nat.{ℕ, zero, suc, _+_, _≤_, _<_}
 use native.Mathlib.Omega.{arith}
-use lib.Dec.{ltb}
-use lib.ListN.{length, getD, take, length-map, length-take, List·getD-map}
-use Rattle.der.specs.Choice.{if_then_else_}
+use lib.ListN.{length, getD, length-map, length-take, List·getD-map}
 use Rattle.der.specs.Element.{fault, wholeOf}
 use Rattle.der.specs.Span.{Bytes}
 use Rattle.der.specs.declared.Fault.{Fault}
 use Rattle.der.proofs.Choices.{never, by-lt, by-eq, either}
 use Rattle.der.proofs.Spans.{span-whole, span-same}
 use Rattle.pkcs12.specs.Numbers.{notSound}
-use Rattle.pkcs12.specs.Values.{BagValue, AttributeValue, Values, bagsOfSafes, attributesOfSafes, rowsOf}
+use Rattle.pkcs12.specs.Values.{bagsOfSafes}
 use Rattle.pkcs12.specs.Valid.{Opaques, bagsInSafes}
-use Rattle.pkcs12.specs.Table.{noAttribute, bytesIn, bagShown, attributeShown, shown, rowsIn, valuesOf, readingOf}
+use Rattle.pkcs12.specs.Table.{noAttribute, bytesIn, rowsIn}
 use Rattle.pkcs12.specs.Accepted.{Each}
 use Rattle.pkcs12.specs.Sound.{Lies, Sound}
 use Rattle.pkcs12.specs.Checks.{both, all, countsFit, allOpaque, namesType, lies, holdsAll, safeTest, bagTest, attributeTest, macTest, rowsTest, keepsRules}
-use Rattle.pkcs12.specs.Written.{fileOf, onFile}
 use Rattle.pkcs12.specs.declared.AttributeRow.{AttributeRow}
 use Rattle.pkcs12.specs.declared.Table.{Table}
-use Rattle.pkcs12.proofs.Theorems.{file-iff-sound, reading-has-rows}
-use Rattle.pkcs12.proofs.Checked.{part-bytes, sound-keeps, no-file-iff}
+use Rattle.pkcs12.proofs.Checked.{part-bytes, sound-keeps}
 use Rattle.pkcs12.proofs.Parents.{by-elements}
 use Rattle.attributes.specs.Reader.{noRow, position, refusedBy, openingOf, nextOf, itemAfter}
 use Rattle.attributes.specs.Own.{attributesOf, ownRows, setInSafes, listed, noValue, Gives}
@@ -35,7 +29,8 @@ use Rattle.attributes.specs.declared.Item.the-variants.{Ready, Done}
 use Rattle.attributes.specs.declared.Position.{Position}
 use Rattle.attributes.proofs.First.{getD-in}
 use Rattle.attributes.proofs.Runs as runs
-use Rattle.attributes.proofs.Sets.{ownIn, shownBy, shown-own, own-safes, safes-long}
+use Rattle.attributes.proofs.Shown.{by-file, shown-bags, shown-set}
+use Rattle.attributes.proofs.Sets.{shownBy, safes-long}
 
 -- ---- opening
 
@@ -58,12 +53,7 @@ module _ (t : Table) (s : List ℕ) (n : ℕ) where
       → (Sound t s → n < t .«bag_count» → P (opened t n))
       → P (openingOf t s n)
   unfolding openingOf
-  by-opening P b p q r = go (fileOf t s) (no-file-iff t s b .0) (λ f e. file-iff-sound t s b f .0 e .0)
-    where
-      go : (u : Option (List ℕ)) → (u ≡ option.none → Sound t s → ⊥) → ((f : List ℕ) → u ≡ some f → Sound t s)
-          → P (onFile u (refusedBy notSound) (λ f. if ltb n (t .«bag_count») then opened t n else refusedBy noRow))
-      go option.none h k = p (h refl)
-      go (some f) h k = by-lt P _ _ n (t .«bag_count») (r (k f refl)) (q (k f refl))
+  by-opening P b p q r = by-file P t s b _ _ p (λ o f. by-lt P _ _ n (t .«bag_count») (r o) (q o))
 
   pub refused-11 : Bytes s → openingOf t s n .item ≡ Item.Refused (fault notSound 0) ↔ (Sound t s → ⊥)
   unfolding refusedBy
@@ -138,23 +128,10 @@ module _ (t : Table) (s : List ℕ) (n : ℕ) (b : Bytes s) (o : Sound t s) (h :
       rw (← q) (each-at (λ x. x .bag ≡ n) (ownRows n (attributesOf t)) i noAttribute (own-name n (attributesOf t)) k))
       (λ k. let z : _≡_ {A = ℕ} 0 1 = cc (rows-in-turn i .1 k) in absurd (omega arith))
 
-  -- the rows show the attributes of the bag's set
-  shown-attributes : attributesOfSafes 0 (o .reading .safes) ≡ map (attributeShown s) (attributesOf t)
-  unfolding readingOf rowsOf valuesOf shown rowsIn
-  shown-attributes = ap {B = List AttributeValue} (λ (v : Values). v .attributes) (reading-has-rows (valuesOf t s) (o .reading) (o .shows))
-
-  shown-set : listed (setInSafes n (o .reading .safes)) ≡ map (shownBy s) (ownRows n (attributesOf t))
-  shown-set = sym (own-safes n 0 n (o .reading .safes) (omega arith)) ∙ ap (ownIn n) shown-attributes ∙ sym (shown-own s n (attributesOf t))
-
   pub gives-bag : Gives s (openingOf t s n) (listed (setInSafes n (o .reading .safes)))
-  gives-bag = rw shown-set (gives s (openingOf t s n) (ownRows n (attributesOf t)) rows-in-turn)
+  gives-bag = rw (shown-set t s o n) (gives s (openingOf t s n) (ownRows n (attributesOf t)) rows-in-turn)
 
 -- ---- the rows of a sound table
-
--- the bag rows show the bags of the reading
-shown-bags : (t : Table) (s : List ℕ) (o : Sound t s) → bagsOfSafes 0 0 (o .reading .safes) ≡ map (bagShown s) (take (t .«bag_count») (t .bags))
-unfolding readingOf rowsOf valuesOf shown rowsIn
-shown-bags t s o = ap {B = List BagValue} (λ (v : Values). v .bags) (reading-has-rows (valuesOf t s) (o .reading) (o .shows))
 
 -- a counted bag row, if the array has that many, is a bag of the reading
 pub bag-in-reading : (t : Table) (s : List ℕ) (n : ℕ) (o : Sound t s) → n < t .«bag_count» → t .«bag_count» ≤ length (t .bags)

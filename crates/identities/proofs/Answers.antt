@@ -2,8 +2,6 @@
 use mathlib.Core.Logic.{_↔_}
 use mathlib.Core.Path.{_≡_, refl, sym, _∙_, ap}
 use mathlib.Core.List.{List, _++_}
-use mathlib.Core.Option.{Option, some}
-use mathlib.Core.Option as option
 use Prim.Native.Nat.{ℕ, _+_, _-_, _≤_, _<_}
 use native.Mathlib.Omega.{arith}
 use borrow.Author.Tests.{le-leb}
@@ -15,29 +13,18 @@ use Rattle.der.specs.declared.Fault.{Fault}
 use Rattle.der.proofs.Choices.{by-lt}
 use Rattle.pkcs12.specs.Numbers.{bagRows, noRoom, notSound}
 use Rattle.pkcs12.specs.Sound.{Sound}
-use Rattle.pkcs12.specs.Written.{fileOf, onFile}
 use Rattle.pkcs12.specs.declared.Table.{Table}
 use Rattle.pkcs12.specs.declared.Written.{Written}
 use Rattle.pkcs12.specs.declared.Written.the-variants.{Length}
-use Rattle.pkcs12.proofs.Theorems.{file-iff-sound}
-use Rattle.pkcs12.proofs.Checked.{no-file-iff}
 use Rattle.sizes.specs.Picked.{fewer}
 use Rattle.attributes.specs.Reader.{noRow, openingOf, refusedBy}
 use Rattle.attributes.specs.declared.Position.{Position}
 use Rattle.pairing.specs.declared.IdentityRow.{IdentityRow}
+use Rattle.attributes.proofs.Shown.{by-file}
 use Rattle.identities.specs.Identities.{identityOf, onOpening, identityAt, identitiesOf}
 use Rattle.identities.specs.Filling.{Filled, fillOf}
 use Rattle.identities.specs.declared.Identity.{Identity}
 use Rattle.identities.proofs.Fills.{first-length, first-at, by-filling}
-
--- what holds of each answer, with its reason, holds of the one for a table
-pub by-file : {A : Type 0} (P : A → Type 0) (t : Table) (s : List ℕ) → Bytes s → (x : A) (y : List ℕ → A)
-    → ((Sound t s → ⊥) → P x) → (Sound t s → (f : List ℕ) → P (y f)) → P (onFile (fileOf t s) x y)
-by-file P t s b x y bad good = go (fileOf t s) (no-file-iff t s b .0) (λ f e. file-iff-sound t s b f .0 e .0)
-  where
-    go : (u : Option (List ℕ)) → (u ≡ option.none → Sound t s → ⊥) → ((f : List ℕ) → u ≡ some f → Sound t s) → P (onFile u x y)
-    go option.none h k = bad (h refl)
-    go (some f) h k = good (k f refl) f
 
 -- ---- the identity row of a bag
 

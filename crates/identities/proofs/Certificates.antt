@@ -13,15 +13,13 @@ use lib.Seq.{getD-append-add, getD-take}
 use Rattle.der.specs.Span.{Bytes}
 use Rattle.der.proofs.Choices.{either, never, by-le}
 use Rattle.pkcs12.specs.Numbers.{bagRows, notSound}
-use Rattle.pkcs12.specs.Values.{BagValue, Values, bagsOfSafes, rowsOf}
-use Rattle.pkcs12.specs.Table.{noBag, padded, bytesIn, contentIn, bagShown, shown, rowsIn, valuesOf, readingOf}
+use Rattle.pkcs12.specs.Table.{noBag, padded, bytesIn, contentIn, bagShown}
 use Rattle.pkcs12.specs.Sound.{Sound, Lies}
 use Rattle.pkcs12.specs.Written.{fileOf, onFile}
 use Rattle.pkcs12.specs.declared.Parts.{Parts}
 use Rattle.pkcs12.specs.declared.BagKind.{BagKind}
 use Rattle.pkcs12.specs.declared.BagKind.the-variants.{Key, ShroudedKey, Certificate, Crl, Secret, Nested}
 use Rattle.pkcs12.specs.declared.Table.{Table}
-use Rattle.pkcs12.proofs.Theorems.{reading-has-rows}
 use Rattle.sizes.specs.Picked.{fewer}
 use Rattle.attributes.specs.Own.{setInSafes, listed}
 use Rattle.attributes.proofs.First.{at-most}
@@ -33,7 +31,7 @@ use Rattle.identities.specs.Identities.{identityOf, firstOf, identitiesO
 use Rattle.identities.specs.Ids.{Shows, idInRow, noBagValue, kindOfContent, kindIn, KeyBag, Certifies}
 use Rattle.identities.proofs.Fills.{first-length, first-at}
 use Rattle.identities.proofs.Ids.{id-lies, id-of-bag}
-use Rattle.identities.proofs.Answers.{by-file}
+use Rattle.attributes.proofs.Shown.{by-file, shown-bags}
 
 -- ---- the rows
 
@@ -157,21 +155,17 @@ kind-shown s Secret p = refl
 kind-shown s Nested p = refl
 
 module _ (t : Table) (s : List ℕ) (o : Sound t s) where
-  shown-bags : bagsOfSafes 0 0 (o .reading .safes) ≡ map (bagShown s) (take (t .«bag_count») (t .bags))
-  unfolding readingOf rowsOf valuesOf shown rowsIn
-  shown-bags = ap {B = List BagValue} (λ (v : Values). v .bags) (reading-has-rows (valuesOf t s) (o .reading) (o .shows))
-
   pub identity-kind : (n : ℕ) → n < t .«bag_count» → identityOf t s n .kind ≡ kindIn n (o .reading .safes)
   unfolding identityOf
   identity-kind n h =
-      rw (shown-bags, List·getD-map (bagShown s) (take (t .«bag_count») (t .bags)) n noBag, getD-take (t .«bag_count») (t .bags) n noBag h)
+      rw (shown-bags t s o, List·getD-map (bagShown s) (take (t .«bag_count») (t .bags)) n noBag, getD-take (t .«bag_count») (t .bags) n noBag h)
       (sym (kind-shown s _ _))
 
   kind-past : (n : ℕ) → t .«bag_count» ≤ n → kindIn n (o .reading .safes) ≡ BagKind.None
   kind-past n h =
       let l : length (map (bagShown s) (take (t .«bag_count») (t .bags))) ≤ n =
       omega (arith, length-map (take (t .«bag_count») (t .bags)) (bagShown s), length-take (t .«bag_count») (t .bags)) in
-      rw (shown-bags, List·getD-eq-default (map (bagShown s) (take (t .«bag_count») (t .bags))) noBagValue {n = n} l)
+      rw (shown-bags t s o, List·getD-eq-default (map (bagShown s) (take (t .«bag_count») (t .bags))) noBagValue {n = n} l)
 
   -- the kind of every row is that of its bag
   pub kind-of-bag : (n : ℕ) → getD (identityRows t s) n noIdentity .kind ≡ kindIn n (o .reading .safes)

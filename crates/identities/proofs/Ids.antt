@@ -26,20 +26,19 @@ use Rattle.der.proofs.Laws.{header-iff, header-bounds, expect-iff, element-uniq
 use Rattle.der.proofs.Spans.{span-slice, slice-span, span-to}
 use Rattle.pkcs12.specs.Syntax.{Attribute}
 use Rattle.pkcs12.specs.Identifiers.{sameBytes}
-use Rattle.pkcs12.specs.Values.{AttributeValue, Values, attributesOfSafes, rowsOf}
 use Rattle.pkcs12.specs.Valid.{Opaques}
-use Rattle.pkcs12.specs.Table.{range, bytesIn, noAttribute, attributeShown, shown, rowsIn, valuesOf, readingOf}
+use Rattle.pkcs12.specs.Table.{range, bytesIn, noAttribute}
 use Rattle.pkcs12.specs.Checks.{both}
 use Rattle.pkcs12.specs.Sound.{Lies, Sound}
 use Rattle.pkcs12.specs.declared.Range.{Range}
 use Rattle.pkcs12.specs.declared.AttributeRow.{AttributeRow}
 use Rattle.pkcs12.specs.declared.Table.{Table}
-use Rattle.pkcs12.proofs.Theorems.{reading-has-rows}
 use Rattle.attributes.specs.Reader.{firstFrom, names}
-use Rattle.attributes.specs.Own.{ownRows, setInSafes, listed}
-use Rattle.attributes.proofs.Sets.{ownIn, shownBy, shown-own, own-safes}
+use Rattle.attributes.specs.Own.{ownRows, setInSafes, listed, attributesOf}
+use Rattle.attributes.proofs.Shown.{shown-set}
+use Rattle.attributes.proofs.Sets.{shownBy}
 use Rattle.attributes.proofs.Theorems.{attribute-values-hold}
-use Rattle.identities.specs.Identities.{localKeyType, anId, noId, attributesOf, isLocalKey, keyRow, idIn, idOf}
+use Rattle.identities.specs.Identities.{localKeyType, anId, noId, isLocalKey, keyRow, idIn, idOf}
 use Rattle.identities.specs.Ids.{firstKeyId, IsId, Holds, Shows}
 use Rattle.identities.specs.declared.Id.{Id}
 
@@ -161,17 +160,9 @@ id-lies t s n =
     by-lt (λ (i : Id). i .present ≡ true → Lies s (i .range)) _ _ (keyRow t s n) (length (attributesOf t)) (λ h. id-in-lies s _) (λ h q. never q)
 
 module _ (t : Table) (s : List ℕ) (n : ℕ) (bytes : Bytes s) (o : Sound t s) where
-  -- the rows that name the bag show the attributes of its set
-  shown-attributes : attributesOfSafes 0 (o .reading .safes) ≡ map (attributeShown s) (attributesOf t)
-  unfolding readingOf rowsOf valuesOf shown rowsIn
-  shown-attributes = ap {B = List AttributeValue} (λ (v : Values). v .attributes) (reading-has-rows (valuesOf t s) (o .reading) (o .shows))
-
-  shown-set : listed (setInSafes n (o .reading .safes)) ≡ map (shownBy s) (ownRows n (attributesOf t))
-  shown-set = sym (own-safes n 0 n (o .reading .safes) (omega arith)) ∙ ap (ownIn n) shown-attributes ∙ sym (shown-own s n (attributesOf t))
-
   key-values : firstKeyId (listed (setInSafes n (o .reading .safes))) ≡ valuesAt s (attributesOf t) (keyRow t s n)
   unfolding keyRow
-  key-values = rw shown-set (first-key s n (attributesOf t))
+  key-values = rw (shown-set t s o n) (first-key s n (attributesOf t))
 
   -- its first localKeyID, in row j
   module _ (j : ℕ) (h : j < length (attributesOf t)) where

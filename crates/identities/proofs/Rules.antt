@@ -34,7 +34,8 @@ use Rattle.pairing.specs.Pairs.{refusedBy, paired}
 use Rattle.pairing.specs.declared.Paired.{Paired}
 use Rattle.pairing.specs.declared.IdentityRow.{IdentityRow}
 use Rattle.attributes.proofs.First.{counted-length, getD-in, Looking, look-start, look-found, look-on, look-end}
-use Rattle.identities.specs.Identities.{localKeyType, anId, noId, attributesOf, isLocalKey, keyRow, idIn, idOf, identityOf, identityAt, identityRows, certificateFor}
+use Rattle.attributes.specs.Own.{attributesOf}
+use Rattle.identities.specs.Identities.{localKeyType, anId, noId, isLocalKey, keyRow, idIn, idOf, identityOf, identityAt, identityRows, certificateFor}
 use Rattle.identities.specs.Filling.{fillingAs, refusedFilling, fillingOf}
 use Rattle.identities.specs.declared.Filling.{Filling}
 use Rattle.identities.specs.declared.Id.{Id}

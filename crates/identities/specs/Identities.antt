@@ -3,7 +3,7 @@ use mathlib.Core.Bool.{Bool, true, false}
 use mathlib.Core.List.{List, [], _∷_, _++_}
 use Prim.Native.Nat.{ℕ, zero, suc}
 use lib.Dec.{leb, ltb}
-use lib.ListN.{length, getD, take}
+use lib.ListN.{length, getD}
 use Rattle.der.specs.Choice.{if_then_else_}
 use Rattle.der.specs.Numbers.{octetStringTag}
 use Rattle.der.specs.Element.{cursor, expectAt, onElement}
@@ -17,6 +17,7 @@ use Rattle.pkcs12.specs.declared.Range.{Range}
 use Rattle.pkcs12.specs.declared.AttributeRow.{AttributeRow}
 use Rattle.pkcs12.specs.declared.Table.{Table}
 use Rattle.sizes.specs.Picked.{fewer}
+use Rattle.attributes.specs.Own.{attributesOf}
 use Rattle.attributes.specs.Reader.{firstFrom, names, openingOf}
 use Rattle.attributes.specs.declared.Item.{Item}
 use Rattle.attributes.specs.declared.Item.the-variants.{Ready, Done}
@@ -35,10 +36,6 @@ anId h r = record { present = h; range = r }
 
 abbrev pub noId : Id
 noId = anId false noRange
-
--- the attribute rows of a table
-abbrev pub attributesOf : Table → List AttributeRow
-attributesOf t = take (t .«attribute_count») (t .attributes)
 
 -- a bag's "localKeyID attribute"
 unfoldable pub isLocalKey : List ℕ → ℕ → AttributeRow → Bool
