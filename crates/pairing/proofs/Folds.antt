@@ -12,7 +12,7 @@ use Rattle.der.specs.Choice.{if_then_else_}
 use Rattle.pkcs12.specs.Numbers.{notSound}
 use Rattle.pkcs12.specs.Checks.{both, all}
 use Rattle.pairing.specs.Pairs.{noIdentity, isKey, idLies, pairsWith, matching, onlyOne, refusedBy, noKey, paired}
-use Rattle.pairing.specs.Search.{search, keyAt, tallied, lastAt, visited, passed, begun, again, answered}
+use Rattle.pairing.specs.Search.{search, keyAt, tallied, firstAt, visited, passed, begun, again, answered}
 use Rattle.pairing.specs.declared.IdentityRow.{IdentityRow}
 use Rattle.pairing.specs.declared.Paired.{Paired}
 use Rattle.pairing.specs.declared.Search.{Search}
@@ -92,14 +92,14 @@ kept-met k n j d [] h = tt
 kept-met k n zero d (r ∷ rs) h = (rw (eq-eqb k n (omega arith)), kept-past k (n + 1) r rs (omega arith))
 kept-met k n (suc j) d (r ∷ rs) h = (rw (ne-eqb k n (λ q. omega arith)), kept-met k (n + 1) j d rs (omega arith))
 
--- how many there are of a list, two standing for more, and the last of them
+-- how many there are of a list, two standing for more, and the first of them where none was met before
 unfoldable many : List ℕ → ℕ → ℕ
 many [] c = c
 many (m ∷ ms) c = many ms (tallied true c)
 
-unfoldable last : List ℕ → ℕ → ℕ
-last [] l = l
-last (m ∷ ms) l = last ms m
+unfoldable front : List ℕ → ℕ → ℕ → ℕ
+front [] c l = l
+front (m ∷ ms) c l = front ms (tallied true c) (firstAt true c m l)
 
 -- one row more, which matches or doesn't
 many-more : (t : Bool) (n : ℕ) (ms : List ℕ) (c : ℕ) → many (if t then n ∷ ms else ms) c ≡ many ms (tallied t c)
@@ -107,20 +107,20 @@ unfolding many tallied
 many-more true n ms c = refl
 many-more false n ms c = refl
 
-last-more : (t : Bool) (n : ℕ) (ms : List ℕ) (l : ℕ) → last (if t then n ∷ ms else ms) l ≡ last ms (lastAt t n l)
-unfolding last lastAt
-last-more true n ms l = refl
-last-more false n ms l = refl
+front-more : (t : Bool) (n : ℕ) (ms : List ℕ) (c l : ℕ) → front (if t then n ∷ ms else ms) c l ≡ front ms (tallied t c) (firstAt t c n l)
+unfolding front tallied firstAt
+front-more true n ms c l = refl
+front-more false n ms c l = refl
 
 module _ (s : List ℕ) (k : ℕ) (key : IdentityRow) where
   -- a pass with the key known counts the matches
   passed-tally : (n : ℕ) (rows : List IdentityRow) (t : Bool) (c l : ℕ) → Kept k n key rows
-      → passed s n rows (search k key t c l) ≡ search k key (both t (all (idLies s) rows)) (many (matching s key n rows) c) (last (matching s key n rows) l)
-  unfolding passed visited all matching many last
+      → passed s n rows (search k key t c l) ≡ search k key (both t (all (idLies s) rows)) (many (matching s key n rows) c) (front (matching s key n rows) c l)
+  unfolding passed visited all matching many front
   passed-tally n [] t c l h = rw (both-true t)
   passed-tally n (r ∷ rs) t c l h =
-      rw (h .0) (passed-tally (n + 1) rs (both t (idLies s r)) (tallied (pairsWith s key r) c) (lastAt (pairsWith s key r) n l) (h .1)
-      ∙ rw (both-assoc t (idLies s r) (all (idLies s) rs), many-more (pairsWith s key r) n (matching s key (n + 1) rs) c, last-more (pairsWith s key r) n (matching s key (n + 1) rs) l))
+      rw (h .0) (passed-tally (n + 1) rs (both t (idLies s r)) (tallied (pairsWith s key r) c) (firstAt (pairsWith s key r) c n l) (h .1)
+      ∙ rw (both-assoc t (idLies s r) (all (idLies s) rs), many-more (pairsWith s key r) n (matching s key (n + 1) rs) c, front-more (pairsWith s key r) n (matching s key (n + 1) rs) c l))
 
 -- two or more stay two
 many-two : (ms : List ℕ) → many ms 2 ≡ 2
@@ -128,10 +128,10 @@ unfolding many tallied
 many-two [] = refl
 many-two (m ∷ ms) = many-two ms
 
--- the count and the last of the matches tell which answer is due
+-- the count and the first of the matches tell which answer is due
 answer-of : (k : ℕ) (key : IdentityRow) (t : Bool) (ms : List ℕ)
-    → answered (search k key t (many ms 0) (last ms 0)) ≡ (if t then (if isKey (key .kind) then onlyOne ms else refusedBy noKey) else refusedBy notSound)
-unfolding answered many last onlyOne tallied
+    → answered (search k key t (many ms 0) (front ms 0 0)) ≡ (if t then (if isKey (key .kind) then onlyOne ms else refusedBy noKey) else refusedBy notSound)
+unfolding answered many front onlyOne tallied firstAt
 answer-of k key t [] = refl
 answer-of k key t (m ∷ []) = refl
 answer-of k key t (m ∷ n ∷ ms) = rw (many-two ms)
@@ -149,5 +149,5 @@ pair-law s rows k =
     let t : Bool = all (idLies s) rows in
     ap {B = Paired} (λ (st : Search). answered (passed s 0 rows st)) (first s rows k)
     ∙ ap {B = Paired} answered (passed-tally s k key 0 rows t 0 0 (kept-met k 0 k noIdentity rows (omega arith)))
-    ∙ ap {B = Paired} (λ (u : Bool). answered (search k key u (many (matching s key 0 rows) 0) (last (matching s key 0 rows) 0))) (both-same t)
+    ∙ ap {B = Paired} (λ (u : Bool). answered (search k key u (many (matching s key 0 rows) 0) (front (matching s key 0 rows) 0 0))) (both-same t)
     ∙ answer-of k key t (matching s key 0 rows)

@@ -9,7 +9,7 @@ use Rattle.der.proofs.Choices.{told-true, told-false, at-lt, at-not-lt, at-le, 
 use Rattle.pkcs12.specs.Identifiers.{sameBytes}
 use Rattle.pkcs12.specs.Checks.{both}
 use Rattle.pairing.specs.Pairs.{idLies, pairsWith}
-use Rattle.pairing.specs.Search.{search, keyAt, tallied, lastAt, visited}
+use Rattle.pairing.specs.Search.{search, keyAt, tallied, firstAt, visited}
 use Rattle.pairing.specs.declared.IdentityRow.{IdentityRow}
 use Rattle.pairing.specs.declared.Search.{Search}
 
@@ -59,7 +59,7 @@ pub ruleset pairs = (
 
 -- one row more, from what each callee told
 pub visit-is : (s : List ℕ) (i : ℕ) (r : IdentityRow) (st : Search) (p : Bool) (k : IdentityRow) (t : Bool) (c l : ℕ)
-    → p ≡ pairsWith s (st .key) r → k ≡ keyAt (st .number) i (st .key) r → t ≡ both (st .sound) (idLies s r) → c ≡ tallied p (st .count) → l ≡ lastAt p i (st .row)
+    → p ≡ pairsWith s (st .key) r → k ≡ keyAt (st .number) i (st .key) r → t ≡ both (st .sound) (idLies s r) → c ≡ tallied p (st .count) → l ≡ firstAt p (st .count) i (st .row)
     → search (st .number) k t c l ≡ visited s i r st
 unfolding visited
 visit-is s i r st p k t c l e f g h j = rw (h, j, e, f, g)

@@ -22,14 +22,15 @@ keyAt number i key row = if eqb number i then row else key
 unfoldable pub tallied : Bool → ℕ → ℕ
 tallied pairs count = if pairs then (if eqb count 0 then 1 else 2) else count
 
-unfoldable pub lastAt : Bool → ℕ → ℕ → ℕ
-lastAt pairs i row = if pairs then i else row
+-- the row of the first
+unfoldable pub firstAt : Bool → ℕ → ℕ → ℕ → ℕ
+firstAt pairs count i row = if pairs then (if eqb count 0 then i else row) else row
 
 -- one row more
 unfoldable pub visited : List ℕ → ℕ → IdentityRow → Search → Search
 visited s i r st =
     search (st .number) (keyAt (st .number) i (st .key) r) (both (st .sound) (idLies s r)) (tallied (pairsWith s (st .key) r) (st .count))
-    (lastAt (pairsWith s (st .key) r) i (st .row))
+    (firstAt (pairsWith s (st .key) r) (st .count) i (st .row))
 
 -- all rows, where n stand before these
 unfoldable pub passed : List ℕ → ℕ → List IdentityRow → Search → Search

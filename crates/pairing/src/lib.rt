@@ -3,7 +3,7 @@ ghost use mathlib.Core.Path.{_≡_};
 ghost use Rattle.der.specs.Element.{fault};
 ghost use Rattle.pkcs12.specs.Checks.{both};
 ghost use Rattle.pairing.specs.Pairs.{isKey, isCertificate, idLies, sameId, pairsWith, paired};
-ghost use Rattle.pairing.specs.Search.{keyAt, tallied, lastAt, visited, passed, begun, again, answered};
+ghost use Rattle.pairing.specs.Search.{keyAt, tallied, firstAt, visited, passed, begun, again, answered};
 use der::Fault;
 use pkcs12::BagKind;
 use pkcs12::Range;
@@ -37,7 +37,7 @@ pub enum Paired {
 }
 
 // What is known after some rows: the number of the key's row, that row once it was met, whether every id lies in the bytes, and of the certificates
-// with the key's id how many there are, two standing for more, and the row of the last.
+// with the key's id how many there are, two standing for more, and the row of the first.
 struct Search {
     number: usize,
     key: IdentityRow,
@@ -150,11 +150,15 @@ fn tallied(pairs: bool, count: usize) -> usize
     count
 }
 
-fn last_at(pairs: bool, i: usize, row: usize) -> usize
-    ensures { λ r. ⌜ r ≡ lastAt pairs i row ⌝ }
+// The row of the first match.
+fn first_at(pairs: bool, count: usize, i: usize, row: usize) -> usize
+    ensures { λ r. ⌜ r ≡ firstAt pairs count i row ⌝ }
 {
     if pairs {
-        return i;
+        if count == 0 {
+            return i;
+        }
+        return row;
     }
     row
 }
@@ -169,13 +173,13 @@ fn visit(bytes: &[u8], i: usize, row: IdentityRow, state: Search) -> Search
     let key = key_at(number, i, before, row);
     let sound = still_sound(bytes, state.sound, row);
     let count = tallied(pairs, state.count);
-    let last = last_at(pairs, i, state.row);
+    let first = first_at(pairs, state.count, i, state.row);
     Search {
         number,
         key,
         sound,
         count,
-        row: last,
+        row: first,
     }
 }
 

@@ -16,8 +16,8 @@ still-sound-requires c κs = search needs
 tallied-requires : tie.Need-tallied-requires
 tallied-requires c κs = search needs
 
-last-at-requires : tie.Need-last-at-requires
-last-at-requires c κs = search needs
+first-at-requires : tie.Need-first-at-requires
+first-at-requires c κs = search needs
 
 returns : tie.Need-returns
 returns c = search visit-is
@@ -30,5 +30,5 @@ visit-spec =
     key-at-requires
     still-sound-requires
     tallied-requires
-    last-at-requires
+    first-at-requires
     returns)
