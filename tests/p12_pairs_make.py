@@ -1,7 +1,7 @@
 """Makes test files for the pairing of keys with certificates, from the scope (document 01). p12_make.py has them among its files.
 
 pairings()            each case with its tree; all files are accepted. p12_pairs.py has what pairing gives for each, worked out by hand
-damaged(seed, each)   (name, bytes): copies of them with one bit of an attribute changed
+damaged(seed, each)   (name, bytes): copies of them with one bit of an attribute that is no friendlyName changed
 """
 import random
 
@@ -155,11 +155,11 @@ def pairings():
 
 
 def damaged(seed, each):
-    """Files of up to 1,024 bytes, so many copies of each; one bit of an attribute's bytes is another one."""
+    """Files of up to 1,024 bytes, so many copies of each; one bit of an attribute that is no friendlyName is another one."""
     dice = random.Random(seed)
     for one, tree in pairings():
-        places = [place for node, at, end in tree.nodes() if node.name == "attribute" for place in range(at, end)]
-        for number in range(each if places and len(one.data) <= 1024 else 0):
+        offsets = [offset for node, at, end in tree.nodes() if node.name == "attribute" for offset in range(at, end)]
+        for number in range(each if offsets and len(one.data) <= 1024 else 0):
             data = bytearray(one.data)
-            data[dice.choice(places)] ^= 1 << dice.randrange(8)
+            data[dice.choice(offsets)] ^= 1 << dice.randrange(8)
             yield "damaged_%d_%d_%s" % (seed, number, one.name), bytes(data)

@@ -42,15 +42,15 @@ code Done = 0
 code (Item.Refused f) = 1 + f .number
 
 -- a reader that was not refused
-abbrev opened : Table → ℕ → Position
-opened t n = position (t .attributes) (t .«attribute_count») n 0 Ready
+abbrev ready : Table → ℕ → Position
+ready t n = position (t .attributes) (t .«attribute_count») n 0 Ready
 
 module _ (t : Table) (s : List ℕ) (n : ℕ) where
   -- what holds of each answer, with its reason, holds of the one that opening gives
   by-opening : (P : Position → Type 0) → Bytes s
       → ((Sound t s → ⊥) → P (refusedBy notSound))
       → (Sound t s → t .«bag_count» ≤ n → P (refusedBy noRow))
-      → (Sound t s → n < t .«bag_count» → P (opened t n))
+      → (Sound t s → n < t .«bag_count» → P (ready t n))
       → P (openingOf t s n)
   unfolding openingOf
   by-opening P b p q r = by-file P t s b _ _ p (λ o f. by-lt P _ _ n (t .«bag_count») (r o) (q o))
@@ -71,9 +71,9 @@ module _ (t : Table) (s : List ℕ) (n : ℕ) where
     λ k. by-opening (λ p. p .item ≡ Item.Refused (fault noRow 0)) b (λ h. absurd (h (k .0))) (λ o h. refl) (λ o h. absurd (omega (arith, k .1))),
   )
 
-  pub opened-iff : Bytes s → openingOf t s n .item ≡ Ready ↔ (Sound t s × (n < t .«bag_count»))
+  pub ready-iff : Bytes s → openingOf t s n .item ≡ Ready ↔ (Sound t s × (n < t .«bag_count»))
   unfolding refusedBy
-  opened-iff b = (
+  ready-iff b = (
     by-opening (λ p. p .item ≡ Ready → Sound t s × (n < t .«bag_count»)) b (λ h e. absurd (omega (arith, ap code e)))
         (λ o h e. absurd (omega (arith, ap code e))) (λ o h e. (o, h)),
     λ k. by-opening (λ p. p .item ≡ Ready) b (λ h. absurd (h (k .0))) (λ o h. absurd (omega (arith, k .1))) (λ o h. refl),
@@ -113,12 +113,12 @@ gives s p rs g =
     }
 
 module _ (t : Table) (s : List ℕ) (n : ℕ) (b : Bytes s) (o : Sound t s) (h : n < t .«bag_count») where
-  opening : openingOf t s n ≡ opened t n
-  opening = by-opening t s n (λ p. p ≡ opened t n) b (λ k. absurd (k o)) (λ x k. absurd (omega arith)) (λ x k. refl)
+  opening : openingOf t s n ≡ ready t n
+  opening = by-opening t s n (λ p. p ≡ ready t n) b (λ k. absurd (k o)) (λ x k. absurd (omega arith)) (λ x k. refl)
 
   pub rows-in-turn : (i : ℕ) → runs.Turn i (ownRows n (attributesOf t)) (itemAfter i (openingOf t s n))
   unfolding nextOf
-  rows-in-turn i = rw opening (runs.in-turn i (opened t n) (ownRows n (attributesOf t)) (record { moves = refl; rest = refl }))
+  rows-in-turn i = rw opening (runs.in-turn i (ready t n) (ownRows n (attributesOf t)) (record { moves = refl; rest = refl }))
 
   pub rows-name-bag : (i : ℕ) (r : AttributeRow) → itemAfter i (openingOf t s n) ≡ Item.Attribute r → r .bag ≡ n
   rows-name-bag i r e =

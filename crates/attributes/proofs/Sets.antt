@@ -18,7 +18,7 @@ use Rattle.pkcs12.specs.declared.Enclosing.{Enclosing}
 use Rattle.pkcs12.specs.declared.Enclosing.the-variants.{Bag}
 use Rattle.pkcs12.specs.declared.AttributeRow.{AttributeRow}
 use Rattle.attributes.specs.Reader.{names}
-use Rattle.attributes.specs.Own.{ownRows, setIn, setInSafe, setInSafes, listed}
+use Rattle.attributes.specs.Own.{ownRows, ownIn, setIn, setInSafe, setInSafes, listed}
 
 -- a function of a choice is a choice
 of-choice : {A B : Type 0} (f : A → B) (u : Bool) (x y : A) → f (if u then x else y) ≡ (if u then f x else f y)
@@ -27,16 +27,11 @@ of-choice f false x y = refl
 
 -- ---- rows by value that name a bag
 
--- their attributes, in order
-unfoldable pub ownIn : ℕ → List AttributeValue → List Attribute
-ownIn n [] = []
-ownIn n (r ∷ rs) = if eqb (r .bag) n then r .attribute ∷ ownIn n rs else ownIn n rs
-
 -- the attribute that a row shows
 abbrev pub shownBy : List ℕ → AttributeRow → Attribute
 shownBy s r = attributeShown s r .attribute
 
--- they are what the rows of a table that name it show
+-- their attributes are what the rows of a table that name it show
 pub shown-own : (s : List ℕ) (n : ℕ) (rs : List AttributeRow) → map (shownBy s) (ownRows n rs) ≡ ownIn n (map (attributeShown s) rs)
 unfolding ownRows ownIn
 shown-own s n [] = refl

@@ -14,8 +14,8 @@ use Rattle.pkcs12.specs.Written.{fileOf, onFile}
 use Rattle.pkcs12.specs.declared.Table.{Table}
 use Rattle.pkcs12.proofs.Theorems.{file-iff-sound, reading-has-rows}
 use Rattle.pkcs12.proofs.Checked.{no-file-iff}
-use Rattle.attributes.specs.Own.{attributesOf, ownRows, setInSafes, listed}
-use Rattle.attributes.proofs.Sets.{ownIn, shownBy, shown-own, own-safes}
+use Rattle.attributes.specs.Own.{attributesOf, ownIn, ownRows, setInSafes, listed}
+use Rattle.attributes.proofs.Sets.{shownBy, shown-own, own-safes}
 
 -- what holds of the answer for no file and of that for a file, each with its reason, holds of the answer
 pub by-file : {A : Type 0} (P : A → Type 0) (t : Table) (s : List ℕ) → Bytes s → (x : A) (y : List ℕ → A)

@@ -1,8 +1,10 @@
 -- What is proved of the attribute reader, stated over the definitions that its calls follow. The proofs are elsewhere.
+-- `Bytes s`: each number of the list is below 256. `Sound t s`: the table t is sound for the bytes s.
 use mathlib.Core.Logic.{_↔_}
 use mathlib.Core.Path.{_≡_}
 use mathlib.Core.List.{List, [], map}
 use Prim.Native.Nat.{ℕ, _≤_, _<_}
+use native.Mathlib.Omega.{arith}
 use lib.ListN.{length, getD}
 use Rattle.der.specs.Element.{fault}
 use Rattle.der.specs.Span.{Bytes}
@@ -10,7 +12,7 @@ use Rattle.der.specs.declared.Fault.{Fault}
 use Rattle.pkcs12.specs.Numbers.{notSound}
 use Rattle.pkcs12.specs.Syntax.{Safe}
 use Rattle.pkcs12.specs.Valid.{Opaques, bagsInSafes}
-use Rattle.pkcs12.specs.Values.{BagValue, stands, bagsOfSafes}
+use Rattle.pkcs12.specs.Values.{BagValue, stands, bagsOfSafes, attributesOfSafes}
 use Rattle.pkcs12.specs.Table.{bytesIn, noAttribute}
 use Rattle.pkcs12.specs.Sound.{Sound, Lies}
 use Rattle.pkcs12.specs.declared.Range.{Range}
@@ -18,7 +20,7 @@ use Rattle.pkcs12.specs.declared.AttributeRow.{AttributeRow}
 use Rattle.pkcs12.specs.declared.Table.{Table}
 use Rattle.attributes.specs.Reader.{noRow, openingOf, itemAfter}
 use Rattle.attributes.specs.Elements.{elementRanges, countedOf}
-use Rattle.attributes.specs.Own.{attributesOf, ownRows, setInSafes, listed, Gives, each, Chain}
+use Rattle.attributes.specs.Own.{attributesOf, ownRows, ownIn, setInSafes, listed, Gives, each, Chain}
 use Rattle.attributes.specs.declared.Item.{Item}
 use Rattle.attributes.specs.declared.Item.the-variants.{Ready, Done}
 use Rattle.attributes.proofs.Own as own
@@ -35,8 +37,8 @@ pub refused-12-iff : (t : Table) (s : List ℕ) (n : ℕ) → Bytes s → openin
 refused-12-iff = own.refused-12
 
 -- and open exactly if it is sound and the row is there
-pub opened-iff : (t : Table) (s : List ℕ) (n : ℕ) → Bytes s → openingOf t s n .item ≡ Ready ↔ (Sound t s × (n < t .«bag_count»))
-opened-iff = own.opened-iff
+pub ready-iff : (t : Table) (s : List ℕ) (n : ℕ) → Bytes s → openingOf t s n .item ≡ Ready ↔ (Sound t s × (n < t .«bag_count»))
+ready-iff = own.ready-iff
 
 -- a refused reader gives its refusal at every call
 pub refused-stays : (t : Table) (s : List ℕ) (n : ℕ) (f : Fault) → openingOf t s n .item ≡ Item.Refused f → (i : ℕ) → itemAfter i (openingOf t s n) ≡ Item.Refused f
@@ -60,10 +62,13 @@ pub rows-name-bag : (t : Table) (s : List ℕ) (n : ℕ) → Bytes s → Sound t
     → itemAfter i (openingOf t s n) ≡ Item.Attribute r → r .bag ≡ n
 rows-name-bag = own.rows-name-bag
 
--- Bag n of a reading is the bag of row n: `setInSafes` counts as the bag rows do.
+-- `setInSafes` counts bags as the rows do: bag row n has a set exactly if that finds one, and what the attribute rows that name n show is what it lists.
 pub bags-numbered-alike : (xs : List Safe) (n : ℕ) (d : BagValue) → n < length (bagsOfSafes 0 0 xs)
     → getD (bagsOfSafes 0 0 xs) n d .has-set ≡ stands (setInSafes n xs)
 bags-numbered-alike = sets.bags-numbered-alike
+
+pub attributes-numbered-alike : (xs : List Safe) (n : ℕ) → ownIn n (attributesOfSafes 0 xs) ≡ listed (setInSafes n xs)
+attributes-numbered-alike xs n = sets.own-safes n 0 n xs (omega arith)
 
 -- Every counted bag row of a sound table, if the array has that many, is a bag of the reading.
 pub bag-in-reading : (t : Table) (s : List ℕ) (n : ℕ) (o : Sound t s) → n < t .«bag_count» → t .«bag_count» ≤ length (t .bags)

@@ -18,6 +18,7 @@ elementsFrom (suc fuel) s end at =
     onElement (elementAt s (cursor at end)) (λ f. []) (λ t b n. range at (n .at) ∷ elementsFrom fuel s end (n .at)) else
     []
 
+-- those of a range's bytes; an element has at least two bytes, so as many steps as bytes reach them all
 unfoldable pub elementRanges : List ℕ → Range → List Range
 elementRanges s r = elementsFrom (r .end - r .start) s (r .end) (r .start)
 
@@ -27,6 +28,8 @@ counts n r = record { count = n; element = r }
 -- how many there are, and element i; 0..0 where there is none
 unfoldable pub countedOf : List Range → ℕ → Counted
 countedOf rs i = counts (length rs) (getD rs i noRange)
+
+-- ---- what a private function computes
 
 -- the range that is looked for, once it is met
 unfoldable pub chosenOf : ℕ → ℕ → Range → Range → Range

@@ -2,13 +2,14 @@
 use mathlib.Core.Path.{_≡_}
 use mathlib.Core.List.{List, [], _∷_}
 use Prim.Native.Nat.{ℕ, zero, suc, _-_, _≤_, _<_}
-use lib.Dec.{ltb}
+use lib.Dec.{ltb, eqb}
 use lib.ListN.{length, getD, take}
 use Rattle.der.specs.Choice.{if_then_else_}
 use Rattle.der.specs.Tree.{Trees, none, more, encode}
 use Rattle.pkcs12.specs.Syntax.{Attribute, Set, absent, present, Bags, bag, nest, Safe, plain, encrypted}
 use Rattle.pkcs12.specs.Syntax as syntax
 use Rattle.pkcs12.specs.Valid.{bagsIn, bagsInSafe}
+use Rattle.pkcs12.specs.Values.{AttributeValue}
 use Rattle.pkcs12.specs.Table.{attributeShown}
 use Rattle.pkcs12.specs.declared.AttributeRow.{AttributeRow}
 use Rattle.pkcs12.specs.declared.Range.{Range}
@@ -30,6 +31,11 @@ ownRows n [] = []
 ownRows n (r ∷ rs) = if names n r then r ∷ ownRows n rs else ownRows n rs
 
 -- ---- by the reading
+
+-- the attributes in rows by value that name a bag, in order
+unfoldable pub ownIn : ℕ → List AttributeValue → List Attribute
+ownIn n [] = []
+ownIn n (r ∷ rs) = if eqb (r .bag) n then r .attribute ∷ ownIn n rs else ownIn n rs
 
 -- the set of bag n, counted in file order of the bags' first bytes
 unfoldable pub setIn : ℕ → Bags → Set

@@ -63,7 +63,7 @@ onItem Ready bad good = good
 onItem (Item.Attribute r) bad good = good
 onItem Done bad good = good
 
--- one call
+-- one call; after the last row it is done, "at every further call too", and a refusal stays
 unfoldable pub nextOf : Position → Position
 nextOf p = onItem (p .item) p (movedTo p (nextRow p))
 
@@ -76,13 +76,15 @@ after (suc n) p = after n (nextOf p)
 unfoldable pub itemAfter : ℕ → Position → Item
 itemAfter i p = after (i + 1) p .item
 
--- "then says it is done, at every further call too"; a refusal stays too
+-- "keeps the file": a reader is the file and a position
+abbrev pub readerOf : RefT (List ℕ) → Position → Attributes
+readerOf f p = record { file = f; position = p }
+
+-- ---- what a private function computes
+
+-- whether every further call gives the same
 unfoldable pub isLast : Item → Bool
 isLast Ready = false
 isLast (Item.Attribute r) = false
 isLast Done = true
 isLast (Item.Refused f) = true
-
--- "keeps the file": a reader is the file and a position
-abbrev pub readerOf : RefT (List ℕ) → Position → Attributes
-readerOf f p = record { file = f; position = p }

@@ -25,7 +25,7 @@ use Rattle.sizes.specs.Picked.{fewer}
 use Rattle.pairing.specs.Pairs.{noIdentity}
 use Rattle.pairing.specs.declared.IdentityRow.{IdentityRow}
 use Rattle.identities.specs.Identities.{firstOf, identityOf, identitiesOf, identityRows}
-use Rattle.identities.specs.Filling.{Filled, refusal, placed, fillOf, fillingAs, refusedFilling, fillingOf}
+use Rattle.identities.specs.Filling.{Filled, refusal, success, fillOf, fillingAs, refusedFilling, fillingOf}
 use Rattle.identities.specs.declared.Filling.{Filling}
 
 -- ---- the first n of what f numbers
@@ -136,7 +136,7 @@ module _ (t : Table) (s : List ℕ) (out : List IdentityRow) where
   -- what holds of each outcome holds of the one that filling has
   pub by-filling : (P : Filling → Filled → Type 0)
       → ((n : ℕ) → P (refusedFilling n) (refusal n out))
-      → (t .«bag_count» ≤ length out → t .«bag_count» ≤ bagRows → P (fillingAs (Length (t .«bag_count»)) (t .«bag_count») (identityRows t s)) (placed (identitiesOf t s) out))
+      → (t .«bag_count» ≤ length out → t .«bag_count» ≤ bagRows → P (fillingAs (Length (t .«bag_count»)) (t .«bag_count») (identityRows t s)) (success (identitiesOf t s) out))
       → P (fillingOf t s (length out)) (fillOf t s out)
   unfolding fillingOf fillOf
   by-filling P bad good = go (fileOf t s) (bags-fit t s)
@@ -144,14 +144,14 @@ module _ (t : Table) (s : List ℕ) (out : List IdentityRow) where
       go : (u : Option (List ℕ)) → ((f : List ℕ) → u ≡ some f → t .«bag_count» ≤ bagRows)
           → P
           (onFile u (refusedFilling notSound) (λ f. if ltb (length out) (t .«bag_count») then refusedFilling noRoom else fillingAs (Length (t .«bag_count»)) (t .«bag_count») (identityRows t s)))
-          (onFile u (refusal notSound out) (λ f. if ltb (length out) (t .«bag_count») then refusal noRoom out else placed (identitiesOf t s) out))
+          (onFile u (refusal notSound out) (λ f. if ltb (length out) (t .«bag_count») then refusal noRoom out else success (identitiesOf t s) out))
       go option.none h = bad notSound
       go (some f) h = two (ltb (length out) (t .«bag_count»)) (ltb-false (length out) (t .«bag_count»))
         where
           two : (b : Bool) → (b ≡ false → t .«bag_count» ≤ length out)
               → P
               (if b then refusedFilling noRoom else fillingAs (Length (t .«bag_count»)) (t .«bag_count») (identityRows t s))
-              (if b then refusal noRoom out else placed (identitiesOf t s) out)
+              (if b then refusal noRoom out else success (identitiesOf t s) out)
           two true k = bad noRoom
           two false k = good (k refl) (h f refl)
 
@@ -171,7 +171,7 @@ module _ (t : Table) (s : List ℕ) (out : List IdentityRow) where
       (λ h k. ap {B = Written} Length (sym (first-length (identityOf t s) (fewer (t .«bag_count») bagRows) ∙ all-bags k)))
 
   -- the rows that were collected, stored one by one
-  all-stored : t .«bag_count» ≤ bagRows → storedTo (identityRows t s) out (t .«bag_count») ≡ placed (identitiesOf t s) out .rows
+  all-stored : t .«bag_count» ≤ bagRows → storedTo (identityRows t s) out (t .«bag_count») ≡ success (identitiesOf t s) out .rows
   unfolding storedTo identityRows
   all-stored k =
       rw (all-bags k)

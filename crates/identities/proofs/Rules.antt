@@ -139,20 +139,20 @@ module _ (t : Table) (s : List ℕ) (w : Measured) (e : w ≡ measured t s) wher
   unfolding certificateFor
   certificate-unsound k q = has-no-file t s w _ _ _ e q refl
 
-  pub filling-unsound : (room : ℕ) (r : Filling) → w ≡ Unsound → r ≡ refusedFilling notSound → r ≡ fillingOf t s room
+  pub filling-unsound : (capacity : ℕ) (r : Filling) → w ≡ Unsound → r ≡ refusedFilling notSound → r ≡ fillingOf t s capacity
   unfolding fillingOf
-  filling-unsound room r q p = has-no-file t s w r _ _ e q p
+  filling-unsound capacity r q p = has-no-file t s w r _ _ e q p
 
   module _ (n : ℕ) (q : w ≡ Size n) where
     pub certificate-paired : (k : ℕ) (rows : List IdentityRow) (r : Paired) → rows ≡ identityRows t s → r ≡ paired s rows k → r ≡ certificateFor t s k
     unfolding certificateFor
     certificate-paired k rows r p g = has-file t s w r _ _ n e q (rw (← p) g)
 
-    pub filling-short : (room : ℕ) (r : Filling) → room < t .«bag_count» → r ≡ refusedFilling noRoom → r ≡ fillingOf t s room
+    pub filling-short : (capacity : ℕ) (r : Filling) → capacity < t .«bag_count» → r ≡ refusedFilling noRoom → r ≡ fillingOf t s capacity
     unfolding fillingOf
-    filling-short room r h p = has-file t s w r _ _ n e q (at-lt room (t .«bag_count») r _ _ h p)
+    filling-short capacity r h p = has-file t s w r _ _ n e q (at-lt capacity (t .«bag_count») r _ _ h p)
 
-    pub filling-all : (room : ℕ) (rows : List IdentityRow) → t .«bag_count» ≤ room → rows ≡ identityRows t s
-        → fillingAs (Length (t .«bag_count»)) (t .«bag_count») rows ≡ fillingOf t s room
+    pub filling-all : (capacity : ℕ) (rows : List IdentityRow) → t .«bag_count» ≤ capacity → rows ≡ identityRows t s
+        → fillingAs (Length (t .«bag_count»)) (t .«bag_count») rows ≡ fillingOf t s capacity
     unfolding fillingOf
-    filling-all room rows h p = has-file t s w _ _ _ n e q (at-not-lt room (t .«bag_count») _ _ _ h (rw p))
+    filling-all capacity rows h p = has-file t s w _ _ _ n e q (at-not-lt capacity (t .«bag_count») _ _ _ h (rw p))

@@ -75,7 +75,7 @@ identity-id = certificates.identity-id
 
 -- ---- the identity rows of all bags
 
--- An array of as many rows as a table has for bags: row j is that of bag j, and past the count it is empty.
+-- An array of as many rows as a table has for bags: row j is that of bag j, if the count is within the sizes, and past the count it is empty.
 pub identity-rows-length : (t : Table) (s : List ℕ) → length (identityRows t s) ≡ bagRows
 identity-rows-length = certificates.rows-length
 
@@ -85,6 +85,7 @@ identity-row = certificates.identity-row
 pub identity-row-past : (t : Table) (s : List ℕ) (j : ℕ) → t .«bag_count» ≤ j → getD (identityRows t s) j noIdentity ≡ noIdentity
 identity-row-past = certificates.identity-row-past
 
+-- every id in it lies in the bytes
 pub ids-lie : (t : Table) (s : List ℕ) → IdsLie s (identityRows t s)
 ids-lie = certificates.ids-lie
 

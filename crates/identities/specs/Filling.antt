@@ -1,4 +1,4 @@
--- Storing the identity rows of a table in a caller's rows.
+-- Storing the identity rows of a table in a caller's rows. The scope doesn't speak of this; 11, 10 and what a refusal leaves are those of the writer.
 use mathlib.Core.List.{List, _++_}
 use Prim.Native.Nat.{ℕ}
 use lib.Dec.{ltb}
@@ -20,20 +20,20 @@ pub record Filled : Type 0 where
   pub answer : Written
   pub rows : List IdentityRow
 
--- On refusal, "the whole room is" as before; the place is 0.
+-- a refusal leaves everything as before, and its offset is 0
 abbrev pub refusal : ℕ → List IdentityRow → Filled
 refusal number out = record { answer = Written.Refused (fault number 0); rows = out }
 
 -- the rows stand at the front, their number is returned, and what stands behind them is as before
-abbrev pub placed : List IdentityRow → List IdentityRow → Filled
-placed xs out = record { answer = Length (length xs); rows = xs ++ drop (length xs) out }
+abbrev pub success : List IdentityRow → List IdentityRow → Filled
+success xs out = record { answer = Length (length xs); rows = xs ++ drop (length xs) out }
 
 -- 11 for a table that is not sound, then 10 for fewer rows than there are bags
 unfoldable pub fillOf : Table → List ℕ → List IdentityRow → Filled
 fillOf t s out =
     onFile (fileOf t s)
     (refusal notSound out)
-    (λ f. if ltb (length out) (t .«bag_count») then refusal noRoom out else placed (identitiesOf t s) out)
+    (λ f. if ltb (length out) (t .«bag_count») then refusal noRoom out else success (identitiesOf t s) out)
 
 -- ---- what the private functions compute
 
@@ -44,7 +44,7 @@ unfoldable pub refusedFilling : ℕ → Filling
 refusedFilling number = fillingAs (Written.Refused (fault number 0)) 0 (replicate bagRows noIdentity)
 
 unfoldable pub fillingOf : Table → List ℕ → ℕ → Filling
-fillingOf t s room =
+fillingOf t s capacity =
     onFile (fileOf t s)
     (refusedFilling notSound)
-    (λ f. if ltb room (t .«bag_count») then refusedFilling noRoom else fillingAs (Length (t .«bag_count»)) (t .«bag_count») (identityRows t s))
+    (λ f. if ltb capacity (t .«bag_count») then refusedFilling noRoom else fillingAs (Length (t .«bag_count»)) (t .«bag_count») (identityRows t s))

@@ -193,15 +193,15 @@ fn refused(number: u8) -> Filling
     }
 }
 
-// What filling `room` rows comes to.
-fn prepared(table: Table, bytes: &[u8], room: usize) -> Filling
-    ensures { λ r. ⌜ r ≡ fillingOf table (now (bytes .entry)) room ⌝ }
+// What filling `capacity` rows comes to.
+fn prepared(table: Table, bytes: &[u8], capacity: usize) -> Filling
+    ensures { λ r. ⌜ r ≡ fillingOf table (now (bytes .entry)) capacity ⌝ }
 {
     match sound::measure(table, bytes) {
         Measured::Unsound => refused(pkcs12::NOT_SOUND),
         Measured::Size(_) => {
             let count = table.bag_count;
-            if room < count {
+            if capacity < count {
                 return refused(pkcs12::NO_ROOM);
             }
             let rows = rows_of(table, bytes);

@@ -32,8 +32,8 @@ unfolding passed
 passed-all s i rows st l = ap (λ (r : List IdentityRow). passed s i r st) (drop-of-length-le rows {i = i} l)
 
 -- where a row of 6 bytes lies, as a number of 64 bits
-pub place-fits : (i n : ℕ) → i < n → n * 6 < 2 ^ 63 → i * 6 < 2 ^ 64
-place-fits i n l r = omega (arith, l, r)
+pub offset-fits : (i n : ℕ) → i < n → n * 6 < 2 ^ 63 → i * 6 < 2 ^ 64
+offset-fits i n l r = omega (arith, l, r)
 
 -- ---- two passes come to the only match
 

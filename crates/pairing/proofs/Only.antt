@@ -123,28 +123,28 @@ module _ (s : List ℕ) (key : IdentityRow) where
   -- row j is one of these, where n stand before them, and pairs with the key
   record Pairing (n : ℕ) (rows : List IdentityRow) (j : ℕ) : Type 0 where
     index : ℕ
-    place : j ≡ n + index
+    number : j ≡ n + index
     there : index < length rows
     pairs : pairsWith s key (getD rows index noIdentity) ≡ true
 
   pairing-first : (n : ℕ) (r : IdentityRow) (rs : List IdentityRow) → pairsWith s key r ≡ true → Pairing n (r ∷ rs) n
-  pairing-first n r rs e = record { index = 0; place = omega arith; there = omega arith; pairs = e }
+  pairing-first n r rs e = record { index = 0; number = omega arith; there = omega arith; pairs = e }
 
   pairing-next : (n : ℕ) (r : IdentityRow) (rs : List IdentityRow) (j : ℕ) → Pairing (n + 1) rs j → Pairing n (r ∷ rs) j
-  pairing-next n r rs j p = record { index = suc (p .index); place = omega (arith, p .place); there = omega (arith, p .there); pairs = p .pairs }
+  pairing-next n r rs j p = record { index = suc (p .index); number = omega (arith, p .number); there = omega (arith, p .there); pairs = p .pairs }
 
   -- the first row, or one behind it
   pairing-of : {P : Type 0} (n : ℕ) (r : IdentityRow) (rs : List IdentityRow) (j : ℕ) → Pairing n (r ∷ rs) j
       → (j ≡ n → pairsWith s key r ≡ true → P) → (Pairing (n + 1) rs j → P) → P
-  pairing-of {P} n r rs j p f g = go (p .index) (p .place) (p .there) (p .pairs)
+  pairing-of {P} n r rs j p f g = go (p .index) (p .number) (p .there) (p .pairs)
     where
       go : (i : ℕ) → j ≡ n + i → i < length (r ∷ rs) → pairsWith s key (getD (r ∷ rs) i noIdentity) ≡ true → P
       go zero e h q = f (omega arith) q
-      go (suc i) e h q = g (record { index = i; place = omega arith; there = omega arith; pairs = q })
+      go (suc i) e h q = g (record { index = i; number = omega arith; there = omega arith; pairs = q })
 
   module _ (n : ℕ) (r : IdentityRow) (rs : List IdentityRow) where
     later : (m : ℕ) → Pairing (n + 1) rs m → n < m
-    later m p = omega (arith, p .place)
+    later m p = omega (arith, p .number)
 
     listed-first : (ms : List ℕ) → pairsWith s key r ≡ true → Listed (Pairing (n + 1) rs) ms → Listed (Pairing n (r ∷ rs)) (n ∷ ms)
     listed-first [] e l = (pairing-first n r rs e, λ i p. pairing-of n r rs i p (λ h q. h) (λ q. absurd (l i q)))
@@ -168,7 +168,7 @@ module _ (s : List ℕ) (rows : List IdentityRow) (k : ℕ) where
   matches-of : (j : ℕ) → Pairing s (getD rows k noIdentity) 0 rows j → Matches s rows k j
   unfolding pairsWith sameId
   matches-of j p =
-      let h : j ≡ p .index = omega (arith, p .place) in
+      let h : j ≡ p .index = omega (arith, p .number) in
       let c = both-says _ _ (p .pairs) in
       let i = both-says _ _ (c .1) in
       let o = both-says _ _ (i .1) in
@@ -185,7 +185,7 @@ module _ (s : List ℕ) (rows : List IdentityRow) (k : ℕ) where
   of-matches j m =
       record {
         index = j;
-        place = omega arith;
+        number = omega arith;
         there = m .there;
         pairs = rw (m .certificate, m .key-id, m .row-id, m .equal) (same-self _);
       }

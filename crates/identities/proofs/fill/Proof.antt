@@ -58,7 +58,7 @@ use Rattle.pkcs12.proofs.Written.Laws as Wr′
 use Rattle.pairing.specs.Pairs.{noIdentity}
 use Rattle.pairing.specs.declared.IdentityRow.{IdentityRow}
 use Rattle.pairing.proofs.Walks.{tests, says-both, gave}
-use Rattle.pairing.proofs.Folds.{place-fits}
+use Rattle.pairing.proofs.Folds.{offset-fits}
 use Rattle.pairing.proofs.IdentityRow as I
 use Rattle.pairing.proofs.IdentityRow.Laws as I′
 use Rattle.identities.specs.Filling.{fillOf, fillingOf}
@@ -350,7 +350,7 @@ module _ {M : Type 1} (𝓤 : URA M) (H : Heap 𝓤) (A : Atoms 𝓤) (W : Given
           next-fits = lt-of-le-of-lt (add-one-le below) (room .0)
 
           small : i * 6 < 2 ^ 64
-          small = place-fits i n below (room .1)
+          small = offset-fits i n below (room .1)
 
       turns : (x : Now) → Sq W (At x) (runs C Λ En body.turn-1 (anyQ (Turned x)))
       unfolding afterTurn

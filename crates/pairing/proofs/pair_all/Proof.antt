@@ -83,8 +83,8 @@ module _ {M : Type 1} (𝓤 : URA M) (H : Heap 𝓤) (A : Atoms 𝓤) (mem : Mem
   Pair = tripleOf 𝓤 H A pair.signature (pair.spec 𝓤 H A mem run)
 
 -- the slice that is lent of the local array at block l, under the name γ, and the array's memory taken apart into its rows
-abbrev lent-as : List IdentityRow → ℕ → GName → RefT (List IdentityRow)
-lent-as rows l γ = record { ptr = (l, 0); name = γ; now = rows }
+abbrev borrowed-as : List IdentityRow → ℕ → GName → RefT (List IdentityRow)
+borrowed-as rows l γ = record { ptr = (l, 0); name = γ; now = rows }
 
 abbrev Apart : List IdentityRow → ℕ → Fml
 Apart rows l = arr-parts (shares I.the-row) (length rows) .part fullShare rows l 0
@@ -155,10 +155,10 @@ module _ {M : Type 1} (𝓤 : URA M) (H : Heap 𝓤) (A : Atoms 𝓤) (W : Given
   -- the call of `pair` on the local at block l, lent for α under the name γ
   module _ (l α : ℕ) (γ : GName) where
     abbrev OwnR : Fml
-    OwnR = ShrSlice (named 0) (α ∷ []) I.the-row .own (lent-as rows l γ) (sliceVal (l, 0) (length rows) ∷ [])
+    OwnR = ShrSlice (named 0) (α ∷ []) I.the-row .own (borrowed-as rows l γ) (sliceVal (l, 0) (length rows) ∷ [])
 
     abbrev to-pair : Pair 𝓤 H A mem run .Ghost
-    to-pair = (((α ∷ [], (κ, tt)), (fullShare, (q, tt)), tt, (lent-as rows l γ, (bytes, (k, tt))), (sliceVal (l, 0) (length rows) ∷ [], (vb ∷ [], (vint w64 k ∷ [], tt)))), tt)
+    to-pair = (((α ∷ [], (κ, tt)), (fullShare, (q, tt)), tt, (borrowed-as rows l γ, (bytes, (k, tt))), (sliceVal (l, 0) (length rows) ∷ [], (vb ∷ [], (vint w64 k ∷ [], tt)))), tt)
 
     goes-pair : ent 𝓤 (⋆ 𝓤 H A (‵ OwnR ∷ ‵ (flft (α ∷ []) fullShare) ∷ (Tok ⊛ ‵ OwnB) ∷ [])) (sep 𝓤 (Pair 𝓤 H A mem run .pre to-pair) (sem 𝓤 H A OwnB))
     goes-pair =
@@ -169,8 +169,8 @@ module _ {M : Type 1} (𝓤 : URA M) (H : Heap 𝓤) (A : Atoms 𝓤) (W : Given
         nothing ! $ move ! (1 ∷ 0 ∷ []) $ join ! $ frame ! $ done !
 
     -- of `pair`'s `ensured`, the clause alone: it has no `&mut`, so what is said of last values is dropped
-    said : (r : Paired) → ent 𝓤 (ensured 𝓤 H A pair.ended (pair.clauses 𝓤 H A mem run) (α ∷ [], (κ, tt)) (lent-as rows l γ, (bytes, (k, tt))) tt r) (fact 𝓤 (r ≡ ans))
-    said r = exE 𝓤 _ (λ ws. snd∗ 𝓤 (sem 𝓤 H A (lasts pair.ended (α ∷ [], (κ, tt)) (lent-as rows l γ, (bytes, (k, tt))) ws)) (fact 𝓤 (r ≡ ans)))
+    said : (r : Paired) → ent 𝓤 (ensured 𝓤 H A pair.ended (pair.clauses 𝓤 H A mem run) (α ∷ [], (κ, tt)) (borrowed-as rows l γ, (bytes, (k, tt))) tt r) (fact 𝓤 (r ≡ ans))
+    said r = exE 𝓤 _ (λ ws. snd∗ 𝓤 (sem 𝓤 H A (lasts pair.ended (α ∷ [], (κ, tt)) (borrowed-as rows l γ, (bytes, (k, tt))) ws)) (fact 𝓤 (r ≡ ans)))
 
   module _ (C : Calls 𝓤 H) (Λ : Loops 𝓤 H) (fm : FmC 𝓤 H (W .laws) C) (known : Triple 𝓤 (C #pairing·pair) (Pair 𝓤 H A mem run)) where
     walk : Holds (hasTy rows-ty va) × WT va → Is (ShrSlice (named 0) κ u8) bytes (vb ∷ [])
@@ -193,7 +193,7 @@ module _ {M : Type 1} (𝓤 : URA M) (H : Heap 𝓤) (A : Atoms 𝓤) (W : Given
         -- the call: [what the slice owns; the lender's part; the new token; the token and what bytes owns; _6; …; _5; …; …; _3; …; _2; …; _1; …; room for _0; …]
         move ! (0 ∷ 2 ∷ 3 ∷ []) $ use3 W (raw (Pair 𝓤 H A mem run .pre (to-pair l₄ α γ)) ⊛ ‵ OwnB) (goes-pair l₄ α γ) $ split ! $
         calls-at ! fm (Pair 𝓤 H A mem run) known (to-pair l₄ α γ) (and-then ! (load ! (from ! (stop !)) (look ! 3 refl)) (and-then ! (load ! (from ! (stop !)) (look ! 10 refl)) (and-then ! (load ! (from ! (stop !)) (look ! 8 refl)) (no-more !)))) (λ u.
-        use1 W (later (some (λ (r : Paired). ((‵ (flft (α ∷ []) fullShare) ⊛ Tok) ⊛ ‵ (P.the-row .own r (u ∷ []))) ⊛ raw (ensured 𝓤 H A pair.ended (pair.clauses 𝓤 H A mem run) (α ∷ [], (κ, tt)) (lent-as rows l₄ γ, (bytes, (k, tt))) tt r)))) (id⊢ 𝓤 _) $ await ! tt $ pick ! (λ r.
+        use1 W (later (some (λ (r : Paired). ((‵ (flft (α ∷ []) fullShare) ⊛ Tok) ⊛ ‵ (P.the-row .own r (u ∷ []))) ⊛ raw (ensured 𝓤 H A pair.ended (pair.clauses 𝓤 H A mem run) (α ∷ [], (κ, tt)) (borrowed-as rows l₄ γ, (bytes, (k, tt))) tt r)))) (id⊢ 𝓤 _) $ await ! tt $ pick ! (λ r.
         split ! $ move ! (1 ∷ []) $ use1 W (raw (fact 𝓤 (r ≡ ans))) (said l₄ α γ r) $ heard ! (r ≡ ans) (λ e. split ! $ rewrite ! 1 (λ (z : Paired). ‵ (P.the-row .own z (u ∷ []))) e refl $ move ! (1 ∷ []) $
         peeks ! P.the-row (Is P.the-row) (shows 𝓤 H A P.the-row) ans (u ∷ []) (λ is. land ! (from ! (stop !)) (init ! 15 refl (EL.lawful P.the-type P′.the-laws 𝓤 H A W tt .typed ans _ is .0)) $
         -- the new lifetime is ended, and the array's memory is back: [the result; the tokens; what bytes owns; the lender's part; _6; …]

@@ -53,7 +53,7 @@ use Rattle.pairing.specs.Search.{visited, passed}
 use Rattle.pairing.specs.declared.IdentityRow.{IdentityRow}
 use Rattle.pairing.specs.declared.Search.{Search}
 use Rattle.pairing.proofs.Walks.{tests}
-use Rattle.pairing.proofs.Folds.{passed-more, passed-all, place-fits}
+use Rattle.pairing.proofs.Folds.{passed-more, passed-all, offset-fits}
 use Rattle.pairing.proofs.IdentityRow as I
 use Rattle.pairing.proofs.IdentityRow.Laws as I′
 use Rattle.pairing.proofs.Search as S
@@ -301,7 +301,7 @@ module _ {M : Type 1} (𝓤 : URA M) (H : Heap 𝓤) (A : Atoms 𝓤) (W : Given
         next-fits = lt-of-le-of-lt (add-one-le l) (room .0)
 
         small : i * 6 < 2 ^ 64
-        small = place-fits i n l (room .1)
+        small = offset-fits i n l (room .1)
 
     turns : (x : Now) → Sq W (At x) (runs C Λ En body.turn-1 (anyQ (Turned x)))
     unfolding afterTurn
