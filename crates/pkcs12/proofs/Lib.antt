@@ -24,3 +24,4 @@ pub mod Refusals
 pub mod Corollaries
 pub mod Checked
 pub mod Writing
+pub mod Placing

@@ -14,5 +14,6 @@ pub mod Accepted
 pub mod Sound
 pub mod Checks
 pub mod Written
+pub mod Placed
 pub mod Bench
 pub mod Telling

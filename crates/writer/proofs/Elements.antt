@@ -213,7 +213,4 @@ file-put x n mac size d at m p m2 p2 m3 p3 m4 p4 e r s v z f g h k w =
 -- the file at the front of a buffer with room for it
 pub whole-put : (d f e : List ℕ) (r : ℕ) → Put d 0 f e r → length f ≤ length d → length f ≤ fileBytes → e ≡ f ++ drop (length f) d
 whole-put d f e r p h k =
-    p .done (record { inside = omega (arith, h); small = k }) .bytes ∙ sets-eq f d 0 (omega (arith, h)) ∙ rw (zero-plus (length f)) refl
-  where
-    zero-plus : (n : ℕ) → 0 + n ≡ n
-    zero-plus n = omega arith
+    placed-whole d f e r (p .done (record { inside = omega (arith, h); small = k })) h

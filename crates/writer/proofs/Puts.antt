@@ -10,15 +10,13 @@ use Rattle.der.proofs.Octets.{octets-short, octets-one, octets-two, tlv-long}
 use Rattle.der.proofs.Integers.{one-octet, two-octets, three-octets, four-octets, five-octets}
 use Rattle.pkcs12.specs.Numbers.{fileBytes}
 use Rattle.sizes.proofs.Capped.{Sized, near-cases}
-use Rattle.writer.specs.Put.{Room, Done, Put, header}
-
-sets-then : (x y d : List ℕ) (at : ℕ) → sets d at (x ++ y) ≡ sets (sets d at x) (at + length x) y
-sets-then [] y d at = let z : at + 0 ≡ at = omega arith in rw z refl
-sets-then (a ∷ x) y d at = let z : suc at + length x ≡ at + suc (length x) = omega arith in rw (← z) (sets-then x y (set d at a) (suc at))
+use Rattle.pkcs12.specs.Placed.{Placed}
+use Rattle.pkcs12.proofs.Placing.{sets-then, placed-nothing, placed-one, placed-length, placed-then}
+use Rattle.writer.specs.Put.{Room, Put, header}
 
 -- nothing is written
 pub put-nothing : (d : List ℕ) (at : ℕ) → Put d at [] d at
-put-nothing d at = record { done = λ h. record { bytes = refl; next = omega arith } }
+put-nothing d at = record { done = λ h. placed-nothing d at }
 
 pub put-as : (d : List ℕ) (at : ℕ) (x y e : List ℕ) (r : ℕ) → x ≡ y → Put d at x e r → Put d at y e r
 put-as d at x y e r p q = rw (← p) q
@@ -27,13 +25,13 @@ put-as d at x y e r p q = rw (← p) q
 pub put-then : (d : List ℕ) (at : ℕ) (x m : List ℕ) (p : ℕ) (y e : List ℕ) (r : ℕ) → Put d at x m p → Put m p y e r → Put d at (x ++ y) e r
 put-then d at x m p y e r f g = record { done = go }
   where
-    go : Room d at (x ++ y) → Done d at (x ++ y) e r
+    go : Room d at (x ++ y) → Placed d at (x ++ y) e r
     go h =
         let l = length-append x y in
         let a = f .done (record { inside = omega (arith, h .inside, l); small = omega (arith, h .small, l) }) in
-        let k : length m ≡ length d = ap length (a .bytes) ∙ length-sets d at x in
+        let k = placed-length d at x m p a in
         let b = g .done (record { inside = omega (arith, h .inside, l, k, a .next); small = omega (arith, h .small, l) }) in
-        record { bytes = b .bytes ∙ rw (a .bytes, a .next) (sym (sets-then x y d at)); next = omega (arith, a .next, b .next, l) }
+        placed-then d at x m p y e r a b
 
 -- the body of an element is written behind its header, which has the body's size
 pub put-element : (d : List ℕ) (at t n : ℕ) (m : List ℕ) (p : ℕ) (b e : List ℕ) (r : ℕ)
@@ -41,7 +39,7 @@ pub put-element : (d : List ℕ) (at t n : ℕ) (m : List ℕ) (p : ℕ) (b e : 
 unfolding tlv header
 put-element d at t n m p b e r f s g = record { done = go }
   where
-    go : Room d at (tlv t b) → Done d at (tlv t b) e r
+    go : Room d at (tlv t b) → Placed d at (tlv t b) e r
     go h =
         let l : length b ≤ fileBytes = omega (arith, h .small, tlv-long t b) in
         near-cases n (length b) s
@@ -55,7 +53,7 @@ module _ (d : List ℕ) (at b : ℕ) where
   byte-past h = record { done = λ k. absurd (omega (arith, k .inside, h)) }
 
   pub byte-put : at < length d → Put d at (b ∷ []) (set d at b) (at + 1)
-  byte-put h = record { done = λ k. record { bytes = refl; next = omega arith } }
+  byte-put h = record { done = λ k. placed-one d at b }
 
 module _ (d : List ℕ) (at : ℕ) (x : List ℕ) where
   pub copy-past : length d < at → Put d at x d at

@@ -133,11 +133,3 @@ module _ (t : Table) (s room : List ℕ) (r : Measured) (p : r ≡ measured t s)
             let f : List ℕ = a-file n e .0 in
             whole-put room f z at (rw (file-at t s f a (a-file n e .1)) at w) (omega (arith, k, size-is)) (omega (arith, h, size-is))
             ∙ sym (ap (λ (o : Outcome). o .buffer) written)
-
--- an outcome's answer and buffer
-module _ (o : Outcome) (number : ℕ) (room : List ℕ) (e : o ≡ refusal number room) where
-  pub refusal-answer : (r : Written) → r ≡ Written.Refused (fault number 0) → r ≡ o .answer
-  refusal-answer r p = p ∙ sym (ap (λ (x : Outcome). x .answer) e)
-
-  pub refusal-buffer : room ≡ o .buffer
-  refusal-buffer = sym (ap (λ (x : Outcome). x .buffer) e)

@@ -1,13 +1,12 @@
 -- What the functions that write do to the buffer: bytes x at a place of the buffer d, where there is room for them, and the place behind them.
-use mathlib.Core.Path.{_≡_}
 use mathlib.Core.List.{List, _∷_, _++_}
 use Prim.Native.Nat.{ℕ, _+_, _≤_}
 use lib.ListN.{length}
-use lib.Seq.{sets}
 use Rattle.der.specs.Octets.{lengthOctets}
 use Rattle.pkcs12.specs.Numbers.{fileBytes, sequenceTag, contextTag}
 use Rattle.pkcs12.specs.Identifiers.{identifierOf}
 use Rattle.pkcs12.specs.Encode.{identifier}
+use Rattle.pkcs12.specs.Placed.{Placed}
 use Rattle.pkcs12.specs.declared.BagKind.{BagKind}
 use Rattle.sizes.specs.Sizes.{elementSize, bagSize, contentInfoSize}
 
@@ -16,14 +15,9 @@ pub record Room (d : List ℕ) (at : ℕ) (x : List ℕ) : Type 0 where
   pub inside : at + length x ≤ length d
   pub small : length x ≤ fileBytes
 
--- they stand there, nothing else changed, and r is the place behind them
-pub record Done (d : List ℕ) (at : ℕ) (x e : List ℕ) (r : ℕ) : Type 0 where
-  pub bytes : e ≡ sets d at x
-  pub next : r ≡ at + length x
-
 -- the buffer is d before and e afterwards
 pub record Put (d : List ℕ) (at : ℕ) (x e : List ℕ) (r : ℕ) : Type 0 where
-  pub done : Room d at x → Done d at x e r
+  pub done : Room d at x → Placed d at x e r
 
 -- the header of an element whose body has n bytes
 unfoldable pub header : ℕ → ℕ → List ℕ

@@ -1,6 +1,7 @@
 -- The refusals first, in their order; then the file is written (Whole).
+use Rattle.pkcs12.proofs.Placing.{refusal-answer, refusal-buffer}
 use Rattle.sound.proofs.Whole.{arrays}
-use Rattle.writer.proofs.Whole.{refused-unsound, refused-long, refused-room, written-answer, written-buffer, refusal-answer, refusal-buffer}
+use Rattle.writer.proofs.Whole.{refused-unsound, refused-long, refused-room, written-answer, written-buffer}
 use borrow.Author.Needs.{needs}
 use Rattle.writer.proofs.write.Statement.{statement}
 use Rattle.writer.proofs.write.Tie as tie
