@@ -4,7 +4,7 @@ use mathlib.Core.List.{List, _++_, append-assoc}
 use Prim.Native.Nat.{ℕ, _+_, _≤_}
 use native.Mathlib.Omega.{arith}
 use lib.ListN.{length, drop}
-use lib.Seq.{sets-eq}
+use Rattle.pkcs12.proofs.Placing.{placed-whole}
 use Rattle.der.specs.Octets.{tlv}
 use Rattle.der.specs.Numbers.{octetStringTag}
 use Rattle.der.proofs.Octets.{octets-some}
