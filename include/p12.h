@@ -107,8 +107,8 @@ uint8_t p12_write(const uint32_t *table, size_t words, const uint8_t *bytes, siz
 uint8_t p12_attribute(const uint32_t *table, size_t words, const uint8_t *bytes, size_t length, size_t bag, size_t i, uint32_t *row, size_t row_words);
 
 /* Element i of an attribute's values, counted from 0, as the range of the whole element: *start and *end, both 0 where there is none. Gives the number
- * of elements. `values_start` and `values_end` are those of the attribute. */
-size_t p12_element(const uint8_t *bytes, size_t length, uint32_t values_start, uint32_t values_end, size_t i, size_t *start, size_t *end);
+ * of elements. `from` and `to` are the start and end of the values. */
+size_t p12_element(const uint8_t *bytes, size_t length, uint32_t from, uint32_t to, size_t i, size_t *start, size_t *end);
 
 /* The certificate bag for the key bag `key`: the only one with an equal localKeyID; its row is *bag. 11 if the table isn't sound over the bytes, 12 if that
  * row is no key's, 13 if no certificate fits or the key has no localKeyID, 14 if more than one fits; *bag is 0 then. */

@@ -2,5 +2,5 @@
 fn main() {
     let mut buffer = io::large_buffer();
     let n = io::read_full(libc::STDIN_FILENO, &mut buffer);
-    listing::show(n, reader::read(&buffer[..n]));
+    print::list(n, reader::read(&buffer[..n]));
 }

@@ -1,20 +1,178 @@
--- How many lines the listing of a reading has.
-use Prim.Native.Nat.{ℕ, _+_, min}
+-- The listing of a file: three lines and one for each row, or the line of a refusal. The lines in quotes are the scope's, and for rows those of docs/TESTS.md.
+use mathlib.Core.Bool.{Bool, true, false}
+use mathlib.Core.List.{List, [], _++_}
+use Prim.Native.Nat.{ℕ, zero, suc, _+_, min}
+use lib.Dec.{eqb}
+use lib.ListN.{getD}
+use Rattle.der.specs.Choice.{if_then_else_}
+use Rattle.der.specs.declared.Fault.{Fault}
 use Rattle.pkcs12.specs.Numbers.{safeRows, bagRows, attributeRows}
+use Rattle.pkcs12.specs.Table.{noSafe, noBag, noAttribute}
+use Rattle.pkcs12.specs.Placed.{each}
 use Rattle.pkcs12.specs.declared.Answer.{Answer}
 use Rattle.pkcs12.specs.declared.Answer.the-variants.{Accepted, Refused}
-use Rattle.pkcs12.specs.declared.Table.{Table}
+use Rattle.pkcs12.specs.declared.AttributeRow.{AttributeRow}
+use Rattle.pkcs12.specs.declared.BagKind.{BagKind}
+use Rattle.pkcs12.specs.declared.BagKind.the-variants.{Key, ShroudedKey, Certificate, Crl, Secret, Nested}
+use Rattle.pkcs12.specs.declared.BagRow.{BagRow}
+use Rattle.pkcs12.specs.declared.Enclosing.{Enclosing}
+use Rattle.pkcs12.specs.declared.Enclosing.the-variants.{Bag}
+use Rattle.pkcs12.specs.declared.Mac.{Mac}
+use Rattle.pkcs12.specs.declared.Parts.{Parts}
+use Rattle.pkcs12.specs.declared.Range.{Range}
 use Rattle.pkcs12.specs.declared.Reading.{Reading}
+use Rattle.pkcs12.specs.declared.SafeKind.{SafeKind}
+use Rattle.pkcs12.specs.declared.SafeKind.the-variants.{Plain, Encrypted}
+use Rattle.pkcs12.specs.declared.SafeRow.{SafeRow}
+use Rattle.pkcs12.specs.declared.Table.{Table}
+use Rattle.listing.specs.Text.{ascii, decimal}
 
--- Three lines, and one for each row. A count that is larger than its array stands for the array's rows.
-unfoldable pub linesAccepted : Table → ℕ
-linesAccepted t =
-    3 + min (t .«safe_count») safeRows + min (t .«bag_count») bagRows + min (t .«attribute_count») attributeRows
+-- ---- parts of lines
+
+-- a number behind a name
+unfoldable pub numberText : List ℕ → ℕ → List ℕ
+numberText name n = name ++ decimal n
+
+-- "A..B" behind a name
+unfoldable pub rangeText : List ℕ → Range → List ℕ
+rangeText name r = numberText name (r .start) ++ numberText (ascii "..") (r .end)
+
+-- ", algorithm A..B, parameters A..B, ciphertext A..B"
+unfoldable pub sealedText : Parts → List ℕ
+sealedText p =
+    rangeText (ascii ", algorithm ") (p .identifier)
+    ++ rangeText (ascii ", parameters ") (p .parameters)
+    ++ rangeText (ascii ", ciphertext ") (p .value)
+
+-- ", type A..B, value A..B"
+unfoldable pub typedText : Parts → List ℕ
+typedText p = rangeText (ascii ", type ") (p .identifier) ++ rangeText (ascii ", value ") (p .value)
+
+-- ---- safes
+
+-- "an empty row has the kind `none`"
+unfoldable pub safeText : SafeKind → Parts → List ℕ
+safeText SafeKind.None p = ascii ": none"
+safeText Plain p = ascii ": plain"
+safeText Encrypted p = ascii ": encrypted" ++ sealedText p
+
+-- "safe 0: plain", "safe 1: encrypted, algorithm A..B, parameters A..B, ciphertext A..B"
+unfoldable pub safeLine : ℕ → SafeRow → List ℕ
+safeLine i r = numberText (ascii "safe ") i ++ safeText (r .kind) (r .parts) ++ ascii "\n"
+
+-- ---- bags
+
+unfoldable pub kindText : BagKind → List ℕ
+kindText BagKind.None = ascii ": none"
+kindText Key = ascii ": key"
+kindText ShroudedKey = ascii ": shrouded key"
+kindText Certificate = ascii ": certificate"
+kindText Crl = ascii ": crl"
+kindText Secret = ascii ": secret"
+kindText Nested = ascii ": nested"
+
+-- ", in none", ", in bag 2"
+unfoldable pub enclosingText : Enclosing → List ℕ
+enclosingText Enclosing.None = ascii ", in none"
+enclosingText (Bag n) = numberText (ascii ", in bag ") n
+
+-- the ranges that a bag of a kind has: ", key A..B"; "`crl` and `secret` have the same parts" as a certificate
+unfoldable pub partsText : BagKind → Parts → List ℕ
+partsText BagKind.None p = []
+partsText Key p = rangeText (ascii ", key ") (p .value)
+partsText ShroudedKey p = sealedText p
+partsText Certificate p = typedText p
+partsText Crl p = typedText p
+partsText Secret p = typedText p
+partsText Nested p = []
+
+-- "`attributes N` counts the attribute rows that name the bag; `no attributes` says that no set stands there."
+unfoldable pub setText : Bool → ℕ → List ℕ
+setText true own = numberText (ascii ", attributes ") own
+setText false own = ascii ", no attributes"
+
+-- "bag 3: certificate, safe 0, in bag 2"
+unfoldable pub bagStart : ℕ → BagRow → List ℕ
+bagStart i r = numberText (ascii "bag ") i ++ kindText (r .kind) ++ numberText (ascii ", safe ") (r .safe) ++ enclosingText (r .enclosing)
+
+-- "bag 3: certificate, safe 0, in bag 2, type A..B, value A..B, attributes 2"
+unfoldable pub bagLine : ℕ → BagRow → ℕ → List ℕ
+bagLine i r own = bagStart i r ++ partsText (r .kind) (r .parts) ++ setText (r .«has_set») own ++ ascii "\n"
+
+-- ---- attributes
+
+-- "attribute 0: bag 3, type A..B, values A..B"
+unfoldable pub attributeLine : ℕ → AttributeRow → List ℕ
+attributeLine i r =
+    numberText (ascii "attribute ") i
+    ++ numberText (ascii ": bag ") (r .bag)
+    ++ rangeText (ascii ", type ") (r .identifier)
+    ++ rangeText (ascii ", values ") (r .values)
+    ++ ascii "\n"
+
+-- ---- the rows of a table
+
+-- "a count past its array counts as the array's rows"
+abbrev pub safes : Table → ℕ
+safes t = min (t .«safe_count») safeRows
+
+abbrev pub bags : Table → ℕ
+bags t = min (t .«bag_count») bagRows
+
+abbrev pub attributes : Table → ℕ
+attributes t = min (t .«attribute_count») attributeRows
+
+-- of the first n attribute rows, those that name a bag
+unfoldable pub ownAmong : Table → ℕ → ℕ → ℕ
+ownAmong t bag zero = 0
+ownAmong t bag (suc n) = ownAmong t bag n + (if eqb (getD (t .attributes) n noAttribute .bag) bag then 1 else 0)
+
+abbrev pub own : Table → ℕ → ℕ
+own t bag = ownAmong t bag (attributes t)
+
+abbrev pub safeAt : Table → ℕ → List ℕ
+safeAt t i = safeLine i (getD (t .safes) i noSafe)
+
+abbrev pub bagAt : Table → ℕ → List ℕ
+bagAt t i = bagLine i (getD (t .bags) i noBag) (own t i)
+
+abbrev pub attributeAt : Table → ℕ → List ℕ
+attributeAt t i = attributeLine i (getD (t .attributes) i noAttribute)
+
+-- ---- the whole
+
+-- "pfx 47 bytes, 13 elements"
+unfoldable pub fileLine : ℕ → ℕ → List ℕ
+fileLine size elements = numberText (ascii "pfx ") size ++ numberText (ascii " bytes, ") elements ++ ascii " elements\n"
+
+-- "safes 0, bags 0, attributes 0"
+unfoldable pub countsLine : ℕ → ℕ → ℕ → List ℕ
+countsLine i j k = numberText (ascii "safes ") i ++ numberText (ascii ", bags ") j ++ numberText (ascii ", attributes ") k ++ ascii "\n"
+
+-- "mac input 22..24, digest 43..44, salt 46..47, iterations 1"
+unfoldable pub macLine : Range → Mac → List ℕ
+macLine input m =
+    rangeText (ascii "mac input ") input
+    ++ rangeText (ascii ", digest ") (m .parts .value)
+    ++ rangeText (ascii ", salt ") (m .salt)
+    ++ numberText (ascii ", iterations ") (m .iterations)
+    ++ ascii "\n"
+
+unfoldable pub headLines : ℕ → Table → List ℕ
+headLines size t = fileLine size (t .elements) ++ countsLine (safes t) (bags t) (attributes t) ++ macLine (t .«mac_input») (t .mac)
+
+-- "An accepted file has three lines and then one for each row"
+unfoldable pub acceptedLines : ℕ → Table → List ℕ
+acceptedLines size t = headLines size t ++ each (safeAt t) (safes t) ++ each (bagAt t) (bags t) ++ each (attributeAt t) (attributes t)
 
 -- "A refusal lists as `refused N at P`."
-abbrev pub linesFor : Answer → Table → ℕ
-linesFor Accepted t = linesAccepted t
-linesFor (Refused f) t = 1
+unfoldable pub refusedLine : Fault → List ℕ
+refusedLine f = numberText (ascii "refused ") (f .number) ++ numberText (ascii " at ") (f .offset) ++ ascii "\n"
 
-unfoldable pub linesOf : Reading → ℕ
-linesOf r = linesFor (r .answer) (r .table)
+unfoldable pub answered : Answer → ℕ → Table → List ℕ
+answered Accepted size t = acceptedLines size t
+answered (Refused f) size t = refusedLine f
+
+-- the listing of a file of this size
+unfoldable pub listing : ℕ → Reading → List ℕ
+listing size r = answered (r .answer) size (r .table)

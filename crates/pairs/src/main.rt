@@ -9,7 +9,7 @@ fn pairs(file: &[u8]) {
             pair_lines::show(reading.table, file);
         }
         Answer::Refused(_) => {
-            listing::show(file.len(), reading);
+            print::list(file.len(), reading);
         }
     }
 }

@@ -2,11 +2,12 @@
 use mathlib.Core.Path.{_≡_, refl, sym, ap, _∙_}
 use mathlib.Core.List.{List, [], _∷_, _++_}
 use Prim.Native.Nat.{ℕ, suc, _+_, _≤_}
+use native.Mathlib.Numerals.{add-one}
 use native.Mathlib.Omega.{arith}
 use lib.ListN.{length, set, drop, length-append}
 use lib.Seq.{sets, length-sets, sets-eq}
 use Rattle.der.specs.Element.{fault}
-use Rattle.pkcs12.specs.Placed.{Placed}
+use Rattle.pkcs12.specs.Placed.{Placed, each}
 use Rattle.pkcs12.specs.Written.{Outcome, refusal}
 use Rattle.pkcs12.specs.declared.Written.{Written}
 
@@ -37,6 +38,10 @@ placed-whole d x e r p h =
   where
     zero-plus : (n : ℕ) → 0 + n ≡ n
     zero-plus n = omega arith
+
+pub each-more : {A : Type 0} (f : ℕ → List A) (i : ℕ) → each f (i + 1) ≡ each f i ++ f i
+unfolding each
+each-more f i = rw add-one
 
 -- the answer and the buffer of a refusal
 module _ (o : Outcome) (number : ℕ) (room : List ℕ) (e : o ≡ refusal number room) where

@@ -11,20 +11,16 @@ fn refused(fault: Fault) {
         answer: Answer::Refused(fault),
         table: Table::empty(),
     };
-    listing::show(0, reading);
-}
-
-fn put(out: &[u8], n: usize) {
-    if n <= out.len() {
-        io::write_all(libc::STDOUT_FILENO, &out[0..n]);
-    }
+    print::list(0, reading);
 }
 
 fn write_back(table: Table, file: &[u8]) {
     let mut out = io::large_buffer();
     let written = writer::write(table, file, &mut out);
     match written {
-        Written::Length(n) => put(&out, n),
+        Written::Length(n) => {
+            print::front(&out, n);
+        }
         Written::Refused(fault) => refused(fault),
     }
 }

@@ -52,7 +52,7 @@ fn write_back(table: Table, file: &[u8], out: &mut [u8]) {
 // Lists a file and, if it is accepted, pairs its keys and writes it back.
 fn list(file: &[u8], out: &mut [u8]) {
     let reading = reader::read(file);
-    listing::show(file.len(), reading);
+    print::list(file.len(), reading);
     let answer = reading.answer;
     match answer {
         Answer::Accepted => {

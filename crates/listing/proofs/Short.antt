@@ -1,0 +1,177 @@
+-- No listing is long: a bound for every part of a line, for every line and for the whole.
+use mathlib.Core.Bool.{Bool, true, false}
+use mathlib.Core.List.{List, [], _++_}
+use Prim.Native.Nat.{ℕ, zero, suc, _+_, _*_, _/_, _%_, _≤_}
+use native.Mathlib.Nat.{suc-mul}
+use native.Mathlib.Omega.{arith}
+use lib.Dec.{ltb}
+use lib.ListN.{length, getD, length-append}
+use Rattle.der.specs.Choice.{if_then_else_}
+use Rattle.der.specs.declared.Fault.{Fault}
+use Rattle.pkcs12.specs.Table.{noSafe, noBag, noAttribute}
+use Rattle.pkcs12.specs.declared.Answer.{Answer}
+use Rattle.pkcs12.specs.declared.Answer.the-variants.{Accepted, Refused}
+use Rattle.pkcs12.specs.declared.AttributeRow.{AttributeRow}
+use Rattle.pkcs12.specs.declared.BagKind.{BagKind}
+use Rattle.pkcs12.specs.declared.BagKind.the-variants.{Key, ShroudedKey, Certificate, Crl, Secret, Nested}
+use Rattle.pkcs12.specs.declared.BagRow.{BagRow}
+use Rattle.pkcs12.specs.declared.Enclosing.{Enclosing}
+use Rattle.pkcs12.specs.declared.Enclosing.the-variants.{Bag}
+use Rattle.pkcs12.specs.declared.Mac.{Mac}
+use Rattle.pkcs12.specs.declared.Parts.{Parts}
+use Rattle.pkcs12.specs.declared.Range.{Range}
+use Rattle.pkcs12.specs.declared.Reading.{Reading}
+use Rattle.pkcs12.specs.declared.SafeKind.{SafeKind}
+use Rattle.pkcs12.specs.declared.SafeKind.the-variants.{Plain, Encrypted}
+use Rattle.pkcs12.specs.declared.SafeRow.{SafeRow}
+use Rattle.pkcs12.specs.declared.Table.{Table}
+use Rattle.pkcs12.specs.Placed.{each}
+use Rattle.listing.specs.Text.{ascii, digit, digits, decimal}
+use Rattle.listing.specs.Lines.{numberText, rangeText, sealedText, typedText, safeText, safeLine, kindText, enclosingText, partsText, setText, bagStart, bagLine, attributeLine, safes, bags, attributes, own, safeAt, bagAt, attributeAt, fileLine, countsLine, macLine, headLines, acceptedLines, refusedLine, answered, listing}
+use Rattle.listing.specs.Put.{limit}
+
+pub record Short (m : ℕ) (x : List ℕ) : Type 0 where
+  pub most : length x ≤ m
+
+word : (x : List ℕ) → Short (length x) x
+word x = record { most = omega arith }
+
+within : {m : ℕ} {x : List ℕ} (n : ℕ) → m ≤ n → Short m x → Short n x
+within n h s = record { most = omega (arith, h, s .most) }
+
+infixl 5 _and_
+_and_ : {m n : ℕ} {x y : List ℕ} → Short m x → Short n y → Short (m + n) (x ++ y)
+_and_ {m} {n} {x} {y} s t = record { most = omega (arith, s .most, t .most, length-append x y) }
+
+-- ---- parts of lines
+
+digits-short : (k n : ℕ) → length (digits k n) ≤ k
+unfolding digits
+digits-short zero n = omega arith
+digits-short (suc k) n = go (ltb n 10) (digits-short k (n / 10))
+  where
+    go : (u : Bool) → length (digits k (n / 10)) ≤ k → length (if u then digit n else digits k (n / 10) ++ digit (n % 10)) ≤ suc k
+    go true h = omega arith
+    go false h = omega (arith, length-append (digits k (n / 10)) (digit (n % 10)), h)
+
+number : (name : List ℕ) (n : ℕ) → Short (length name + 20) (numberText name n)
+unfolding numberText decimal
+number name n = word name and record { most = digits-short 20 n }
+
+range : (name : List ℕ) (r : Range) → Short (length name + 42) (rangeText name r)
+unfolding rangeText ascii
+range name r = within (length name + 42) (omega arith) (number name (r .start) and number (ascii "..") (r .end))
+
+sealed : (p : Parts) → Short 164 (sealedText p)
+unfolding sealedText ascii
+sealed p = within 164 (omega arith) (range (ascii ", algorithm ") (p .identifier) and range (ascii ", parameters ") (p .parameters) and range (ascii ", ciphertext ") (p .value))
+
+typed : (p : Parts) → Short 99 (typedText p)
+unfolding typedText ascii
+typed p = within 99 (omega arith) (range (ascii ", type ") (p .identifier) and range (ascii ", value ") (p .value))
+
+-- ---- lines
+
+safe-text : (k : SafeKind) (p : Parts) → Short 175 (safeText k p)
+unfolding safeText ascii
+safe-text SafeKind.None p = within 175 (omega arith) (word (ascii ": none"))
+safe-text Plain p = within 175 (omega arith) (word (ascii ": plain"))
+safe-text Encrypted p = within 175 (omega arith) (word (ascii ": encrypted") and sealed p)
+
+safe-line : (i : ℕ) (r : SafeRow) → Short 201 (safeLine i r)
+unfolding safeLine ascii
+safe-line i r = within 201 (omega arith) (number (ascii "safe ") i and safe-text (r .kind) (r .parts) and word (ascii "\n"))
+
+kind-text : (k : BagKind) → Short 14 (kindText k)
+unfolding kindText ascii
+kind-text BagKind.None = within 14 (omega arith) (word (ascii ": none"))
+kind-text Key = within 14 (omega arith) (word (ascii ": key"))
+kind-text ShroudedKey = within 14 (omega arith) (word (ascii ": shrouded key"))
+kind-text Certificate = within 14 (omega arith) (word (ascii ": certificate"))
+kind-text Crl = within 14 (omega arith) (word (ascii ": crl"))
+kind-text Secret = within 14 (omega arith) (word (ascii ": secret"))
+kind-text Nested = within 14 (omega arith) (word (ascii ": nested"))
+
+enclosing-text : (e : Enclosing) → Short 29 (enclosingText e)
+unfolding enclosingText ascii
+enclosing-text Enclosing.None = within 29 (omega arith) (word (ascii ", in none"))
+enclosing-text (Bag n) = within 29 (omega arith) (number (ascii ", in bag ") n)
+
+parts-text : (k : BagKind) (p : Parts) → Short 164 (partsText k p)
+unfolding partsText ascii
+parts-text BagKind.None p = within 164 (omega arith) (word [])
+parts-text Key p = within 164 (omega arith) (range (ascii ", key ") (p .value))
+parts-text ShroudedKey p = sealed p
+parts-text Certificate p = within 164 (omega arith) (typed p)
+parts-text Crl p = within 164 (omega arith) (typed p)
+parts-text Secret p = within 164 (omega arith) (typed p)
+parts-text Nested p = within 164 (omega arith) (word [])
+
+set-text : (h : Bool) (own : ℕ) → Short 33 (setText h own)
+unfolding setText ascii
+set-text true own = within 33 (omega arith) (number (ascii ", attributes ") own)
+set-text false own = within 33 (omega arith) (word (ascii ", no attributes"))
+
+bag-start : (i : ℕ) (r : BagRow) → Short 94 (bagStart i r)
+unfolding bagStart ascii
+bag-start i r =
+    within 94 (omega arith)
+    (number (ascii "bag ") i and kind-text (r .kind) and number (ascii ", safe ") (r .safe) and enclosing-text (r .enclosing))
+
+bag-line : (i : ℕ) (r : BagRow) (own : ℕ) → Short 292 (bagLine i r own)
+unfolding bagLine ascii
+bag-line i r own =
+    within 292 (omega arith)
+    (bag-start i r and parts-text (r .kind) (r .parts) and set-text (r .«has_set») own and word (ascii "\n"))
+
+attribute-line : (i : ℕ) (r : AttributeRow) → Short 157 (attributeLine i r)
+unfolding attributeLine ascii
+attribute-line i r =
+    within 157 (omega arith)
+    (number (ascii "attribute ") i and number (ascii ": bag ") (r .bag) and range (ascii ", type ") (r .identifier) and range (ascii ", values ") (r .values) and word (ascii "\n"))
+
+file-line : (size elements : ℕ) → Short 62 (fileLine size elements)
+unfolding fileLine ascii
+file-line size elements = within 62 (omega arith) (number (ascii "pfx ") size and number (ascii " bytes, ") elements and word (ascii " elements\n"))
+
+counts-line : (i j k : ℕ) → Short 87 (countsLine i j k)
+unfolding countsLine ascii
+counts-line i j k =
+    within 87 (omega arith) (number (ascii "safes ") i and number (ascii ", bags ") j and number (ascii ", attributes ") k and word (ascii "\n"))
+
+mac-line : (input : Range) (m : Mac) → Short 186 (macLine input m)
+unfolding macLine ascii
+mac-line input m =
+    within 186 (omega arith)
+    (range (ascii "mac input ") input and range (ascii ", digest ") (m .parts .value) and range (ascii ", salt ") (m .salt) and number (ascii ", iterations ") (m .iterations) and word (ascii "\n"))
+
+refused-line : (f : Fault) → Short 53 (refusedLine f)
+unfolding refusedLine ascii
+refused-line f = within 53 (omega arith) (number (ascii "refused ") (f .number) and number (ascii " at ") (f .offset) and word (ascii "\n"))
+
+-- ---- the whole
+
+-- n lines, each of m bytes at most
+lines : (line : ℕ → List ℕ) (m : ℕ) → ((i : ℕ) → Short m (line i)) → (n : ℕ) → Short (n * m) (each line n)
+unfolding each
+lines line m h zero = within (0 * m) (omega arith) (word [])
+lines line m h (suc n) = within (suc n * m) (rw (suc-mul n m) (omega arith)) (lines line m h n and h n)
+
+accepted : (size : ℕ) (t : Table) → Short limit (acceptedLines size t)
+unfolding acceptedLines headLines
+accepted size t =
+    within limit (omega arith)
+    (file-line size (t .elements) and counts-line (safes t) (bags t) (attributes t) and mac-line (t .«mac_input») (t .mac)
+    and lines (safeAt t) 201 (λ i. safe-line i (getD (t .safes) i noSafe)) (safes t)
+    and lines (bagAt t) 292 (λ i. bag-line i (getD (t .bags) i noBag) (own t i)) (bags t)
+    and lines (attributeAt t) 157 (λ i. attribute-line i (getD (t .attributes) i noAttribute)) (attributes t))
+
+answered-short : (a : Answer) (size : ℕ) (t : Table) → Short limit (answered a size t)
+unfolding answered
+answered-short Accepted size t = accepted size t
+answered-short (Refused f) size t = within limit (omega arith) (refused-line f)
+
+-- every listing is within the limit
+pub short : (size : ℕ) (r : Reading) → length (listing size r) ≤ limit
+unfolding listing
+short size r = answered-short (r .answer) size (r .table) .most

@@ -1,0 +1,53 @@
+-- The parts one behind another.
+use Rattle.listing.specs.Text.{ascii}
+use Rattle.listing.specs.Lines.{countsLine}
+use Rattle.listing.proofs.Puts.{_then_}
+use borrow.Author.Needs.{needs}
+use Rattle.listing.proofs.lines.counts_line.Statement.{statement}
+use Rattle.listing.proofs.lines.counts_line.Tie as tie
+
+slice-aggregate-number : tie.Need-slice-aggregate-number
+slice-aggregate-number c = search needs
+
+number-requires : tie.Need-number-requires
+number-requires c κs = search needs
+
+slice-aggregate-number-2 : tie.Need-slice-aggregate-number-2
+slice-aggregate-number-2 c = search needs
+
+number-requires-2 : tie.Need-number-requires-2
+number-requires-2 c κs = search needs
+
+slice-aggregate-number-3 : tie.Need-slice-aggregate-number-3
+slice-aggregate-number-3 c = search needs
+
+number-requires-3 : tie.Need-number-requires-3
+number-requires-3 c κs = search needs
+
+slice-aggregate-text : tie.Need-slice-aggregate-text
+slice-aggregate-text c = search needs
+
+text-requires : tie.Need-text-requires
+text-requires c κs = search needs
+
+same-length : tie.Need-same-length
+same-length c = search needs
+
+returns : tie.Need-returns
+unfolding ascii countsLine
+returns c = c .before .before .before .before .before .before .before .before .before .before .before .before .before .before .before .before .before .number .ensures then c .before .before .before .before .before .before .before .before .before .before .before .before .number2 .ensures then c .before .before .before .before .before .before .before .number3 .ensures then c .before .before .text .ensures
+
+pub counts-line-spec : {M : Type 1} → statement M
+counts-line-spec =
+    tie.close
+    (tie.spec
+    slice-aggregate-number
+    number-requires
+    slice-aggregate-number-2
+    number-requires-2
+    slice-aggregate-number-3
+    number-requires-3
+    slice-aggregate-text
+    text-requires
+    same-length
+    returns)

@@ -1,0 +1,65 @@
+-- The parts one behind another.
+use Rattle.listing.specs.Text.{ascii}
+use Rattle.listing.specs.Lines.{macLine}
+use Rattle.listing.proofs.Puts.{_then_}
+use borrow.Author.Needs.{needs}
+use Rattle.listing.proofs.lines.mac_line.Statement.{statement}
+use Rattle.listing.proofs.lines.mac_line.Tie as tie
+
+cast-iterations : tie.Need-cast-iterations
+cast-iterations c = search needs
+
+slice-aggregate-range : tie.Need-slice-aggregate-range
+slice-aggregate-range c = search needs
+
+range-requires : tie.Need-range-requires
+range-requires c κs = search needs
+
+slice-aggregate-range-2 : tie.Need-slice-aggregate-range-2
+slice-aggregate-range-2 c = search needs
+
+range-requires-2 : tie.Need-range-requires-2
+range-requires-2 c κs = search needs
+
+slice-aggregate-range-3 : tie.Need-slice-aggregate-range-3
+slice-aggregate-range-3 c = search needs
+
+range-requires-3 : tie.Need-range-requires-3
+range-requires-3 c κs = search needs
+
+slice-aggregate-number : tie.Need-slice-aggregate-number
+slice-aggregate-number c = search needs
+
+number-requires : tie.Need-number-requires
+number-requires c κs = search needs
+
+slice-aggregate-text : tie.Need-slice-aggregate-text
+slice-aggregate-text c = search needs
+
+text-requires : tie.Need-text-requires
+text-requires c κs = search needs
+
+same-length : tie.Need-same-length
+same-length c = search needs
+
+returns : tie.Need-returns
+unfolding ascii macLine
+returns c = c .before .before .before .before .before .before .before .before .before .before .before .before .before .before .before .before .before .before .before .before .before .before .range .ensures then c .before .before .before .before .before .before .before .before .before .before .before .before .before .before .before .before .before .range2 .ensures then c .before .before .before .before .before .before .before .before .before .before .before .before .range3 .ensures then c .before .before .before .before .before .before .before .number .ensures then c .before .before .text .ensures
+
+pub mac-line-spec : {M : Type 1} → statement M
+mac-line-spec =
+    tie.close
+    (tie.spec
+    cast-iterations
+    slice-aggregate-range
+    range-requires
+    slice-aggregate-range-2
+    range-requires-2
+    slice-aggregate-range-3
+    range-requires-3
+    slice-aggregate-number
+    number-requires
+    slice-aggregate-text
+    text-requires
+    same-length
+    returns)

@@ -1,0 +1,16 @@
+-- What writing a listing into a buffer gives: the answer and the buffer afterwards.
+use mathlib.Core.List.{List}
+use Prim.Native.Nat.{ℕ}
+use lib.Dec.{ltb}
+use lib.ListN.{length}
+use Rattle.der.specs.Choice.{if_then_else_}
+use Rattle.pkcs12.specs.Numbers.{noRoom}
+use Rattle.pkcs12.specs.Written.{Outcome, refusal, success}
+use Rattle.pkcs12.specs.declared.Reading.{Reading}
+use Rattle.listing.specs.Lines.{listing}
+
+-- refused, and the buffer as before, exactly where the buffer is shorter than the listing
+unfoldable pub listed : ℕ → Reading → List ℕ → Outcome
+listed size reading room =
+    if ltb (length room) (length (listing size reading)) then refusal noRoom room else
+    success (listing size reading) room

@@ -1,0 +1,85 @@
+// The lines of a table's rows. A count past its array counts as the array's rows.
+ghost use mathlib.Core.Path.{_≡_};
+ghost use Prim.Native.Nat.{min};
+ghost use lib.Dec.{eqb};
+ghost use Rattle.der.specs.Choice.{if_then_else_};
+ghost use Rattle.pkcs12.specs.Placed.{each};
+ghost use Rattle.listing.specs.Lines.{own, safes, bags, attributes, safeAt, bagAt, attributeAt};
+ghost use Rattle.listing.specs.Put.{Put};
+use crate::lines;
+use pkcs12::ATTRIBUTE_ROWS;
+use pkcs12::BAG_ROWS;
+use pkcs12::SAFE_ROWS;
+use pkcs12::Table;
+
+pub(crate) fn counted(count: usize, most: usize) -> usize
+    ensures { λ r. ⌜ r ≡ min count most ⌝ }
+{
+    if count < most { count } else { most }
+}
+
+// 1 for an attribute row of this bag.
+fn one_if_own(owner: usize, bag: usize) -> usize
+    ensures { λ r. ⌜ r ≡ (if eqb owner bag then 1 else 0) ⌝ }
+{
+    if owner == bag { 1 } else { 0 }
+}
+
+// The number of attribute rows that name this bag.
+fn own_attributes(table: Table, bag: usize) -> usize
+    ensures { λ r. ⌜ r ≡ own table bag ⌝ }
+{
+    let n = counted(table.attribute_count, ATTRIBUTE_ROWS);
+    let mut own = 0;
+    let mut i = 0;
+    while i < n {
+        let row = table.attributes[i];
+        let owner = row.bag as usize;
+        own = own + one_if_own(owner, bag);
+        i = i + 1;
+    }
+    own
+}
+
+pub(crate) fn safe_lines(out: &mut [u8], at: usize, table: Table) -> usize
+    ensures { λ r. ⌜ Put (now (out .entry)) at (each (safeAt table) (safes table)) (now (out .exit)) r ⌝ }
+{
+    let n = counted(table.safe_count, SAFE_ROWS);
+    let mut to = at;
+    let mut i = 0;
+    while i < n {
+        let row = table.safes[i];
+        to = lines::safe_line(out, to, i, row);
+        i = i + 1;
+    }
+    to
+}
+
+pub(crate) fn bag_lines(out: &mut [u8], at: usize, table: Table) -> usize
+    ensures { λ r. ⌜ Put (now (out .entry)) at (each (bagAt table) (bags table)) (now (out .exit)) r ⌝ }
+{
+    let n = counted(table.bag_count, BAG_ROWS);
+    let mut to = at;
+    let mut i = 0;
+    while i < n {
+        let row = table.bags[i];
+        let own = own_attributes(table, i);
+        to = lines::bag_line(out, to, i, row, own);
+        i = i + 1;
+    }
+    to
+}
+
+pub(crate) fn attribute_lines(out: &mut [u8], at: usize, table: Table) -> usize
+    ensures { λ r. ⌜ Put (now (out .entry)) at (each (attributeAt table) (attributes table)) (now (out .exit)) r ⌝ }
+{
+    let n = counted(table.attribute_count, ATTRIBUTE_ROWS);
+    let mut to = at;
+    let mut i = 0;
+    while i < n {
+        let row = table.attributes[i];
+        to = lines::attribute_line(out, to, i, row);
+        i = i + 1;
+    }
+    to
+}

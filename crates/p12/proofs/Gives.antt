@@ -1,0 +1,122 @@
+-- The ways out of the calls: what the functions below gave is what the call gives.
+use mathlib.Core.Path.{_≡_, refl, sym, ap, _∙_}
+use mathlib.Core.List.{List}
+use Prim.Native.Nat.{ℕ}
+use lib.ListN.{length}
+use Rattle.der.specs.declared.Fault.{Fault}
+use Rattle.pkcs12.specs.Walk.{readFile}
+use Rattle.pkcs12.specs.Written.{Outcome, lengthOf, writeFile}
+use Rattle.pkcs12.specs.declared.Range.{Range}
+use Rattle.pkcs12.specs.declared.AttributeRow.{AttributeRow}
+use Rattle.pkcs12.specs.declared.Table.{Table}
+use Rattle.pkcs12.specs.declared.Answer.{Answer}
+use Rattle.pkcs12.specs.declared.Answer.the-variants.{Accepted}
+use Rattle.pkcs12.specs.declared.Reading.{Reading}
+use Rattle.pkcs12.specs.declared.Written.{Written}
+use Rattle.attributes.specs.Reader.{openingOf, itemAfter}
+use Rattle.attributes.specs.Elements.{elementRanges, countedOf}
+use Rattle.attributes.specs.declared.Counted.{Counted}
+use Rattle.attributes.specs.declared.Item.{Item}
+use Rattle.attributes.specs.declared.Item.the-variants.{Ready, Done}
+use Rattle.pairing.specs.declared.Paired.{Paired}
+use Rattle.identities.specs.Identities.{certificateFor}
+use Rattle.words.specs.Stored.{stored, storedRow}
+use Rattle.words.specs.Loaded.{tableIn}
+use Rattle.listing.specs.Listed.{listed}
+use Rattle.p12.specs.Calls.{done, readNumber, writtenNumber, Called, called, wrote, put, readAs, readCall, writeCall, itemAs, attributeCall, certificateCall, listCall}
+
+-- what a call gives is this
+abbrev pub Gives : Called → ℕ → List ℕ → ℕ → Type 0
+Gives c n m v = (n ≡ c .number) × ((m ≡ c .memory) × (v ≡ c .value))
+
+gives-all : (c : Called) (n : ℕ) (m : List ℕ) (v : ℕ) → called n m v ≡ c → Gives c n m v
+gives-all c n m v e = (ap (λ (x : Called). x .number) e, (ap (λ (x : Called). x .memory) e, ap (λ (x : Called). x .value) e))
+
+-- an outcome of writing, by its answer and the buffer
+module _ (o : Outcome) (w : Written) (z : List ℕ) (p : w ≡ o .answer) (q : z ≡ o .buffer) (n : ℕ) (r : n ≡ writtenNumber w) where
+  wrote-is : (k : ℕ) → k ≡ lengthOf w → called n z k ≡ wrote o
+  wrote-is k e = rw (e, r, q, p) refl
+
+  put-is : called n z 0 ≡ put o
+  put-is = rw (r, q, p) refl
+
+-- ---- reading
+
+module _ (f room : List ℕ) (rd : Reading) (e : rd ≡ readFile f) where
+  -- an accepted file, and what storing its table gave
+  pub read-stored : rd .answer ≡ Accepted → (w : Written) (z : List ℕ) → w ≡ stored (rd .table) room .answer → z ≡ stored (rd .table) room .buffer
+      → (n : ℕ) → n ≡ writtenNumber w → Gives (readCall f room) n z 0
+  unfolding readCall
+  read-stored a w z p q n r =
+      gives-all _ n z 0
+      (put-is (stored (rd .table) room) w z p q n r
+      ∙ ap (λ (x : Answer). readAs x (rd .table) room) (sym a)
+      ∙ ap (λ (x : Reading). readAs (x .answer) (x .table) room) e)
+
+  pub read-refused : (x : Fault) → rd .answer ≡ Answer.Refused x → Gives (readCall f room) (x .number) room (x .offset)
+  unfolding readCall
+  read-refused x a =
+      gives-all _ (x .number) room (x .offset)
+      (ap (λ (y : Answer). readAs y (rd .table) room) (sym a)
+      ∙ ap (λ (y : Reading). readAs (y .answer) (y .table) room) e)
+
+  -- ---- listing
+
+  pub list-wrote : (w : Written) (z : List ℕ) → w ≡ listed (length f) rd room .answer → z ≡ listed (length f) rd room .buffer
+      → (n : ℕ) → n ≡ writtenNumber w → (k : ℕ) → k ≡ lengthOf w → Gives (listCall f room) n z k
+  unfolding listCall
+  list-wrote w z p q n r k s =
+      gives-all _ n z k (wrote-is (listed (length f) rd room) w z p q n r k s ∙ ap (λ (x : Reading). wrote (listed (length f) x room)) e)
+
+-- ---- calls that load a table
+
+module _ (words s : List ℕ) (t : Table) (e : t ≡ tableIn words) where
+  pub write-wrote : (room : List ℕ) (w : Written) (z : List ℕ) → w ≡ writeFile t s room .answer → z ≡ writeFile t s room .buffer
+      → (n : ℕ) → n ≡ writtenNumber w → (k : ℕ) → k ≡ lengthOf w → Gives (writeCall words s room) n z k
+  unfolding writeCall
+  write-wrote room w z p q n r k l =
+      gives-all _ n z k (wrote-is (writeFile t s room) w z p q n r k l ∙ ap (λ (x : Table). wrote (writeFile x s room)) e)
+
+  pub certificate-of : (key : ℕ) (x : Paired) → x ≡ certificateFor t s key → x ≡ certificateCall words s key
+  unfolding certificateCall
+  certificate-of key x p = p ∙ ap (λ (y : Table). certificateFor y s key) e
+
+  module _ (bag i : ℕ) (room : List ℕ) (x : Item) (p : x ≡ itemAfter i (openingOf t s bag)) where
+    call-is : itemAs x room ≡ attributeCall words s bag i room
+    unfolding attributeCall
+    call-is = ap (λ (y : Item). itemAs y room) (p ∙ ap (λ (y : Table). itemAfter i (openingOf y s bag)) e)
+
+    -- the number and the row that a call leaves
+    abbrev pub Left : ℕ → List ℕ → Type 0
+    Left n z = (n ≡ attributeCall words s bag i room .number) × (z ≡ attributeCall words s bag i room .memory)
+
+    leaves : (y : Item) → x ≡ y → (n : ℕ) (z : List ℕ) (v : ℕ) → called n z v ≡ itemAs y room → Left n z
+    leaves y a n z v q = let g = gives-all _ n z v (q ∙ ap (λ (u : Item). itemAs u room) (sym a) ∙ call-is) in (g .0, g .1 .0)
+
+    pub attribute-stored : (r : AttributeRow) → x ≡ Item.Attribute r → (w : Written) (z : List ℕ) → w ≡ storedRow r room .answer → z ≡ storedRow r room .buffer
+        → (n : ℕ) → n ≡ writtenNumber w → Left n z
+    attribute-stored r a w z q l n k = leaves (Item.Attribute r) a n z 0 (put-is (storedRow r room) w z q l n k)
+
+    pub attribute-ready : x ≡ Ready → Left done room
+    attribute-ready a = leaves Ready a done room 0 refl
+
+    pub attribute-done : x ≡ Done → Left done room
+    attribute-done a = leaves Done a done room 0 refl
+
+    pub attribute-refused : (f : Fault) → x ≡ Item.Refused f → Left (f .number) room
+    attribute-refused f a = leaves (Item.Refused f) a (f .number) room 0 refl
+
+-- ---- ranges
+
+pub element-gives : (s : List ℕ) (r q : Range) (i : ℕ) (x : Counted) → r ≡ q → x ≡ countedOf (elementRanges s r) i
+    → (x .count ≡ countedOf (elementRanges s q) i .count)
+    × ((x .element .start ≡ countedOf (elementRanges s q) i .element .start) × (x .element .end ≡ countedOf (elementRanges s q) i .element .end))
+element-gives s r q i x e p =
+    let z : x ≡ countedOf (elementRanges s q) i = p ∙ ap (λ (y : Range). countedOf (elementRanges s y) i) e in
+    (ap (λ (y : Counted). y .count) z, (ap (λ (y : Counted). y .element .start) z, ap (λ (y : Counted). y .element .end) z))
+
+pub input-gives : (f : List ℕ) (rd : Reading) → rd ≡ readFile f → (n : ℕ) → n ≡ readNumber (rd .answer)
+    → (n ≡ readNumber (readFile f .answer))
+    × ((rd .table .«mac_input» .start ≡ readFile f .table .«mac_input» .start) × (rd .table .«mac_input» .end ≡ readFile f .table .«mac_input» .end))
+input-gives f rd e n p =
+    (p ∙ ap (λ (x : Reading). readNumber (x .answer)) e, (ap (λ (x : Reading). x .table .«mac_input» .start) e, ap (λ (x : Reading). x .table .«mac_input» .end) e))

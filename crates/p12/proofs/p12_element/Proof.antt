@@ -1,0 +1,24 @@
+-- The elements of the range that was loaded.
+use Rattle.p12.proofs.Gives.{element-gives}
+use borrow.Author.Needs.{needs}
+use Rattle.p12.proofs.p12_element.Statement.{statement}
+use Rattle.p12.proofs.p12_element.Tie as tie
+
+range-of-requires : tie.Need-range-of-requires
+range-of-requires c κs = search needs
+
+element-requires : tie.Need-element-requires
+element-requires c κs = search needs
+
+cast-start : tie.Need-cast-start
+cast-start c = search needs
+
+cast-end : tie.Need-cast-end
+cast-end c = search needs
+
+returns : tie.Need-returns
+returns c = element-gives _ _ _ _ _ (c .before .before .before .before .range-of .ensures) (c .before .before .before .element .ensures)
+
+pub p12-element-spec : {M : Type 1} → statement M
+p12-element-spec =
+    tie.close (tie.spec range-of-requires element-requires cast-start cast-end returns)

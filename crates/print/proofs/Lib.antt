@@ -1,0 +1,2 @@
+-- That a listing is handed on whole.
+pub mod Handed

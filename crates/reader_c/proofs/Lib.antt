@@ -1,2 +1,0 @@
--- What the calls for C lean on.
-pub mod Rewriting

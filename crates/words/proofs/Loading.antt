@@ -1,0 +1,118 @@
+-- A table that fits is loaded from its words, whatever stands behind them.
+use mathlib.Core.Path.{_≡_, refl, ap, _∙_}
+use mathlib.Core.List.{List, [], _∷_, _++_}
+use Prim.Native.Nat.{ℕ, _+_, _≤_}
+use native.Mathlib.Omega.{arith}
+use lib.ListN.{length, take}
+use Rattle.pkcs12.specs.Numbers.{safeRows, bagRows, attributeRows}
+use Rattle.pkcs12.specs.Table.{noSafe, noBag, noAttribute, padded, tableOf, rowsIn}
+use Rattle.pkcs12.specs.declared.Table.{Table}
+use Rattle.words.specs.Layout.{safeWidth, bagWidth, attributeWidth, macInputAt, macFieldsAt, safesAt, bagsAt, attributesAt, greatestWord}
+use Rattle.words.specs.Stored.{countWord, countWords, rangeWords, macWords, safeWords, bagWords, attributeWords, headWords, safesWords, bagsWords, attributesWords, wordsOf}
+use Rattle.words.specs.Loaded.{wordAt, rangeAt, safeAt, bagAt, attributeAt, macAt, safeFrom, bagFrom, attributeFrom, rowsFrom, tableIn}
+use Rattle.words.specs.Wordable.{SafeFits, BagFits, AttributeFits, Wordable}
+use Rattle.words.proofs.Whole.{safes-length, bags-length}
+use Rattle.words.proofs.Back.{Stands, stands-front, stands-back, stands-word, range-back, safe-back, bag-back, attribute-back, mac-back, rows-back}
+
+count-same : (n : ℕ) → n ≤ greatestWord → countWord n ≡ n
+count-same n h = omega arith
+
+module _ (t : Table) (w : Wordable t) (ws : List ℕ) (s : Stands ws 0 (wordsOf t)) where
+  -- ---- where the parts stand
+
+  head-stands : Stands ws 0 (headWords t)
+  unfolding wordsOf
+  head-stands = stands-front ws 0 (headWords t) _ s
+
+  rows-stand : Stands ws safesAt (safesWords t ++ (bagsWords t ++ attributesWords t))
+  unfolding wordsOf
+  rows-stand = stands-back ws 0 (headWords t) _ s
+
+  past-safes : Stands ws bagsAt (bagsWords t ++ attributesWords t)
+  past-safes = rw (safes-length t) at (stands-back ws safesAt (safesWords t) (bagsWords t ++ attributesWords t) rows-stand)
+
+  past-bags : Stands ws attributesAt (attributesWords t)
+  past-bags = rw (bags-length t) at (stands-back ws bagsAt (bagsWords t) (attributesWords t) past-safes)
+
+  -- ---- the head
+
+  fields-stand : Stands ws macInputAt (rangeWords (t .«mac_input») ++ macWords (t .mac))
+  fields-stand =
+      stands-back ws 0 (countWords (t .elements) (t .«safe_count») (t .«bag_count») (t .«attribute_count»)) (rangeWords (t .«mac_input») ++ macWords (t .mac)) head-stands
+
+  input-back : rangeAt ws macInputAt ≡ t .«mac_input»
+  input-back = range-back ws macInputAt (t .«mac_input») (w .input) (stands-front ws macInputAt (rangeWords (t .«mac_input»)) (macWords (t .mac)) fields-stand)
+
+  fields-back : macAt ws macFieldsAt ≡ t .mac
+  fields-back = mac-back ws macFieldsAt (t .mac) (w .mac) (stands-back ws macInputAt (rangeWords (t .«mac_input»)) (macWords (t .mac)) fields-stand)
+
+  -- a count at its place among the words
+  count-back : (x : List ℕ) (n : ℕ) (y : List ℕ) → headWords t ≡ x ++ (countWord n ∷ y) → n ≤ greatestWord → wordAt ws (0 + length x) ≡ n
+  count-back x n y e h = stands-word ws (0 + length x) (countWord n) y (stands-back ws 0 x (countWord n ∷ y) (rw e at head-stands)) ∙ count-same n h
+
+  -- ---- the rows
+
+  safe-rows : t .safes ≡ padded safeRows noSafe (take (t .«safe_count») (t .safes))
+  unfolding tableOf rowsIn
+  safe-rows = ap (λ (u : Table). u .safes) (w .empty-past)
+
+  safe-number : t .«safe_count» ≡ length (take (t .«safe_count») (t .safes))
+  unfolding tableOf rowsIn
+  safe-number = ap (λ (u : Table). u .«safe_count») (w .empty-past)
+
+  bag-rows : t .bags ≡ padded bagRows noBag (take (t .«bag_count») (t .bags))
+  unfolding tableOf rowsIn
+  bag-rows = ap (λ (u : Table). u .bags) (w .empty-past)
+
+  bag-number : t .«bag_count» ≡ length (take (t .«bag_count») (t .bags))
+  unfolding tableOf rowsIn
+  bag-number = ap (λ (u : Table). u .«bag_count») (w .empty-past)
+
+  attribute-rows : t .attributes ≡ padded attributeRows noAttribute (take (t .«attribute_count») (t .attributes))
+  unfolding tableOf rowsIn
+  attribute-rows = ap (λ (u : Table). u .attributes) (w .empty-past)
+
+  attribute-number : t .«attribute_count» ≡ length (take (t .«attribute_count») (t .attributes))
+  unfolding tableOf rowsIn
+  attribute-number = ap (λ (u : Table). u .«attribute_count») (w .empty-past)
+
+  safes-back : rowsFrom (safeFrom ws) noSafe safeRows (t .«safe_count») ≡ t .safes
+  unfolding rowsIn
+  safes-back =
+      rows-back SafeFits safeWords (safeAt ws) safeWidth safeRows (t .«safe_count») noSafe (t .safes) ws safesAt (λ x. refl) (safe-back ws) (w .safe-count) safe-number safe-rows
+      (w .safes) (stands-front ws safesAt (safesWords t) (bagsWords t ++ attributesWords t) rows-stand)
+
+  bags-back : rowsFrom (bagFrom ws) noBag bagRows (t .«bag_count») ≡ t .bags
+  unfolding rowsIn
+  bags-back =
+      rows-back BagFits bagWords (bagAt ws) bagWidth bagRows (t .«bag_count») noBag (t .bags) ws bagsAt (λ x. refl) (bag-back ws) (w .bag-count) bag-number bag-rows (w .bags)
+      (stands-front ws bagsAt (bagsWords t) (attributesWords t) past-safes)
+
+  attributes-back : rowsFrom (attributeFrom ws) noAttribute attributeRows (t .«attribute_count») ≡ t .attributes
+  unfolding rowsIn
+  attributes-back =
+      rows-back AttributeFits attributeWords (attributeAt ws) attributeWidth attributeRows (t .«attribute_count») noAttribute (t .attributes) ws attributesAt (λ x. refl)
+      (attribute-back ws) (w .attribute-count) attribute-number attribute-rows (w .attributes) past-bags
+
+  -- ---- all of it
+
+  pub loaded : tableIn ws ≡ t
+  unfolding tableIn
+  loaded =
+      let e : ℕ = countWord (t .elements) in
+      let i : ℕ = countWord (t .«safe_count») in
+      let j : ℕ = countWord (t .«bag_count») in
+      rw (
+        count-back [] (t .elements) _ refl (w .elements),
+        count-back (e ∷ []) (t .«safe_count») _ refl (omega (arith, w .safe-count)),
+        count-back (e ∷ i ∷ []) (t .«bag_count») _ refl (omega (arith, w .bag-count)),
+        count-back (e ∷ i ∷ j ∷ []) (t .«attribute_count») _ refl (omega (arith, w .attribute-count)),
+        safes-back,
+        bags-back,
+        attributes-back,
+        fields-back,
+        input-back,
+      )
+
+pub stored-loaded : (t : Table) → Wordable t → (rest : List ℕ) → tableIn (wordsOf t ++ rest) ≡ t
+stored-loaded t w rest = loaded t w (wordsOf t ++ rest) (record { rest = rest; words = refl })

@@ -1,0 +1,82 @@
+-- Rows of one kind, one by one: stored behind one another, or collected in an array; for any width and any kind.
+use mathlib.Core.Path.{_≡_, refl, sym, ap, _∙_}
+use mathlib.Core.List.{List, [], _∷_, _++_}
+use Prim.Native.Nat.{ℕ, zero, suc, _+_, _-_, _*_, _≤_, _<_, min}
+use native.Mathlib.Nat.{zero-mul, suc-mul, mul-one, add-mul}
+use native.Mathlib.Omega.{arith}
+use lib.ListN.{length, set, replicate, length-append, length-replicate}
+use Rattle.pkcs12.specs.Table.{padded}
+use Rattle.pkcs12.specs.Placed.{each}
+use Rattle.pkcs12.proofs.Placing.{each-more}
+use Rattle.pkcs12.proofs.Stored as pkcs12
+use Rattle.words.specs.Stored.{rowsWords}
+use Rattle.words.specs.Loaded.{rowsFrom}
+use Rattle.words.specs.Put.{Put}
+use Rattle.words.proofs.Puts.{put-nothing, put-then}
+
+pub each-length : {A : Type 0} (f : ℕ → List A) (w : ℕ) → ((i : ℕ) → length (f i) ≡ w) → (n : ℕ) → length (each f n) ≡ n * w
+unfolding each
+each-length f w h zero = sym (zero-mul w)
+each-length f w h (suc n) = length-append (each f n) (f n) ∙ rw (each-length f w h n, h n, suc-mul n w)
+
+-- rows of a width fill as many words as there are rows
+pub rows-length : (f : ℕ → List ℕ) (w rows count : ℕ) → ((i : ℕ) → length (f i) ≡ w) → length (rowsWords f w rows count) ≡ rows * w
+unfolding rowsWords
+rows-length f w rows count h =
+    let k : min count rows + (rows - min count rows) ≡ rows = omega arith in
+    length-append (each f (min count rows)) _
+    ∙ rw (each-length f w h (min count rows), length-replicate {A = ℕ} ((rows - min count rows) * w) 0, ← (add-mul (min count rows) (rows - min count rows) w), k)
+
+-- ---- storing
+
+module _ (f : ℕ → List ℕ) (rows : ℕ) (d : List ℕ) (at end : ℕ) where
+  -- i rows are stored
+  pub record Storing (e : List ℕ) (r i : ℕ) : Type 0 where
+    pub within : i ≤ end
+    pub few : end ≤ rows
+    pub put : Put d at (each f i) e r
+    pub long : length e ≡ length d
+
+  pub store-start : (count : ℕ) → end ≡ min count rows → Storing d at 0
+  unfolding each
+  store-start count p = record { within = omega arith; few = omega (arith, p); put = put-nothing d at; long = refl }
+
+  module _ (e : List ℕ) (r i : ℕ) (g : Storing e r i) where
+    pub store-turn : (m : List ℕ) (q : ℕ) → i < end → length m ≡ length e → Put e r (f i) m q → Storing m q (i + 1)
+    store-turn m q h l p =
+        record { within = omega (arith, h); few = g .few; put = rw each-more (put-then d at (each f i) e r (f i) m q (g .put) p); long = l ∙ g .long }
+
+    pub store-end : (width count : ℕ) (m : List ℕ) (q : ℕ) → end ≡ min count rows → end ≤ i → Put e r (replicate ((rows - end) * width) 0) m q
+        → Put d at (rowsWords f width rows count) m q
+    unfolding rowsWords
+    store-end width count m q p h z =
+        let s : i ≡ end = omega (arith, h, g .within) in
+        rw (← p) (put-then d at (each f end) e r (replicate ((rows - end) * width) 0) m q (rw s at (g .put)) z)
+
+-- ---- collecting
+
+module _ {A : Type 0} (f : ℕ → A) (none : A) (rows count end : ℕ) where
+  -- i rows are collected
+  pub record Collecting (xs : List A) (i : ℕ) : Type 0 where
+    pub within : i ≤ end
+    pub few : end ≤ rows
+    pub due : end ≡ min count rows
+    pub so-far : xs ≡ padded rows none (each (λ j. f j ∷ []) i)
+
+  pub collect-start : (xs : List A) → end ≡ min count rows → xs ≡ padded rows none [] → Collecting xs 0
+  unfolding each
+  collect-start xs e p = record { within = omega arith; few = omega (arith, e); due = e; so-far = p }
+
+  module _ (xs : List A) (i : ℕ) (g : Collecting xs i) where
+    pub collect-on : (x : A) → i < end → x ≡ f i → Collecting (set xs i x) (i + 1)
+    collect-on x h e =
+        let l : length (each (λ j. f j ∷ []) i) ≡ i = each-length (λ j. f j ∷ []) 1 (λ j. refl) i ∙ mul-one i in
+        let s : set (padded rows none (each (λ j. f j ∷ []) i)) i (f i) ≡ padded rows none (each (λ j. f j ∷ []) (i + 1)) =
+        ap (λ (k : ℕ). set (padded rows none (each (λ j. f j ∷ []) i)) k (f i)) (sym l)
+        ∙ pkcs12.stored rows none (each (λ j. f j ∷ []) i) (f i) (omega (arith, l, h, g .few))
+        ∙ ap (padded rows none) (sym (each-more (λ j. f j ∷ []) i)) in
+        record { within = omega (arith, h); few = g .few; due = g .due; so-far = rw (g .so-far, e) s }
+
+    pub collect-end : end ≤ i → xs ≡ rowsFrom f none rows count
+    unfolding rowsFrom
+    collect-end h = let e : i ≡ min count rows = omega (arith, h, g .within, g .due) in g .so-far ∙ rw e

@@ -1,0 +1,31 @@
+-- What is proved of storing a table as words and loading it. `wordsOf t`: the words of the table t. `tableIn ws`: the table that the words ws stand
+-- for. `Wordable t`: the rows of t past its counts are empty, the counts are within the sizes, and every number of t fits.
+use mathlib.Core.Path.{_≡_, sym, ap, _∙_}
+use mathlib.Core.List.{List, [], _++_, append-nil}
+use Prim.Native.Nat.{ℕ}
+use lib.ListN.{length}
+use Rattle.der.specs.Span.{Bytes}
+use Rattle.pkcs12.specs.Accepted.{IsAccepted, tableFrom}
+use Rattle.pkcs12.specs.declared.Table.{Table}
+use Rattle.words.specs.Layout.{tableWords}
+use Rattle.words.specs.Stored.{wordsOf}
+use Rattle.words.specs.Loaded.{tableIn}
+use Rattle.words.specs.Wordable.{Wordable}
+use Rattle.words.proofs.Whole.{words-length}
+use Rattle.words.proofs.Loading.{stored-loaded}
+use Rattle.words.proofs.Fitting as fitting
+
+-- Every table has the same number of words.
+pub words-count : (t : Table) → length (wordsOf t) ≡ tableWords
+words-count = words-length
+
+-- A table that fits is loaded from its words as it was, whatever stands behind them.
+pub stored-is-loaded : (t : Table) → Wordable t → (rest : List ℕ) → tableIn (wordsOf t ++ rest) ≡ t
+stored-is-loaded = stored-loaded
+
+-- The table of an accepted file fits, and so it is loaded from its words.
+pub accepted-wordable : (f : List ℕ) → Bytes f → IsAccepted f → Wordable (tableFrom f)
+accepted-wordable = fitting.accepted-wordable
+
+pub accepted-is-loaded : (f : List ℕ) → Bytes f → IsAccepted f → tableIn (wordsOf (tableFrom f)) ≡ tableFrom f
+accepted-is-loaded f b a = ap tableIn (sym (append-nil (wordsOf (tableFrom f)))) ∙ stored-is-loaded (tableFrom f) (accepted-wordable f b a) []

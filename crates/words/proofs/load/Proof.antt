@@ -1,0 +1,67 @@
+-- Each part at its place.
+use Rattle.words.specs.Loaded.{tableIn}
+use borrow.Author.Needs.{needs}
+use Rattle.words.proofs.load.Statement.{statement}
+use Rattle.words.proofs.load.Tie as tie
+
+word-requires : tie.Need-word-requires
+word-requires c κs = search needs
+
+cast-safe-count : tie.Need-cast-safe-count
+cast-safe-count c = search needs
+
+word-requires-2 : tie.Need-word-requires-2
+word-requires-2 c κs = search needs
+
+cast-bag-count : tie.Need-cast-bag-count
+cast-bag-count c = search needs
+
+word-requires-3 : tie.Need-word-requires-3
+word-requires-3 c κs = search needs
+
+cast-attribute-count : tie.Need-cast-attribute-count
+cast-attribute-count c = search needs
+
+word-requires-4 : tie.Need-word-requires-4
+word-requires-4 c κs = search needs
+
+cast-elements : tie.Need-cast-elements
+cast-elements c = search needs
+
+safes-requires : tie.Need-safes-requires
+safes-requires c κs = search needs
+
+bags-requires : tie.Need-bags-requires
+bags-requires c κs = search needs
+
+attributes-requires : tie.Need-attributes-requires
+attributes-requires c κs = search needs
+
+mac-requires : tie.Need-mac-requires
+mac-requires c κs = search needs
+
+range-requires : tie.Need-range-requires
+range-requires c κs = search needs
+
+returns : tie.Need-returns
+unfolding tableIn
+returns c = cc
+
+pub load-spec : {M : Type 1} → statement M
+load-spec =
+    tie.close
+    (tie.spec
+    word-requires
+    cast-safe-count
+    word-requires-2
+    cast-bag-count
+    word-requires-3
+    cast-attribute-count
+    word-requires-4
+    cast-elements
+    safes-requires
+    bags-requires
+    attributes-requires
+    mac-requires
+    range-requires
+    returns)

@@ -1,0 +1,28 @@
+-- The bag before the ranges.
+use Rattle.words.proofs.Puts.{put-word, put-then}
+use native.Mathlib.Omega.{arith}
+use borrow.Author.Needs.{needs}
+use Rattle.words.proofs.put.attribute.Statement.{statement}
+use Rattle.words.proofs.put.attribute.Tie as tie
+
+cast-bag : tie.Need-cast-bag
+cast-bag c = search needs
+
+word-requires : tie.Need-word-requires
+word-requires c κs = search needs
+
+range-requires : tie.Need-range-requires
+range-requires c κs = search needs
+
+range-requires-2 : tie.Need-range-requires-2
+range-requires-2 c κs = search needs
+
+same-length : tie.Need-same-length
+same-length c = search needs
+
+returns : tie.Need-returns
+returns c = put-word _ _ _ _ _ _ _ _ _ (omega arith) (c .before .before .before .before .before .before .before .before .before .before .word .ensures) (put-then _ _ _ _ _ _ _ _ (c .before .before .before .before .before .before .range .ensures) (c .before .before .range2 .ensures))
+
+pub attribute-spec : {M : Type 1} → statement M
+attribute-spec =
+    tie.close (tie.spec cast-bag word-requires range-requires range-requires-2 same-length returns)

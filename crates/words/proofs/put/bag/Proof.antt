@@ -1,0 +1,34 @@
+-- The parts one behind another.
+use Rattle.words.proofs.Puts.{put-then, put-last}
+use borrow.Author.Needs.{needs}
+use Rattle.words.proofs.put.bag.Statement.{statement}
+use Rattle.words.proofs.put.bag.Tie as tie
+
+set-number-requires : tie.Need-set-number-requires
+set-number-requires c κs = search needs
+
+bag-head-requires : tie.Need-bag-head-requires
+bag-head-requires c κs = search needs
+
+parts-requires : tie.Need-parts-requires
+parts-requires c κs = search needs
+
+word-requires : tie.Need-word-requires
+word-requires c κs = search needs
+
+same-length : tie.Need-same-length
+same-length c = search needs
+
+returns : tie.Need-returns
+returns c = put-then _ _ _ _ _ _ _ _ (c .before .before .before .before .before .before .before .before .before .before .bag-head .ensures) (put-then _ _ _ _ _ _ _ _ (c .before .before .before .before .before .before .parts .ensures) (put-last _ _ _ _ _ _ (c .before .before .before .before .before .before .before .before .before .before .before .before .set-number .ensures) (c .before .before .word .ensures)))
+
+pub bag-spec : {M : Type 1} → statement M
+bag-spec =
+    tie.close
+    (tie.spec
+    set-number-requires
+    bag-head-requires
+    parts-requires
+    word-requires
+    same-length
+    returns)

@@ -1,0 +1,23 @@
+-- The parts one behind another.
+use Rattle.words.proofs.Puts.{put-then}
+use borrow.Author.Needs.{needs}
+use Rattle.words.proofs.put.head.Statement.{statement}
+use Rattle.words.proofs.put.head.Tie as tie
+
+counts-requires : tie.Need-counts-requires
+counts-requires c κs = search needs
+
+range-requires : tie.Need-range-requires
+range-requires c κs = search needs
+
+mac-requires : tie.Need-mac-requires
+mac-requires c κs = search needs
+
+same-length : tie.Need-same-length
+same-length c = search needs
+
+returns : tie.Need-returns
+returns c = put-then _ _ _ _ _ _ _ _ (c .before .before .before .before .before .before .before .before .before .before .counts .ensures) (put-then _ _ _ _ _ _ _ _ (c .before .before .before .before .before .before .range .ensures) (c .before .before .mac .ensures))
+
+pub head-spec : {M : Type 1} → statement M
+head-spec = tie.close (tie.spec counts-requires range-requires mac-requires same-length returns)

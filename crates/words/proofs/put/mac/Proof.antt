@@ -1,0 +1,23 @@
+-- The parts one behind another.
+use Rattle.words.proofs.Puts.{put-then}
+use borrow.Author.Needs.{needs}
+use Rattle.words.proofs.put.mac.Statement.{statement}
+use Rattle.words.proofs.put.mac.Tie as tie
+
+parts-requires : tie.Need-parts-requires
+parts-requires c κs = search needs
+
+range-requires : tie.Need-range-requires
+range-requires c κs = search needs
+
+word-requires : tie.Need-word-requires
+word-requires c κs = search needs
+
+same-length : tie.Need-same-length
+same-length c = search needs
+
+returns : tie.Need-returns
+returns c = put-then _ _ _ _ _ _ _ _ (c .before .before .before .before .before .before .before .before .before .before .parts .ensures) (put-then _ _ _ _ _ _ _ _ (c .before .before .before .before .before .before .range .ensures) (c .before .before .word .ensures))
+
+pub mac-spec : {M : Type 1} → statement M
+mac-spec = tie.close (tie.spec parts-requires range-requires word-requires same-length returns)

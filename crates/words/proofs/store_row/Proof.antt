@@ -1,0 +1,26 @@
+-- As for a table.
+use Rattle.pkcs12.proofs.Placing.{refusal-answer, refusal-buffer}
+use native.Mathlib.Omega.{arith}
+use Rattle.words.proofs.Whole.{few-for-row, row-answer, row-memory}
+use borrow.Author.Needs.{needs}
+use Rattle.words.proofs.store_row.Statement.{statement}
+use Rattle.words.proofs.store_row.Tie as tie
+
+too-few-requires : tie.Need-too-few-requires
+too-few-requires c κs = search needs
+
+returns : tie.Need-returns
+returns c = (refusal-answer _ _ _ (few-for-row (c .before .before .before .args .row) _ (omega (arith, c .before .if1 .taken))) _ (c .too-few .ensures), refusal-buffer _ _ _ (few-for-row (c .before .before .before .args .row) _ (omega (arith, c .before .if1 .taken))))
+
+attribute-requires : tie.Need-attribute-requires
+attribute-requires c κs = search needs
+
+same-length : tie.Need-same-length
+same-length c = search needs
+
+returns-2 : tie.Need-returns-2
+returns-2 c = (row-answer (c .before .before .before .before .before .before .args .row) _ (omega (arith, c .before .before .before .before .if1 .left)), row-memory (c .before .before .before .before .before .before .args .row) _ (omega (arith, c .before .before .before .before .if1 .left)) _ _ (c .before .before .attribute .ensures))
+
+pub store-row-spec : {M : Type 1} → statement M
+store-row-spec =
+    tie.close (tie.spec too-few-requires returns attribute-requires same-length returns-2)

@@ -1,0 +1,109 @@
+-- The words of a table, and storing them.
+use mathlib.Core.Bool.{Bool, true, false}
+use mathlib.Core.List.{List, [], _∷_, _++_}
+use Prim.Native.Nat.{ℕ, _+_, _-_, _*_, min}
+use lib.Dec.{ltb}
+use lib.ListN.{length, getD, replicate}
+use Rattle.der.specs.Choice.{if_then_else_}
+use Rattle.pkcs12.specs.Numbers.{safeRows, bagRows, attributeRows, noRoom}
+use Rattle.pkcs12.specs.Table.{noSafe, noBag, noAttribute}
+use Rattle.pkcs12.specs.Placed.{each}
+use Rattle.pkcs12.specs.Written.{Outcome, refusal, success}
+use Rattle.pkcs12.specs.declared.Range.{Range}
+use Rattle.pkcs12.specs.declared.Parts.{Parts}
+use Rattle.pkcs12.specs.declared.SafeKind.{SafeKind}
+use Rattle.pkcs12.specs.declared.SafeKind.the-variants.{Plain, Encrypted}
+use Rattle.pkcs12.specs.declared.BagKind.{BagKind}
+use Rattle.pkcs12.specs.declared.BagKind.the-variants.{Key, ShroudedKey, Certificate, Crl, Secret, Nested}
+use Rattle.pkcs12.specs.declared.Enclosing.{Enclosing}
+use Rattle.pkcs12.specs.declared.Enclosing.the-variants.{Bag}
+use Rattle.pkcs12.specs.declared.SafeRow.{SafeRow}
+use Rattle.pkcs12.specs.declared.BagRow.{BagRow}
+use Rattle.pkcs12.specs.declared.AttributeRow.{AttributeRow}
+use Rattle.pkcs12.specs.declared.Mac.{Mac}
+use Rattle.pkcs12.specs.declared.Table.{Table}
+use Rattle.words.specs.Layout.{safeWidth, bagWidth, attributeWidth, tableWords, greatestWord}
+
+-- a count that doesn't fit a word is the greatest word
+abbrev pub countWord : ℕ → ℕ
+countWord n = min n greatestWord
+
+abbrev pub safeNumber : SafeKind → ℕ
+safeNumber SafeKind.None = 0
+safeNumber Plain = 1
+safeNumber Encrypted = 2
+
+abbrev pub bagNumber : BagKind → ℕ
+bagNumber BagKind.None = 0
+bagNumber Key = 1
+bagNumber ShroudedKey = 2
+bagNumber Certificate = 3
+bagNumber Crl = 4
+bagNumber Secret = 5
+bagNumber Nested = 6
+
+abbrev pub enclosingNumber : Enclosing → ℕ
+enclosingNumber Enclosing.None = 0
+enclosingNumber (Bag n) = n + 1
+
+abbrev pub setNumber : Bool → ℕ
+setNumber false = 0
+setNumber true = 1
+
+abbrev pub rangeWords : Range → List ℕ
+rangeWords r = r .start ∷ r .end ∷ []
+
+abbrev pub partsWords : Parts → List ℕ
+partsWords p = rangeWords (p .identifier) ++ (rangeWords (p .parameters) ++ rangeWords (p .value))
+
+abbrev pub safeWords : SafeRow → List ℕ
+safeWords r = safeNumber (r .kind) ∷ partsWords (r .parts)
+
+abbrev pub bagWords : BagRow → List ℕ
+bagWords r = bagNumber (r .kind) ∷ r .safe ∷ enclosingNumber (r .enclosing) ∷ (partsWords (r .parts) ++ (setNumber (r .«has_set») ∷ []))
+
+abbrev pub attributeWords : AttributeRow → List ℕ
+attributeWords r = r .bag ∷ (rangeWords (r .identifier) ++ rangeWords (r .values))
+
+abbrev pub macWords : Mac → List ℕ
+macWords m = partsWords (m .parts) ++ (rangeWords (m .salt) ++ (m .iterations ∷ []))
+
+abbrev pub countWords : ℕ → ℕ → ℕ → ℕ → List ℕ
+countWords n i j k = countWord n ∷ countWord i ∷ countWord j ∷ countWord k ∷ []
+
+abbrev pub headWords : Table → List ℕ
+headWords t =
+    countWords (t .elements) (t .«safe_count») (t .«bag_count») (t .«attribute_count») ++ (rangeWords (t .«mac_input») ++ macWords (t .mac))
+
+-- rows of one kind: those that are counted and that there are, and zeros in place of the others
+unfoldable pub rowsWords : (ℕ → List ℕ) → ℕ → ℕ → ℕ → List ℕ
+rowsWords f width rows count = each f (min count rows) ++ replicate ((rows - min count rows) * width) 0
+
+abbrev pub safeWordsOf : Table → ℕ → List ℕ
+safeWordsOf t i = safeWords (getD (t .safes) i noSafe)
+
+abbrev pub safesWords : Table → List ℕ
+safesWords t = rowsWords (safeWordsOf t) safeWidth safeRows (t .«safe_count»)
+
+abbrev pub bagWordsOf : Table → ℕ → List ℕ
+bagWordsOf t i = bagWords (getD (t .bags) i noBag)
+
+abbrev pub bagsWords : Table → List ℕ
+bagsWords t = rowsWords (bagWordsOf t) bagWidth bagRows (t .«bag_count»)
+
+abbrev pub attributeWordsOf : Table → ℕ → List ℕ
+attributeWordsOf t i = attributeWords (getD (t .attributes) i noAttribute)
+
+abbrev pub attributesWords : Table → List ℕ
+attributesWords t = rowsWords (attributeWordsOf t) attributeWidth attributeRows (t .«attribute_count»)
+
+unfoldable pub wordsOf : Table → List ℕ
+wordsOf t = headWords t ++ (safesWords t ++ (bagsWords t ++ attributesWords t))
+
+-- the answer, and the memory afterwards
+unfoldable pub stored : Table → List ℕ → Outcome
+stored t room = if ltb (length room) tableWords then refusal noRoom room else success (wordsOf t) room
+
+-- one attribute row by itself
+unfoldable pub storedRow : AttributeRow → List ℕ → Outcome
+storedRow r room = if ltb (length room) attributeWidth then refusal noRoom room else success (attributeWords r) room

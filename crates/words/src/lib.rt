@@ -1,0 +1,136 @@
+// A table as plain words in a caller's memory, and back. The words are those of `struct p12_table` in include/p12.h.
+ghost use mathlib.Core.Path.{_≡_};
+ghost use Rattle.der.specs.Element.{fault};
+ghost use Rattle.pkcs12.specs.Numbers.{noRoom};
+ghost use Rattle.pkcs12.specs.declared.Written.{Written};
+ghost use Rattle.words.specs.Stored.{stored, storedRow};
+ghost use Rattle.words.specs.Loaded.{rangeOf, tableIn};
+
+mod get;
+mod put;
+
+use der::Fault;
+use pkcs12::AttributeRow;
+use pkcs12::Range;
+use pkcs12::Table;
+use pkcs12::Written;
+
+// How many words each part of a table takes.
+pub const RANGE_WIDTH: usize = 2;
+
+pub const PARTS_WIDTH: usize = 3 * RANGE_WIDTH;
+
+pub const SAFE_WIDTH: usize = 1 + PARTS_WIDTH;
+
+pub const BAG_WIDTH: usize = 4 + PARTS_WIDTH;
+
+pub const ATTRIBUTE_WIDTH: usize = 1 + 2 * RANGE_WIDTH;
+
+pub const MAC_WIDTH: usize = PARTS_WIDTH + RANGE_WIDTH + 1;
+
+// Where each part stands.
+pub const ELEMENTS_AT: usize = 0;
+
+pub const SAFE_COUNT_AT: usize = 1;
+
+pub const BAG_COUNT_AT: usize = 2;
+
+pub const ATTRIBUTE_COUNT_AT: usize = 3;
+
+pub const MAC_INPUT_AT: usize = 4;
+
+pub const MAC_FIELDS_AT: usize = MAC_INPUT_AT + RANGE_WIDTH;
+
+pub const SAFES_AT: usize = MAC_FIELDS_AT + MAC_WIDTH;
+
+pub const BAGS_AT: usize = SAFES_AT + pkcs12::SAFE_ROWS * SAFE_WIDTH;
+
+pub const ATTRIBUTES_AT: usize = BAGS_AT + pkcs12::BAG_ROWS * BAG_WIDTH;
+
+// All of them.
+pub const TABLE_WORDS: usize = ATTRIBUTES_AT + pkcs12::ATTRIBUTE_ROWS * ATTRIBUTE_WIDTH;
+
+// The greatest word, and the greatest number that a row holds.
+pub const GREATEST_WORD: usize = 4294967295;
+
+pub const GREATEST_NUMBER: u32 = 65535;
+
+// A range that lies in no bytes.
+const NOWHERE: Range = Range { start: 1, end: 0 };
+
+// The range that two words stand for; one that lies in no bytes if a word is too great.
+pub fn range_of(start: u32, end: u32) -> Range
+    ensures { λ r. ⌜ r ≡ rangeOf start end ⌝ }
+{
+    if GREATEST_NUMBER < start {
+        return NOWHERE;
+    }
+    if GREATEST_NUMBER < end {
+        return NOWHERE;
+    }
+    let start16 = start as u16;
+    let end16 = end as u16;
+    Range {
+        start: start16,
+        end: end16,
+    }
+}
+
+fn too_few() -> Written
+    ensures { λ r. ⌜ r ≡ Written.Refused (fault noRoom 0) ⌝ }
+{
+    Written::Refused(Fault {
+        number: pkcs12::NO_ROOM,
+        offset: 0,
+    })
+}
+
+// Stores a table as words at the front of the memory, and gives their number; 10 if there are fewer.
+pub fn store(table: Table, out: &mut [u32]) -> Written
+    ensures { λ r. ⌜ r ≡ stored table (now (out .entry)) .answer ⌝ }
+    ensures { λ _. ⌜ now (out .exit) ≡ stored table (now (out .entry)) .buffer ⌝ }
+{
+    if out.len() < TABLE_WORDS {
+        return too_few();
+    }
+    let end = put::all(out, table);
+    Written::Length(TABLE_WORDS)
+}
+
+// Stores one attribute row as words, as it stands in a table; 10 if there are fewer.
+pub fn store_row(row: AttributeRow, out: &mut [u32]) -> Written
+    ensures { λ r. ⌜ r ≡ storedRow row (now (out .entry)) .answer ⌝ }
+    ensures { λ _. ⌜ now (out .exit) ≡ storedRow row (now (out .entry)) .buffer ⌝ }
+{
+    if out.len() < ATTRIBUTE_WIDTH {
+        return too_few();
+    }
+    let end = put::attribute(out, 0, row);
+    Written::Length(ATTRIBUTE_WIDTH)
+}
+
+// The table that words stand for.
+pub fn load(words: &[u32]) -> Table
+    ensures { λ r. ⌜ r ≡ tableIn (now (words .entry)) ⌝ }
+{
+    let safe_count = get::word(words, SAFE_COUNT_AT) as usize;
+    let bag_count = get::word(words, BAG_COUNT_AT) as usize;
+    let attribute_count = get::word(words, ATTRIBUTE_COUNT_AT) as usize;
+    let elements = get::word(words, ELEMENTS_AT) as usize;
+    let safes = get::safes(words, safe_count);
+    let bags = get::bags(words, bag_count);
+    let attributes = get::attributes(words, attribute_count);
+    let mac = get::mac(words, MAC_FIELDS_AT);
+    let mac_input = get::range(words, MAC_INPUT_AT);
+    Table {
+        safes,
+        safe_count,
+        bags,
+        bag_count,
+        attributes,
+        attribute_count,
+        mac,
+        mac_input,
+        elements,
+    }
+}

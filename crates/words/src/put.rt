@@ -1,0 +1,265 @@
+// Words into a lent memory, at a place; the answer is the place behind them. Where there is no room nothing is promised: the room is tested once,
+// before anything is stored.
+ghost use mathlib.Core.Path.{_≡_};
+ghost use mathlib.Core.List.{[], _∷_};
+ghost use Prim.Native.Nat.{min};
+ghost use lib.ListN.{replicate};
+ghost use Rattle.words.specs.Stored.{countWord, safeNumber, bagNumber, enclosingNumber, setNumber, rangeWords, partsWords, safeWords, bagWords, attributeWords, macWords, countWords, headWords, safesWords, bagsWords, attributesWords, wordsOf};
+ghost use Rattle.words.specs.Put.{Put};
+use pkcs12::AttributeRow;
+use pkcs12::BagKind;
+use pkcs12::BagRow;
+use pkcs12::Enclosing;
+use pkcs12::Mac;
+use pkcs12::Parts;
+use pkcs12::Range;
+use pkcs12::SafeKind;
+use pkcs12::SafeRow;
+use pkcs12::Table;
+
+// The fewer of the two: rows that are counted, rows that there are.
+pub(crate) fn fewer(count: usize, rows: usize) -> usize
+    ensures { λ r. ⌜ r ≡ min count rows ⌝ }
+{
+    if count <= rows {
+        return count;
+    }
+    rows
+}
+
+// A count as a word.
+fn count_word(n: usize) -> u32
+    ensures { λ r. ⌜ r ≡ countWord n ⌝ }
+{
+    let fits = fewer(n, crate::GREATEST_WORD);
+    fits as u32
+}
+
+fn safe_number(kind: SafeKind) -> u32
+    ensures { λ r. ⌜ r ≡ safeNumber kind ⌝ }
+{
+    match kind {
+        SafeKind::None => 0,
+        SafeKind::Plain => 1,
+        SafeKind::Encrypted => 2,
+    }
+}
+
+fn bag_number(kind: BagKind) -> u32
+    ensures { λ r. ⌜ r ≡ bagNumber kind ⌝ }
+{
+    match kind {
+        BagKind::None => 0,
+        BagKind::Key => 1,
+        BagKind::ShroudedKey => 2,
+        BagKind::Certificate => 3,
+        BagKind::Crl => 4,
+        BagKind::Secret => 5,
+        BagKind::Nested => 6,
+    }
+}
+
+fn enclosing_number(enclosing: Enclosing) -> u32
+    ensures { λ r. ⌜ r ≡ enclosingNumber enclosing ⌝ }
+{
+    match enclosing {
+        Enclosing::None => 0,
+        Enclosing::Bag(n) => {
+            let wide = n as u32;
+            wide + 1
+        }
+    }
+}
+
+fn set_number(has_set: bool) -> u32
+    ensures { λ r. ⌜ r ≡ setNumber «has_set» ⌝ }
+{
+    if has_set {
+        return 1;
+    }
+    0
+}
+
+fn word(out: &mut [u32], at: usize, w: u32) -> usize
+    ensures { λ r. ⌜ Put (now (out .entry)) at (w ∷ []) (now (out .exit)) r ⌝ }
+{
+    if out.len() <= at {
+        return at;
+    }
+    out[at] = w;
+    at + 1
+}
+
+// The word 0, n times.
+fn zeros(out: &mut [u32], at: usize, n: usize) -> usize
+    ensures { λ r. ⌜ Put (now (out .entry)) at (replicate n 0) (now (out .exit)) r ⌝ }
+{
+    let room = out.len();
+    if room < at {
+        return at;
+    }
+    let left = room - at;
+    if left < n {
+        return at;
+    }
+    let mut i: usize = 0;
+    while i < n {
+        let to = at + i;
+        out[to] = 0;
+        i = i + 1;
+    }
+    at + n
+}
+
+fn range(out: &mut [u32], at: usize, range: Range) -> usize
+    ensures { λ r. ⌜ Put (now (out .entry)) at (rangeWords range) (now (out .exit)) r ⌝ }
+{
+    let start = range.start as u32;
+    let end = range.end as u32;
+    let second = word(out, at, start);
+    word(out, second, end)
+}
+
+fn parts(out: &mut [u32], at: usize, parts: Parts) -> usize
+    ensures { λ r. ⌜ Put (now (out .entry)) at (partsWords parts) (now (out .exit)) r ⌝ }
+{
+    let second = range(out, at, parts.identifier);
+    let third = range(out, second, parts.parameters);
+    range(out, third, parts.value)
+}
+
+fn safe(out: &mut [u32], at: usize, row: SafeRow) -> usize
+    ensures { λ r. ⌜ Put (now (out .entry)) at (safeWords row) (now (out .exit)) r ⌝ }
+{
+    let kind = row.kind;
+    let number = safe_number(kind);
+    let second = word(out, at, number);
+    parts(out, second, row.parts)
+}
+
+// What stands before the parts of a bag.
+fn bag_head(out: &mut [u32], at: usize, kind: BagKind, safe: u16, enclosing: Enclosing) -> usize
+    ensures { λ r. ⌜ Put (now (out .entry)) at (bagNumber kind ∷ safe ∷ enclosingNumber enclosing ∷ []) (now (out .exit)) r ⌝ }
+{
+    let number = bag_number(kind);
+    let wide = safe as u32;
+    let around = enclosing_number(enclosing);
+    let second = word(out, at, number);
+    let third = word(out, second, wide);
+    word(out, third, around)
+}
+
+fn bag(out: &mut [u32], at: usize, row: BagRow) -> usize
+    ensures { λ r. ⌜ Put (now (out .entry)) at (bagWords row) (now (out .exit)) r ⌝ }
+{
+    let kind = row.kind;
+    let enclosing = row.enclosing;
+    let set = set_number(row.has_set);
+    let inner = bag_head(out, at, kind, row.safe, enclosing);
+    let last = parts(out, inner, row.parts);
+    word(out, last, set)
+}
+
+pub(crate) fn attribute(out: &mut [u32], at: usize, row: AttributeRow) -> usize
+    ensures { λ r. ⌜ Put (now (out .entry)) at (attributeWords row) (now (out .exit)) r ⌝ }
+{
+    let bag = row.bag as u32;
+    let second = word(out, at, bag);
+    let third = range(out, second, row.identifier);
+    range(out, third, row.values)
+}
+
+fn counts(
+    out: &mut [u32],
+    at: usize,
+    elements: usize,
+    safes: usize,
+    bags: usize,
+    attributes: usize,
+) -> usize
+    ensures { λ r. ⌜ Put (now (out .entry)) at (countWords elements safes bags attributes) (now (out .exit)) r ⌝ }
+{
+    let second = word(out, at, count_word(elements));
+    let third = word(out, second, count_word(safes));
+    let fourth = word(out, third, count_word(bags));
+    word(out, fourth, count_word(attributes))
+}
+
+fn mac(out: &mut [u32], at: usize, mac: Mac) -> usize
+    ensures { λ r. ⌜ Put (now (out .entry)) at (macWords mac) (now (out .exit)) r ⌝ }
+{
+    let salt = parts(out, at, mac.parts);
+    let iterations = range(out, salt, mac.salt);
+    word(out, iterations, mac.iterations)
+}
+
+// What stands before the rows.
+fn head(out: &mut [u32], at: usize, table: Table) -> usize
+    ensures { λ r. ⌜ Put (now (out .entry)) at (headWords table) (now (out .exit)) r ⌝ }
+{
+    let input = counts(
+        out,
+        at,
+        table.elements,
+        table.safe_count,
+        table.bag_count,
+        table.attribute_count,
+    );
+    let fields = range(out, input, table.mac_input);
+    mac(out, fields, table.mac)
+}
+
+fn safes(out: &mut [u32], at: usize, table: Table) -> usize
+    ensures { λ r. ⌜ Put (now (out .entry)) at (safesWords table) (now (out .exit)) r ⌝ }
+{
+    let end = fewer(table.safe_count, pkcs12::SAFE_ROWS);
+    let mut to = at;
+    let mut i: usize = 0;
+    while i < end {
+        let row = table.safes[i];
+        to = safe(out, to, row);
+        i = i + 1;
+    }
+    let left = (pkcs12::SAFE_ROWS - end) * crate::SAFE_WIDTH;
+    zeros(out, to, left)
+}
+
+fn bags(out: &mut [u32], at: usize, table: Table) -> usize
+    ensures { λ r. ⌜ Put (now (out .entry)) at (bagsWords table) (now (out .exit)) r ⌝ }
+{
+    let end = fewer(table.bag_count, pkcs12::BAG_ROWS);
+    let mut to = at;
+    let mut i: usize = 0;
+    while i < end {
+        let row = table.bags[i];
+        to = bag(out, to, row);
+        i = i + 1;
+    }
+    let left = (pkcs12::BAG_ROWS - end) * crate::BAG_WIDTH;
+    zeros(out, to, left)
+}
+
+fn attributes(out: &mut [u32], at: usize, table: Table) -> usize
+    ensures { λ r. ⌜ Put (now (out .entry)) at (attributesWords table) (now (out .exit)) r ⌝ }
+{
+    let end = fewer(table.attribute_count, pkcs12::ATTRIBUTE_ROWS);
+    let mut to = at;
+    let mut i: usize = 0;
+    while i < end {
+        let row = table.attributes[i];
+        to = attribute(out, to, row);
+        i = i + 1;
+    }
+    let left = (pkcs12::ATTRIBUTE_ROWS - end) * crate::ATTRIBUTE_WIDTH;
+    zeros(out, to, left)
+}
+
+// The whole table, at the front.
+pub(crate) fn all(out: &mut [u32], table: Table) -> usize
+    ensures { λ r. ⌜ Put (now (out .entry)) 0 (wordsOf table) (now (out .exit)) r ⌝ }
+{
+    let first = head(out, 0, table);
+    let second = safes(out, first, table);
+    let third = bags(out, second, table);
+    attributes(out, third, table)
+}
