@@ -1,5 +1,5 @@
 -- What the functions that write do to a buffer d, which may be too short: bytes x are placed from a place on, as far as the buffer goes, and the answer is the
--- place behind all of them. So one family of functions writes and, on a buffer of no use, measures.
+-- place behind all of them. So one family of functions writes and, on an empty buffer, measures.
 use mathlib.Core.List.{List}
 use Prim.Native.Nat.{ℕ, _+_, _≤_}
 use lib.ListN.{length}

@@ -45,7 +45,7 @@ fn answered(out: &mut [u8], answer: Answer, size: usize, table: Table) -> usize
     }
 }
 
-// The length of a listing: what would be written into a buffer of any length.
+// The length of a listing: of an empty buffer every byte is counted, and none is written.
 fn measured(size: usize, reading: Reading) -> usize
     ensures { λ r. ⌜ r ≡ length (listing size reading) ⌝ }
 {

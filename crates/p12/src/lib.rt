@@ -113,7 +113,13 @@ pub extern "C" fn p12_write(table: &[u32], bytes: &[u8], out: &mut [u8], written
 
 // Attribute i of a bag, as a row of words.
 #[no_mangle]
-pub extern "C" fn p12_attribute(table: &[u32], bytes: &[u8], bag: usize, i: usize, row: &mut [u32]) -> u8
+pub extern "C" fn p12_attribute(
+    table: &[u32],
+    bytes: &[u8],
+    bag: usize,
+    i: usize,
+    row: &mut [u32],
+) -> u8
     ensures { λ r. ⌜ r ≡ attributeCall (now (table .entry)) (now (bytes .entry)) bag i (now (row .entry)) .number ⌝ }
     ensures { λ _. ⌜ now (row .exit) ≡ attributeCall (now (table .entry)) (now (bytes .entry)) bag i (now (row .entry)) .memory ⌝ }
 {
@@ -127,7 +133,14 @@ pub extern "C" fn p12_attribute(table: &[u32], bytes: &[u8], bag: usize, i: usiz
 
 // Element i of an attribute's values, and how many there are.
 #[no_mangle]
-pub extern "C" fn p12_element(bytes: &[u8], from: u32, to: u32, i: usize, start: &mut usize, end: &mut usize) -> usize
+pub extern "C" fn p12_element(
+    bytes: &[u8],
+    from: u32,
+    to: u32,
+    i: usize,
+    start: &mut usize,
+    end: &mut usize,
+) -> usize
     ensures { λ r. ⌜ r ≡ countedOf (elementRanges (now (bytes .entry)) (rangeOf from to)) i .count ⌝ }
     ensures { λ _. ⌜ now (start .exit) ≡ countedOf (elementRanges (now (bytes .entry)) (rangeOf from to)) i .element .start ⌝ }
     ensures { λ _. ⌜ now (end .exit) ≡ countedOf (elementRanges (now (bytes .entry)) (rangeOf from to)) i .element .end ⌝ }
@@ -141,7 +154,12 @@ pub extern "C" fn p12_element(bytes: &[u8], from: u32, to: u32, i: usize, start:
 
 // The certificate bag for a key bag.
 #[no_mangle]
-pub extern "C" fn p12_certificate_for(table: &[u32], bytes: &[u8], key: usize, bag: &mut usize) -> u8
+pub extern "C" fn p12_certificate_for(
+    table: &[u32],
+    bytes: &[u8],
+    key: usize,
+    bag: &mut usize,
+) -> u8
     ensures { λ r. ⌜ r ≡ pairedNumber (certificateCall (now (table .entry)) (now (bytes .entry)) key) ⌝ }
     ensures { λ _. ⌜ now (bag .exit) ≡ pairedRow (certificateCall (now (table .entry)) (now (bytes .entry)) key) ⌝ }
 {

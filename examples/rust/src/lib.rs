@@ -1,0 +1,164 @@
+//! PKCS #12 files: reading, writing, attributes, pairing and listing, over the proved library libp12.a. include/p12.h says what each call answers.
+//!
+//! ```no_run
+//! let file = std::fs::read("keys.p12").unwrap();
+//! let table = p12::read(&file).unwrap();
+//! for (row, bag) in table.bags().iter().enumerate() {
+//!     println!("{:?}: {:?}", bag.kind(), table.certificate_for(&file, row));
+//! }
+//! ```
+#![deny(unsafe_op_in_unsafe_fn)]
+#![deny(unsafe_code)]
+
+#[allow(unsafe_code)]
+mod sys;
+mod table;
+
+pub use table::{Attribute, Bag, BagKind, Parts, Range, Safe, SafeKind, Table, ATTRIBUTE_ROWS, BAG_ROWS, SAFE_ROWS};
+
+use std::fmt;
+
+/// The longest file.
+pub const FILE_BYTES: usize = 65535;
+/// Every listing fits into this.
+pub const LISTING_BYTES: usize = 65536;
+
+const OK: u8 = 0;
+const DONE: u8 = 255;
+
+/// Why something was refused. The numbers are those of p12.h.
+#[derive(Clone, Copy, Debug, PartialEq, Eq)]
+#[repr(u8)]
+pub enum Number {
+    Cut = 1,
+    TagForm = 2,
+    LengthForm = 3,
+    OtherTag = 4,
+    Content = 5,
+    LeftOver = 6,
+    NotServed = 7,
+    TooMany = 8,
+    TooLong = 9,
+    NoRoom = 10,
+    NotSound = 11,
+    NoRow = 12,
+    NoCertificate = 13,
+    MoreCertificates = 14,
+}
+
+impl Number {
+    const ALL: [Number; 14] = [
+        Number::Cut,
+        Number::TagForm,
+        Number::LengthForm,
+        Number::OtherTag,
+        Number::Content,
+        Number::LeftOver,
+        Number::NotServed,
+        Number::TooMany,
+        Number::TooLong,
+        Number::NoRoom,
+        Number::NotSound,
+        Number::NoRow,
+        Number::NoCertificate,
+        Number::MoreCertificates,
+    ];
+
+    fn of(number: u8) -> Number {
+        *Number::ALL.iter().find(|one| **one as u8 == number).expect("a number of p12.h")
+    }
+}
+
+/// A refusal: its number, and the offset in the file for the numbers 1 to 8.
+#[derive(Clone, Copy, Debug, PartialEq, Eq)]
+pub struct Refusal {
+    pub number: Number,
+    pub offset: usize,
+}
+
+impl fmt::Display for Refusal {
+    fn fmt(&self, f: &mut fmt::Formatter<'_>) -> fmt::Result {
+        write!(f, "refused {} at {}", self.number as u8, self.offset)
+    }
+}
+
+impl std::error::Error for Refusal {}
+
+fn answer<T>(number: u8, offset: usize, value: T) -> Result<T, Refusal> {
+    match number {
+        OK => Ok(value),
+        _ => Err(Refusal { number: Number::of(number), offset }),
+    }
+}
+
+/// Reads a file.
+pub fn read(file: &[u8]) -> Result<Table, Refusal> {
+    let mut table = Table::default();
+    read_into(file, &mut table)?;
+    Ok(table)
+}
+
+/// Reads a file into a table, which a refusal leaves as it was.
+pub fn read_into(file: &[u8], table: &mut Table) -> Result<(), Refusal> {
+    let (number, offset) = sys::read(file, table);
+    answer(number, offset, ())
+}
+
+/// The part of a file that its MAC is computed over. The offset of a refusal isn't told: it is 0.
+pub fn mac_input(file: &[u8]) -> Result<&[u8], Refusal> {
+    let (number, start, end) = sys::mac_input(file);
+    answer(number, 0, &file[start..end])
+}
+
+/// Writes the listing of a file to the front of the buffer, and gives its length. Refused files are listed too. `NoRoom` leaves the buffer as it was.
+pub fn list(file: &[u8], out: &mut [u8]) -> Result<usize, Refusal> {
+    let (number, written) = sys::list(file, out);
+    answer(number, 0, written)
+}
+
+/// The listing of a file.
+pub fn listing(file: &[u8]) -> String {
+    let mut out = vec![0; LISTING_BYTES];
+    let written = list(file, &mut out).expect("room for every listing");
+    out.truncate(written);
+    String::from_utf8(out).expect("a listing is ASCII")
+}
+
+/// The number of elements in an attribute's values, and element i, counted from 0, header included.
+pub fn element(bytes: &[u8], values: Range, i: usize) -> (usize, Option<&[u8]>) {
+    let (count, start, end) = sys::element(bytes, values.start, values.end, i);
+    (count, if i < count { bytes.get(start..end) } else { None })
+}
+
+/// The elements of an attribute's values, in order. Each is found from the front, so the time for all grows with the square of their number.
+pub fn elements(bytes: &[u8], values: Range) -> impl Iterator<Item = &[u8]> {
+    (0..).map_while(move |i| element(bytes, values, i).1)
+}
+
+impl Table {
+    /// Writes the file of the table to the front of the buffer, and gives its length. The ranges point into `bytes`. A refusal leaves the buffer
+    /// as it was.
+    pub fn write(&self, bytes: &[u8], out: &mut [u8]) -> Result<usize, Refusal> {
+        let (number, written) = sys::write(self, bytes, out);
+        answer(number, 0, written)
+    }
+
+    /// Attribute i of a bag, counted from 0; `None` behind the last one.
+    pub fn attribute(&self, bytes: &[u8], bag: usize, i: usize) -> Result<Option<Attribute>, Refusal> {
+        match sys::attribute(self, bytes, bag, i) {
+            (DONE, _) => Ok(None),
+            (number, row) => answer(number, 0, Some(row)),
+        }
+    }
+
+    /// The attributes of a bag, in order.
+    pub fn attributes_of(&self, bytes: &[u8], bag: usize) -> Result<Vec<Attribute>, Refusal> {
+        (0..).map_while(|i| self.attribute(bytes, bag, i).transpose()).collect()
+    }
+
+    /// The row of the certificate bag that belongs to a key bag.
+    pub fn certificate_for(&self, bytes: &[u8], key: usize) -> Result<usize, Refusal> {
+        let (number, bag) = sys::certificate_for(self, bytes, key);
+        answer(number, 0, bag)
+    }
+}

@@ -1,0 +1,84 @@
+//! The calls of p12.h, and for each a safe function over slices. The only unsafe code of the crate.
+//!
+//! What p12.h takes on trust holds by the types: a slice's pointer and length belong together and the pointer isn't NULL; a `&mut` shares no byte
+//! with anything else that is handed over; results behind pointers are locals. `Table` and `Attribute` are `repr(C)`, and all their members are u32,
+//! so they are words without padding, and any words are a value of them.
+use crate::table::{Attribute, Table};
+use std::mem::{align_of, size_of};
+
+pub const TABLE_WORDS: usize = size_of::<Table>() / size_of::<u32>();
+pub const ATTRIBUTE_WORDS: usize = size_of::<Attribute>() / size_of::<u32>();
+
+const _: () = assert!(TABLE_WORDS == 1407 && ATTRIBUTE_WORDS == 5 && align_of::<Table>() == align_of::<u32>());
+
+extern "C" {
+    fn p12_read(file: *const u8, length: usize, table: *mut u32, words: usize, offset: *mut usize) -> u8;
+    fn p12_mac_input(file: *const u8, length: usize, start: *mut usize, end: *mut usize) -> u8;
+    fn p12_write(table: *const u32, words: usize, bytes: *const u8, length: usize, out: *mut u8, room: usize, written: *mut usize) -> u8;
+    fn p12_attribute(table: *const u32, words: usize, bytes: *const u8, length: usize, bag: usize, i: usize, row: *mut u32, row_words: usize) -> u8;
+    fn p12_element(bytes: *const u8, length: usize, values_start: u32, values_end: u32, i: usize, start: *mut usize, end: *mut usize) -> usize;
+    fn p12_certificate_for(table: *const u32, words: usize, bytes: *const u8, length: usize, key: usize, bag: *mut usize) -> u8;
+    fn p12_list(file: *const u8, length: usize, out: *mut u8, room: usize, written: *mut usize) -> u8;
+}
+
+fn words(table: &Table) -> *const u32 {
+    (table as *const Table).cast()
+}
+
+/// The number and the offset.
+pub fn read(file: &[u8], table: &mut Table) -> (u8, usize) {
+    let mut offset = 0;
+    let room: *mut Table = table;
+    // SAFETY: the module's head; `room` is TABLE_WORDS words that `table` lends.
+    let number = unsafe { p12_read(file.as_ptr(), file.len(), room.cast(), TABLE_WORDS, &mut offset) };
+    (number, offset)
+}
+
+/// The number, the start and the end.
+pub fn mac_input(file: &[u8]) -> (u8, usize, usize) {
+    let (mut start, mut end) = (0, 0);
+    // SAFETY: the module's head.
+    let number = unsafe { p12_mac_input(file.as_ptr(), file.len(), &mut start, &mut end) };
+    (number, start, end)
+}
+
+/// The number and the length written.
+pub fn write(table: &Table, bytes: &[u8], out: &mut [u8]) -> (u8, usize) {
+    let mut written = 0;
+    // SAFETY: the module's head.
+    let number = unsafe { p12_write(words(table), TABLE_WORDS, bytes.as_ptr(), bytes.len(), out.as_mut_ptr(), out.len(), &mut written) };
+    (number, written)
+}
+
+/// The number and the row; an empty row where none is given.
+pub fn attribute(table: &Table, bytes: &[u8], bag: usize, i: usize) -> (u8, Attribute) {
+    let mut row = Attribute::default();
+    let room: *mut Attribute = &mut row;
+    // SAFETY: the module's head; `room` is ATTRIBUTE_WORDS words of a local.
+    let number = unsafe { p12_attribute(words(table), TABLE_WORDS, bytes.as_ptr(), bytes.len(), bag, i, room.cast(), ATTRIBUTE_WORDS) };
+    (number, row)
+}
+
+/// The count, the start and the end.
+pub fn element(bytes: &[u8], values_start: u32, values_end: u32, i: usize) -> (usize, usize, usize) {
+    let (mut start, mut end) = (0, 0);
+    // SAFETY: the module's head.
+    let count = unsafe { p12_element(bytes.as_ptr(), bytes.len(), values_start, values_end, i, &mut start, &mut end) };
+    (count, start, end)
+}
+
+/// The number and the certificate's bag.
+pub fn certificate_for(table: &Table, bytes: &[u8], key: usize) -> (u8, usize) {
+    let mut bag = 0;
+    // SAFETY: the module's head.
+    let number = unsafe { p12_certificate_for(words(table), TABLE_WORDS, bytes.as_ptr(), bytes.len(), key, &mut bag) };
+    (number, bag)
+}
+
+/// The number and the length written.
+pub fn list(file: &[u8], out: &mut [u8]) -> (u8, usize) {
+    let mut written = 0;
+    // SAFETY: the module's head.
+    let number = unsafe { p12_list(file.as_ptr(), file.len(), out.as_mut_ptr(), out.len(), &mut written) };
+    (number, written)
+}

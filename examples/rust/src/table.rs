@@ -1,0 +1,171 @@
+//! The table of a file: the structs of p12.h, member by member.
+
+pub const SAFE_ROWS: usize = 16;
+pub const BAG_ROWS: usize = 64;
+pub const ATTRIBUTE_ROWS: usize = 128;
+
+/// Bytes `start` up to `end - 1` of a file.
+#[repr(C)]
+#[derive(Clone, Copy, Debug, Default, PartialEq, Eq)]
+pub struct Range {
+    pub start: u32,
+    pub end: u32,
+}
+
+impl Range {
+    /// The bytes that the range names, if it lies in them.
+    pub fn of(self, bytes: &[u8]) -> Option<&[u8]> {
+        bytes.get(self.start as usize..self.end as usize)
+    }
+}
+
+/// An algorithm's identifier and parameters (absent: an empty range), or the identifier of a type; and a ciphertext, a digest, a key, or the value.
+#[repr(C)]
+#[derive(Clone, Copy, Debug, Default, PartialEq, Eq)]
+pub struct Parts {
+    pub identifier: Range,
+    pub parameters: Range,
+    pub value: Range,
+}
+
+#[derive(Clone, Copy, Debug, PartialEq, Eq)]
+pub enum SafeKind {
+    Plain,
+    Encrypted,
+}
+
+#[derive(Clone, Copy, Debug, PartialEq, Eq)]
+pub enum BagKind {
+    Key,
+    ShroudedKey,
+    Certificate,
+    Crl,
+    Secret,
+    Nested,
+}
+
+impl BagKind {
+    pub fn is_key(self) -> bool {
+        matches!(self, BagKind::Key | BagKind::ShroudedKey)
+    }
+}
+
+#[repr(C)]
+#[derive(Clone, Copy, Debug, Default, PartialEq, Eq)]
+pub struct Safe {
+    /// The number of the kind; 0 in an empty row.
+    pub kind: u32,
+    pub parts: Parts,
+}
+
+impl Safe {
+    pub fn kind(&self) -> Option<SafeKind> {
+        match self.kind {
+            1 => Some(SafeKind::Plain),
+            2 => Some(SafeKind::Encrypted),
+            _ => None,
+        }
+    }
+}
+
+#[repr(C)]
+#[derive(Clone, Copy, Debug, Default, PartialEq, Eq)]
+pub struct Bag {
+    /// The number of the kind; 0 in an empty row.
+    pub kind: u32,
+    /// The row of its safe.
+    pub safe: u32,
+    /// 0 for none, else the row of the enclosing bag and 1.
+    pub enclosing: u32,
+    pub parts: Parts,
+    /// Whether a set of attributes stands there, 0 or 1.
+    pub has_set: u32,
+}
+
+impl Bag {
+    pub fn kind(&self) -> Option<BagKind> {
+        match self.kind {
+            1 => Some(BagKind::Key),
+            2 => Some(BagKind::ShroudedKey),
+            3 => Some(BagKind::Certificate),
+            4 => Some(BagKind::Crl),
+            5 => Some(BagKind::Secret),
+            6 => Some(BagKind::Nested),
+            _ => None,
+        }
+    }
+
+    /// The row of the enclosing bag.
+    pub fn enclosing(&self) -> Option<usize> {
+        (self.enclosing as usize).checked_sub(1)
+    }
+}
+
+#[repr(C)]
+#[derive(Clone, Copy, Debug, Default, PartialEq, Eq)]
+pub struct Attribute {
+    /// The row of its bag.
+    pub bag: u32,
+    pub identifier: Range,
+    /// The body of the SET.
+    pub values: Range,
+}
+
+/// A table as reading gives it, or as the caller makes it for writing. Any values are allowed: the calls that take a table judge it.
+#[repr(C)]
+#[derive(Clone, Copy, Debug, PartialEq, Eq)]
+pub struct Table {
+    /// The number of elements in the file.
+    pub elements: u32,
+    pub safe_count: u32,
+    pub bag_count: u32,
+    pub attribute_count: u32,
+    /// What the MAC is computed over.
+    pub mac_input: Range,
+    /// The digest's algorithm, and the digest.
+    pub mac: Parts,
+    pub mac_salt: Range,
+    /// 1 where none are written.
+    pub mac_iterations: u32,
+    pub safe_rows: [Safe; SAFE_ROWS],
+    pub bag_rows: [Bag; BAG_ROWS],
+    pub attribute_rows: [Attribute; ATTRIBUTE_ROWS],
+}
+
+impl Default for Table {
+    /// The empty table.
+    fn default() -> Self {
+        Table {
+            elements: 0,
+            safe_count: 0,
+            bag_count: 0,
+            attribute_count: 0,
+            mac_input: Range::default(),
+            mac: Parts::default(),
+            mac_salt: Range::default(),
+            mac_iterations: 0,
+            safe_rows: [Safe::default(); SAFE_ROWS],
+            bag_rows: [Bag::default(); BAG_ROWS],
+            attribute_rows: [Attribute::default(); ATTRIBUTE_ROWS],
+        }
+    }
+}
+
+/// The rows below a count.
+fn below<T>(rows: &[T], count: u32) -> &[T] {
+    &rows[..rows.len().min(count as usize)]
+}
+
+impl Table {
+    pub fn safes(&self) -> &[Safe] {
+        below(&self.safe_rows, self.safe_count)
+    }
+
+    pub fn bags(&self) -> &[Bag] {
+        below(&self.bag_rows, self.bag_count)
+    }
+
+    pub fn attributes(&self) -> &[Attribute] {
+        below(&self.attribute_rows, self.attribute_count)
+    }
+}

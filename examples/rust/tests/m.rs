@@ -1,0 +1,141 @@
+//! The calls on M, the smallest file of the bench set: 47 bytes, with no safe.
+use p12::{Number, Range, Refusal, Table};
+
+const M: [u8; 47] = [
+    0x30, 0x2D, 0x02, 0x01, 0x03, 0x30, 0x11, 0x06, 0x09, 0x2A, 0x86, 0x48, 0x86, 0xF7, 0x0D, 0x01, 0x07, 0x01, 0xA0, 0x04, 0x04, 0x02, 0x30, 0x00,
+    0x30, 0x15, 0x30, 0x10, 0x30, 0x0B, 0x06, 0x09, 0x60, 0x86, 0x48, 0x01, 0x65, 0x03, 0x04, 0x02, 0x01, 0x04, 0x01, 0xAA, 0x04, 0x01, 0x55,
+];
+
+const LISTING: &str = "pfx 47 bytes, 13 elements
+safes 0, bags 0, attributes 0
+mac input 22..24, digest 43..44, salt 46..47, iterations 1
+";
+
+fn refusal<T>(number: Number, offset: usize) -> Result<T, Refusal> {
+    Err(Refusal { number, offset })
+}
+
+/// A table that no reading gives, with something in every row.
+fn painted() -> Table {
+    let mut table = p12::read(&M).unwrap();
+    table.elements = 7;
+    table.safe_rows.iter_mut().for_each(|row| row.kind = 1);
+    table.bag_rows.iter_mut().for_each(|row| row.has_set = 1);
+    table.attribute_rows.iter_mut().for_each(|row| row.bag = 9);
+    table
+}
+
+/// An element of these parts, of at most 255 bytes.
+fn element(tag: u8, parts: &[&[u8]]) -> Vec<u8> {
+    let body = parts.concat();
+    let header = if body.len() < 0x80 { vec![tag] } else { vec![tag, 0x81] };
+    [header, vec![u8::try_from(body.len()).unwrap()], body].concat()
+}
+
+/// M with a plain safe that holds a key bag: an empty SEQUENCE, with one localKeyID of one byte.
+fn with_key() -> Vec<u8> {
+    let data = &M[7..18];
+    let id = [0x06, 0x09, 0x2A, 0x86, 0x48, 0x86, 0xF7, 0x0D, 0x01, 0x09, 0x15];
+    let key = [0x06, 0x0B, 0x2A, 0x86, 0x48, 0x86, 0xF7, 0x0D, 0x01, 0x0C, 0x0A, 0x01, 0x01];
+    let attribute = element(0x30, &[&id, &element(0x31, &[&[0x04, 0x01, 0x77]])]);
+    let bag = element(0x30, &[&key, &element(0xA0, &[&[0x30, 0x00]]), &element(0x31, &[&attribute])]);
+    let safe = element(0x30, &[data, &element(0xA0, &[&element(0x04, &[&element(0x30, &[&bag])])])]);
+    let outer = element(0x30, &[data, &element(0xA0, &[&element(0x04, &[&element(0x30, &[&safe])])])]);
+    element(0x30, &[&M[2..5], &outer, &M[24..]])
+}
+
+#[test]
+fn reads_m() {
+    let table = p12::read(&M).unwrap();
+    assert_eq!((table.elements, table.safes().len(), table.bags().len(), table.attributes().len()), (13, 0, 0, 0));
+    assert_eq!(table.mac_input, Range { start: 22, end: 24 });
+    assert_eq!(table.mac.value.of(&M), Some(&[0xAA][..]));
+    assert_eq!(table.mac_salt.of(&M), Some(&[0x55][..]));
+    assert_eq!(table.mac_iterations, 1);
+    assert_eq!(p12::mac_input(&M), Ok(&M[22..24]));
+}
+
+#[test]
+fn reads_no_other_words() {
+    let mut table = painted();
+    p12::read_into(&M, &mut table).unwrap();
+    assert_eq!(table, p12::read(&M).unwrap());
+}
+
+#[test]
+fn writes_m_back() {
+    let table = p12::read(&M).unwrap();
+    let mut out = [0xEE; 50];
+    assert_eq!(table.write(&M, &mut out), Ok(47));
+    assert_eq!(out[..47], M);
+    assert_eq!(out[47..], [0xEE; 3]);
+}
+
+#[test]
+fn lists_m() {
+    assert_eq!(p12::listing(&M), LISTING);
+    assert_eq!(p12::listing(&M[..46]), "refused 1 at 0\n");
+}
+
+#[test]
+fn reads_a_key() {
+    let file = with_key();
+    let table = p12::read(&file).unwrap();
+    assert_eq!(table.bags()[0].kind(), Some(p12::BagKind::Key));
+    assert_eq!(table.bags()[0].enclosing(), None);
+    let attributes = table.attributes_of(&file, 0).unwrap();
+    assert_eq!(attributes, table.attributes());
+    assert_eq!(p12::elements(&file, attributes[0].values).collect::<Vec<_>>(), [[0x04, 0x01, 0x77]]);
+    assert_eq!(table.attribute(&file, 0, 1), Ok(None));
+    assert_eq!(table.attribute(&file, 0, usize::MAX), Ok(None));
+    assert_eq!(table.certificate_for(&file, 0), refusal(Number::NoCertificate, 0));
+    assert_eq!(table.attribute(&file, 1, 0), refusal(Number::NoRow, 0));
+    assert_eq!(table.certificate_for(&file, 1), refusal(Number::NoRow, 0));
+}
+
+#[test]
+fn refused_reading_leaves_the_table() {
+    let mut version_4 = M;
+    version_4[4] = 4;
+    let cases: [(&[u8], Number, usize); 4] =
+        [(&[], Number::Cut, 0), (&M[..46], Number::Cut, 0), (&[M.as_slice(), &[0]].concat(), Number::LeftOver, 47), (&version_4, Number::Content, 2)];
+    for (file, number, offset) in cases {
+        let mut table = painted();
+        assert_eq!(p12::read_into(file, &mut table), refusal(number, offset));
+        assert_eq!(table, painted());
+        assert_eq!(p12::mac_input(file), refusal(number, 0));
+    }
+    assert_eq!(p12::read(&[0; p12::FILE_BYTES + 1]), refusal(Number::TooLong, 0));
+}
+
+#[test]
+fn refused_writing_leaves_the_room() {
+    let table = p12::read(&M).unwrap();
+    let mut out = [0xEE; 46];
+    assert_eq!(table.write(&M, &mut out), refusal(Number::NoRoom, 0));
+    assert_eq!(out, [0xEE; 46]);
+
+    let mut unsound = table;
+    unsound.mac_salt.end = 48;
+    let mut out = [0xEE; 50];
+    assert_eq!(unsound.write(&M, &mut out), refusal(Number::NotSound, 0));
+    assert_eq!(Table::default().write(&M, &mut out), refusal(Number::NotSound, 0));
+    assert_eq!(out, [0xEE; 50]);
+    assert_eq!(unsound.attribute(&M, 0, 0), refusal(Number::NotSound, 0));
+    assert_eq!(unsound.certificate_for(&M, 0), refusal(Number::NotSound, 0));
+}
+
+#[test]
+fn refused_listing_leaves_the_room() {
+    let mut out = vec![0xEE; LISTING.len() - 1];
+    assert_eq!(p12::list(&M, &mut out), refusal(Number::NoRoom, 0));
+    assert!(out.iter().all(|byte| *byte == 0xEE));
+    out.push(0xEE);
+    assert_eq!(p12::list(&M, &mut out), Ok(LISTING.len()));
+    assert_eq!(out, LISTING.as_bytes());
+}
+
+#[test]
+fn refusals_are_told() {
+    assert_eq!(p12::read(&M[..46]).unwrap_err().to_string(), "refused 1 at 0");
+}

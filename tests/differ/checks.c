@@ -1,0 +1,123 @@
+/* See checks.h. */
+#include "checks.h"
+#include "exact.h"
+
+typedef char no_padding[P12_TABLE_WORDS == 1407 && P12_ATTRIBUTE_WORDS == 5 ? 1 : -1];
+
+enum { WORD = sizeof(uint32_t), MORE = 3 };
+
+void check(int kept, const char *what)
+{
+    if (!kept)
+        printf("fault: %s\n", what);
+}
+
+void check_nothing(void)
+{
+    size_t a = 1, b = 1;
+
+    check(p12_read(NULL, 0, NULL, 0, &a) == P12_CUT && a == 0, "no file: read");
+    check(p12_list(NULL, 0, NULL, 0, &a) == P12_NO_ROOM && a == 0, "no file: list");
+    check(p12_element(NULL, 0, 0, 0, 0, &a, &b) == 0 && a == 0 && b == 0, "no bytes: element");
+    a = b = 1;
+    check(p12_mac_input(NULL, 0, &a, &b) == P12_CUT && a == 0 && b == 0, "no file: mac input");
+    a = b = 1;
+    check(p12_write(NULL, 0, NULL, 0, NULL, 0, &a) == P12_NOT_SOUND && a == 0, "no words: write");
+    check(p12_certificate_for(NULL, 0, NULL, 0, 0, &b) == P12_NOT_SOUND && b == 0, "no words: certificate");
+    check(p12_attribute(NULL, 0, NULL, 0, 0, 0, NULL, 0) == P12_NOT_SOUND, "no words: attribute");
+}
+
+/* Reading. */
+
+static void check_fewer_words(const uint8_t *file, size_t length, unsigned number, size_t offset, size_t count)
+{
+    uint32_t *fewer = painted(count * WORD);
+    size_t at = 1;
+    unsigned due = number == P12_OK ? P12_NO_ROOM : number;
+
+    check(p12_read(file, length, fewer, count, &at) == due && at == offset, "read into fewer words: number or offset");
+    check(as_before(fewer, 0, count * WORD), "read into fewer words: they changed");
+    release(fewer, count * WORD);
+}
+
+void check_other_words(const uint8_t *file, size_t length, unsigned number, size_t offset, const uint32_t *words)
+{
+    size_t size = sizeof(struct p12_table), at = 1;
+    uint32_t *more = painted(size + MORE * WORD);
+
+    check_fewer_words(file, length, number, offset, 0);
+    check_fewer_words(file, length, number, offset, P12_TABLE_WORDS - 1);
+    check(p12_read(file, length, more, P12_TABLE_WORDS + MORE, &at) == number && at == offset, "read into more words: number or offset");
+    check(memcmp(more, words, size) == 0, "read into more words: another table");
+    check(as_before(more, size, size + MORE * WORD), "read into more words: those behind changed");
+    release(more, size + MORE * WORD);
+}
+
+/* Listing. */
+
+static void check_short_listing(const uint8_t *file, size_t length, size_t room)
+{
+    uint8_t *out = painted(room);
+    size_t got = 1;
+
+    check(p12_list(file, length, out, room, &got) == P12_NO_ROOM && got == 0, "listing into too little room: number or length");
+    check(as_before(out, 0, room), "listing into too little room: it changed");
+    release(out, room);
+}
+
+void check_listing(const uint8_t *file, size_t length, const uint8_t *text, size_t written)
+{
+    uint8_t *out = painted(written);
+    size_t got = 1;
+
+    check(p12_list(file, length, out, written, &got) == P12_OK && got == written, "listing into exact room: number or length");
+    check(memcmp(out, text, written) == 0, "listing into exact room: another text");
+    release(out, written);
+    check(written > 0, "listing: it is empty");
+    check_short_listing(file, length, 0);
+    check_short_listing(file, length, written ? written - 1 : 0);
+}
+
+/* Attributes. */
+
+void check_attribute(const struct lent *lent, size_t bag, size_t i, unsigned number)
+{
+    size_t size = sizeof(struct p12_attribute);
+    uint32_t *fewer = painted(size - WORD), *more = painted(size + MORE * WORD);
+    unsigned due = number == P12_OK ? P12_NO_ROOM : number;
+
+    check(p12_attribute(lent->words, P12_TABLE_WORDS, lent->file, lent->length, bag, i, fewer, P12_ATTRIBUTE_WORDS - 1) == due,
+        "attribute into fewer words: number");
+    check(as_before(fewer, 0, size - WORD), "attribute into fewer words: they changed");
+    check(p12_attribute(lent->words, P12_TABLE_WORDS, lent->file, lent->length, bag, i, more, P12_ATTRIBUTE_WORDS + MORE) == number,
+        "attribute into more words: number");
+    check(as_before(more, number == P12_OK ? size : 0, size + MORE * WORD), "attribute into more words: those behind changed");
+    release(fewer, size - WORD);
+    release(more, size + MORE * WORD);
+}
+
+/* The number of elements in a range, whatever it is; what is given must lie in the bytes. */
+static size_t counted(const struct lent *lent, uint32_t from, uint32_t to, size_t i, size_t *start, size_t *end)
+{
+    size_t count;
+
+    *start = *end = 1;
+    count = p12_element(lent->file, lent->length, from, to, i, start, end);
+    check(i < count ? *start < *end && *end <= lent->length : *start == 0 && *end == 0, "element: its range");
+    return count;
+}
+
+void check_no_element(const struct lent *lent, struct p12_range values, size_t count)
+{
+    const uint32_t far = 1 << 16;
+    size_t start, end;
+
+    check(counted(lent, values.start, values.end, count, &start, &end) == count, "element behind the last: the count");
+    check(counted(lent, values.start, values.end, SIZE_MAX, &start, &end) == count, "element past all: the count");
+    check(counted(lent, values.start + far, values.end + far, 0, &start, &end) == 0, "element of a range past the bytes");
+    if (values.start < values.end)
+        check(counted(lent, values.end, values.start, 0, &start, &end) == 0, "element of a range that ends before it starts");
+    (void)counted(lent, values.start, UINT32_MAX, 0, &start, &end);
+    (void)counted(lent, values.start + 1, values.end + 1, 0, &start, &end);
+    (void)counted(lent, UINT32_MAX, values.end, 0, &start, &end);
+}

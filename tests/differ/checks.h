@@ -1,0 +1,35 @@
+/* Checks of what p12.h promises beside the answers: room that is too short or too large, words that are ignored, tables that aren't sound. Each
+   prints a line `fault: ..` where something isn't as it should be. */
+#ifndef CHECKS_H
+#define CHECKS_H
+
+#include "p12.h"
+
+/* A file, and its table as p12_read gave it, of P12_TABLE_WORDS words. */
+struct lent {
+    const uint8_t *file;
+    size_t length;
+    const uint32_t *words;
+};
+
+void check(int kept, const char *what);
+
+/* Calls with no byte and no word, by NULL pointers. */
+void check_nothing(void);
+
+/* Reading into fewer words and into more, after a reading that gave this number, offset and these words. */
+void check_other_words(const uint8_t *file, size_t length, unsigned number, size_t offset, const uint32_t *words);
+
+/* Listing into exact room, and into a byte less, after a listing that gave this text. */
+void check_listing(const uint8_t *file, size_t length, const uint8_t *text, size_t written);
+
+/* Attribute i of a bag into rows of other sizes, after a call that gave this number. */
+void check_attribute(const struct lent *lent, size_t bag, size_t i, unsigned number);
+
+/* Elements that aren't there, and ranges that aren't values. */
+void check_no_element(const struct lent *lent, struct p12_range values, size_t count);
+
+/* Writing the table, and tables made of it that mean the same or aren't sound. Whether the file was written and read again. */
+int check_table(const struct lent *lent, const struct p12_table *table);
+
+#endif

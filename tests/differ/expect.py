@@ -1,0 +1,92 @@
+"""The record that driver.c should write of a file, by the models alone: rows and listing by p12_reader.py, pairs by p12_pairs.py, and attributes
+and elements worked out here from the reader's rows. driver.c has the form of the lines.
+
+record(number, data) gives the text and the reader's result.
+"""
+from itertools import groupby
+
+import p12_pairs
+import p12_reader
+import p12_writer
+from p12_reader import ATTRIBUTE_ROWS, BAG_ROWS, SAFE_ROWS
+from p12_writer import BAG_KINDS, SAFE_KINDS
+
+SHOWN = 32      # of many elements the first and the last so many
+DONE, NO_ROW = 255, 12
+WRITTEN = "written and read again\n"
+
+
+def parts(row):
+    return [*row.identifier, *row.parameters, *row.value]
+
+
+def padded(rows, size, count):
+    """The words of the rows, and zeros for those that aren't there."""
+    return [word for row in rows for word in row] + [0] * (size * (count - len(rows)))
+
+
+def words(result):
+    """Every word of the table, in the order of struct p12_table."""
+    table = p12_writer.of_reading(result)
+    mac = table.mac
+    safes = [[SAFE_KINDS.index(row.kind), *parts(row)] for row in table.safes]
+    bags = [[BAG_KINDS.index(row.kind), row.safe, 0 if row.enclosing is None else row.enclosing + 1, *parts(row), int(row.has_set)]
+            for row in table.bags]
+    attributes = [[row.bag, *row.identifier, *row.values] for row in table.attributes]
+    return [result.opened, len(safes), len(bags), len(attributes), *result.mac_input, *parts(mac), *mac.salt, mac.iterations,
+            *padded(safes, 7, SAFE_ROWS), *padded(bags, 10, BAG_ROWS), *padded(attributes, 5, ATTRIBUTE_ROWS)]
+
+
+def words_line(result):
+    runs = [(word, len(list(same))) for word, same in groupby(words(result))]
+    return "words: " + " ".join("%d" % word if count == 1 else "%d*%d" % (count, word) for word, count in runs) + "\n"
+
+
+def elements(data, values):
+    """The range of each element, header included."""
+    walk, found = p12_reader.Parent(data, p12_reader.empty_reading(len(data)), *values), []
+    while walk.left():
+        found.append(walk.element().whole)
+    return found
+
+
+def attribute_line(data, bag, i, row):
+    found = elements(data, row.values)
+    shown = found if len(found) <= 2 * SHOWN else found[:SHOWN] + found[-SHOWN:]
+    return "bag %d attribute %d: 0, bag %d, %d..%d, %d..%d, elements %d:%s\n" % (
+        bag, i, row.bag, *row.type, *row.values, len(found), "".join(" %d..%d" % pair for pair in shown))
+
+
+def certificate_line(data, result, bag):
+    number, row = NO_ROW, 0
+    if bag < len(result.bags) and result.bags[bag].kind in ("key", "shrouded key"):
+        answer = p12_pairs.answer(data, result, bag)
+        number, row = (0, int(answer.split()[-1])) if answer.startswith("certificate bag ") else (int(answer.split()[-1]), 0)
+    return "bag %d certificate: %d, bag %d\n" % (bag, number, row)
+
+
+def bag_lines(data, result, bag):
+    own = [row for row in result.attributes if row.bag == bag]
+    lines = [attribute_line(data, bag, i, row) for i, row in enumerate(own)]
+    last = "%d, again %d" % (DONE, DONE) if bag < len(result.bags) else NO_ROW
+    lines.append("bag %d attribute %d: %s\n" % (bag, len(own), last))
+    return lines + [certificate_line(data, result, bag)]
+
+
+def accepted_lines(data, result):
+    lines = [words_line(result)]
+    for bag in range(len(result.bags) + 1):
+        lines += bag_lines(data, result, bag)
+    return lines + [WRITTEN]
+
+
+def record(number, data):
+    result = p12_reader.read(data)
+    refused = isinstance(result, p12_reader.Refusal)
+    answer, place = result if refused else (0, 0)
+    listing = p12_reader.listing(result)
+    lines = ["= %d, %d bytes\n" % (number, len(data)),
+             "read: %d at %d\n" % (answer, place),
+             "mac input: %d, %d..%d\n" % (answer, *((0, 0) if refused else result.mac_input)),
+             "list: 0, %d bytes\n" % len(listing), listing]
+    return "".join(lines + ([] if refused else accepted_lines(data, result))), result

@@ -1,0 +1,277 @@
+/* Writing: see check_table in checks.h. */
+#include "checks.h"
+#include "exact.h"
+
+#include <stddef.h>
+
+enum { WORD = sizeof(uint32_t), BEHIND = 5, SHIFT = 7, UNSOUND = 8, LONG = 40000, LITTLE = 16 };
+
+/* What each word of a table is, by the table's counts and kinds. */
+enum role { IGNORED, NAME, START, END, FLAG, ITERATIONS };
+
+#define PLACE(member) (offsetof(struct p12_table, member) / WORD)
+
+static void ranges(uint8_t *roles, size_t at, size_t count)
+{
+    for (size_t i = 0; i < count; i++) {
+        roles[at + 2 * i] = START;
+        roles[at + 2 * i + 1] = END;
+    }
+}
+
+/* The ranges that a kind of bag uses: identifier, parameters, value. */
+static void bag_ranges(uint8_t *roles, size_t parts, uint32_t kind)
+{
+    if (kind != P12_KEY && kind != P12_NESTED)
+        ranges(roles, parts, 1);
+    if (kind == P12_SHROUDED_KEY)
+        ranges(roles, parts + 2, 1);
+    if (kind != P12_NESTED)
+        ranges(roles, parts + 4, 1);
+}
+
+static void find_roles(const struct p12_table *t, uint8_t *roles)
+{
+    memset(roles, IGNORED, P12_TABLE_WORDS);
+    memset(roles + PLACE(safe_count), NAME, 3);
+    ranges(roles, PLACE(mac), 3);
+    ranges(roles, PLACE(mac_salt), 1);
+    roles[PLACE(mac_iterations)] = ITERATIONS;
+    for (size_t i = 0; i < t->safe_count; i++) {
+        roles[PLACE(safes[i].kind)] = NAME;
+        if (t->safes[i].kind == P12_ENCRYPTED)
+            ranges(roles, PLACE(safes[i].parts), 3);
+    }
+    for (size_t i = 0; i < t->bag_count; i++) {
+        memset(roles + PLACE(bags[i].kind), NAME, 3);
+        bag_ranges(roles, PLACE(bags[i].parts), t->bags[i].kind);
+        roles[PLACE(bags[i].has_set)] = FLAG;
+    }
+    for (size_t i = 0; i < t->attribute_count; i++) {
+        roles[PLACE(attributes[i].bag)] = NAME;
+        ranges(roles, PLACE(attributes[i].identifier), 2);
+    }
+}
+
+/* Numbers that depend on the file alone. */
+static uint32_t dice(uint32_t *state)
+{
+    *state = *state * 1664525u + 1013904223u;
+    return *state >> 8 ^ *state << 24;
+}
+
+static uint32_t seed_of(const struct lent *lent)
+{
+    uint32_t sum = 2166136261u;
+
+    for (size_t i = 0; i < lent->length; i++)
+        sum = (sum ^ lent->file[i]) * 16777619u;
+    return sum;
+}
+
+/* Whether these words over these bytes are written as the file, into room with so many bytes more. */
+static int is_written(const struct lent *lent, const uint32_t *words, size_t count, const uint8_t *bytes, size_t length, size_t more)
+{
+    size_t room = lent->length + more, written = 1;
+    uint8_t *out = painted(room);
+    unsigned number = p12_write(words, count, bytes, length, out, room, &written);
+    int kept = number == P12_OK && written == lent->length && memcmp(out, lent->file, lent->length) == 0 && as_before(out, written, room);
+
+    release(out, room);
+    return kept;
+}
+
+static void check_room(const struct lent *lent)
+{
+    size_t room = lent->length - 1, written = 1;
+    uint8_t *out = painted(room);
+
+    check(is_written(lent, lent->words, P12_TABLE_WORDS, lent->file, lent->length, 0), "write into exact room");
+    check(is_written(lent, lent->words, P12_TABLE_WORDS, lent->file, lent->length, 100), "write into more room");
+    check(p12_write(lent->words, P12_TABLE_WORDS, lent->file, lent->length, out, room, &written) == P12_NO_ROOM && written == 0,
+        "write into a byte less: number or length");
+    check(as_before(out, 0, room), "write into a byte less: the room changed");
+    release(out, room);
+}
+
+static int is_read_again(const struct lent *lent)
+{
+    uint8_t *out = painted(lent->length);
+    uint32_t *words = painted(sizeof(struct p12_table));
+    size_t written = 1, offset = 1;
+    int kept = p12_write(lent->words, P12_TABLE_WORDS, lent->file, lent->length, out, lent->length, &written) == P12_OK
+        && written == lent->length && p12_read(out, written, words, P12_TABLE_WORDS, &offset) == P12_OK && offset == 0
+        && memcmp(words, lent->words, sizeof(struct p12_table)) == 0;
+
+    release(out, lent->length);
+    release(words, sizeof(struct p12_table));
+    return kept;
+}
+
+/* Words that are ignored are anything, also behind the table. */
+static void check_ignored(const struct lent *lent, const uint8_t *roles)
+{
+    size_t count = P12_TABLE_WORDS + BEHIND;
+    uint32_t *words = exact(count * WORD), state = seed_of(lent);
+
+    for (size_t i = 0; i < count; i++)
+        words[i] = i >= P12_TABLE_WORDS || roles[i] == IGNORED ? dice(&state) : lent->words[i];
+    check(is_written(lent, words, count, lent->file, lent->length, 0), "write with other words that are ignored");
+    release(words, count * WORD);
+}
+
+/* Words that aren't there count as 0. */
+static void check_fewer(const struct lent *lent)
+{
+    size_t count = P12_TABLE_WORDS;
+    uint32_t *words;
+
+    while (count && lent->words[count - 1] == 0)
+        count--;
+    words = copied(lent->words, count * WORD);
+    check(is_written(lent, words, count, lent->file, lent->length, 0), "write with fewer words");
+    release(words, count * WORD);
+}
+
+/* The same parts at other places. */
+static void check_shifted(const struct lent *lent, const uint8_t *roles)
+{
+    size_t length = lent->length + SHIFT;
+    uint32_t *words = copied(lent->words, sizeof(struct p12_table));
+    uint8_t *bytes = painted(length);
+
+    memcpy(bytes + SHIFT, lent->file, lent->length);
+    for (size_t i = 0; i < P12_TABLE_WORDS; i++)
+        words[i] += roles[i] == START || roles[i] == END ? SHIFT : 0;
+    if (length <= P12_FILE_BYTES)
+        check(is_written(lent, words, P12_TABLE_WORDS, bytes, length, 0), "write with ranges at other places");
+    release(words, sizeof(struct p12_table));
+    release(bytes, length);
+}
+
+static void check_refused(const uint32_t *words, const uint8_t *bytes, size_t length, unsigned due, const char *what)
+{
+    uint8_t *out = painted(LITTLE);
+    size_t written = 1;
+
+    check(p12_write(words, P12_TABLE_WORDS, bytes, length, out, LITTLE, &written) == due && written == 0, what);
+    check(as_before(out, 0, LITTLE), "write that is refused: the room changed");
+    release(out, LITTLE);
+}
+
+/* A digest and a salt that no file has room for: 9 before 10, and 11 before 9. */
+static void check_too_long(const struct lent *lent)
+{
+    size_t length = lent->length > LONG ? lent->length : LONG;
+    uint32_t *words = copied(lent->words, sizeof(struct p12_table));
+    uint8_t *bytes = painted(length);
+
+    memcpy(bytes, lent->file, lent->length);
+    words[PLACE(mac.value.start)] = words[PLACE(mac_salt.start)] = 0;
+    words[PLACE(mac.value.end)] = words[PLACE(mac_salt.end)] = LONG;
+    check_refused(words, bytes, length, P12_TOO_LONG, "write of a file that is too long");
+    words[PLACE(mac_iterations)] = 0;
+    check_refused(words, bytes, length, P12_NOT_SOUND, "write of a file that is too long, from a table that isn't sound");
+    release(words, sizeof(struct p12_table));
+    release(bytes, length);
+}
+
+/* Numbers of rows and attributes that are 0 in fewer bits. */
+static void check_far_rows(const struct lent *lent, const struct p12_table *table)
+{
+    const size_t far[] = { (size_t)1 << 8, (size_t)1 << 16, (size_t)1 << 31 << 1, SIZE_MAX };
+    uint32_t *row = painted(sizeof(struct p12_attribute));
+    size_t bag;
+
+    for (int i = 0; i < 4; i++) {
+        bag = 1;
+        check(p12_certificate_for(lent->words, P12_TABLE_WORDS, lent->file, lent->length, far[i], &bag) == P12_NO_ROW && bag == 0,
+            "certificate for a row that is far away");
+        check(p12_attribute(lent->words, P12_TABLE_WORDS, lent->file, lent->length, far[i], 0, row, P12_ATTRIBUTE_WORDS) == P12_NO_ROW,
+            "attribute of a bag that is far away");
+        if (table->bag_count)
+            check(p12_attribute(lent->words, P12_TABLE_WORDS, lent->file, lent->length, 0, far[i], row, P12_ATTRIBUTE_WORDS) == P12_DONE,
+                "attribute that is far away");
+    }
+    check(as_before(row, 0, sizeof(struct p12_attribute)), "row or attribute that is far away: the row changed");
+    release(row, sizeof(struct p12_attribute));
+}
+
+/* A value that makes the table unsound in a word of this role. */
+static uint32_t unsound_word(enum role role, uint32_t word, size_t length, uint32_t choice)
+{
+    const uint32_t more[] = { 1u << 16, 1u << 31, 1u << 8 };
+
+    if (role == ITERATIONS)
+        return choice % 2 ? 0 : 1u << 31;
+    if (role == END && choice % 3 == 2)
+        return (uint32_t)length + 1;
+    return word + more[choice % (role == NAME ? 3 : 2)];
+}
+
+static void check_unsound(const struct lent *lent, const uint32_t *words)
+{
+    uint8_t *out = painted(lent->length);
+    uint32_t *row = painted(sizeof(struct p12_attribute));
+    size_t written = 1, bag = 1;
+
+    check(p12_write(words, P12_TABLE_WORDS, lent->file, lent->length, out, lent->length, &written) == P12_NOT_SOUND && written == 0,
+        "write of a table that isn't sound: number or length");
+    check(as_before(out, 0, lent->length), "write of a table that isn't sound: the room changed");
+    for (size_t i = 0; i <= P12_BAG_ROWS; i += P12_BAG_ROWS)
+        check(p12_attribute(words, P12_TABLE_WORDS, lent->file, lent->length, i, 0, row, P12_ATTRIBUTE_WORDS) == P12_NOT_SOUND,
+            "attribute of a table that isn't sound");
+    check(as_before(row, 0, sizeof(struct p12_attribute)), "attribute of a table that isn't sound: the row changed");
+    check(p12_certificate_for(words, P12_TABLE_WORDS, lent->file, lent->length, 0, &bag) == P12_NOT_SOUND && bag == 0,
+        "certificate of a table that isn't sound");
+    release(out, lent->length);
+    release(row, sizeof(struct p12_attribute));
+}
+
+/* A few words of the table, each made unsound by itself. */
+static void check_unsound_words(const struct lent *lent, const uint8_t *roles)
+{
+    uint32_t state = seed_of(lent), *words = copied(lent->words, sizeof(struct p12_table));
+
+    for (int done = 0; done < UNSOUND;) {
+        size_t i = dice(&state) % P12_TABLE_WORDS;
+
+        if (roles[i] == IGNORED || roles[i] == FLAG)
+            continue;
+        words[i] = unsound_word(roles[i], lent->words[i], lent->length, dice(&state));
+        check_unsound(lent, words);
+        words[i] = lent->words[i];
+        done++;
+    }
+    release(words, sizeof(struct p12_table));
+}
+
+/* An attribute of a bag with no set. */
+static void check_no_set(const struct lent *lent, const struct p12_table *table)
+{
+    uint32_t *words = copied(lent->words, sizeof(struct p12_table));
+
+    if (table->attribute_count) {
+        words[PLACE(bags[table->attributes[0].bag].has_set)] = 0;
+        check_unsound(lent, words);
+    }
+    release(words, sizeof(struct p12_table));
+}
+
+int check_table(const struct lent *lent, const struct p12_table *table)
+{
+    uint8_t roles[P12_TABLE_WORDS];
+
+    if (table->safe_count > P12_SAFE_ROWS || table->bag_count > P12_BAG_ROWS || table->attribute_count > P12_ATTRIBUTE_ROWS)
+        return 0;
+    find_roles(table, roles);
+    check_room(lent);
+    check_ignored(lent, roles);
+    check_fewer(lent);
+    check_shifted(lent, roles);
+    check_unsound_words(lent, roles);
+    check_no_set(lent, table);
+    check_too_long(lent);
+    check_far_rows(lent, table);
+    return is_read_again(lent);
+}
