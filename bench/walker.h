@@ -56,4 +56,7 @@ struct fault {
 /* 1: accepted, t is the reading, f is 0 at 0. 0: refused, t is all zero, f is the fault. */
 int walk(const uint8_t *file, size_t n, struct table *t, struct fault *f);
 
+/* The listing of a file (docs/TESTS.md), with a final 0; t is as walk leaves it. The listing's length, also where it doesn't fit. */
+size_t walker_list(const uint8_t *file, size_t n, struct table *t, char *out, size_t room);
+
 #endif

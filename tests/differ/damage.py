@@ -2,7 +2,7 @@
 
     flat(dice, data, headers)     (how, bytes): bytes changed with nothing else made to fit
     mended(dice, tree, nodes)     (how, bytes): a node changed, and the lengths of all that enclose it made to fit; the tree is as before
-    aimed(dice, tree, nodes)      the same, with a change that meets one rule
+    aimed(dice, tree, nodes)      the same, with a change that meets one rule. Both give None for bytes where no file can be made of it
     headers_of(data)              (place of the tag, place of the body, the tag) of each element of an accepted file
     tree_of(data)                 its tree, of elements as in p12_parts.py
     nodes_of(tree)                each node of a tree
@@ -162,11 +162,14 @@ def change_node(dice, node):
 
 
 def changed_tree(tree, node, change):
-    """What the change says, and the file; the tree is as before."""
+    """What the change says, and the file, or None if a body gets longer than a length can tell; the tree is as before."""
     kept = node.tag, node.parts, node.length
     node.parts = list(node.parts)
     how = change(node)
-    data = tree.encode()
+    try:
+        data = tree.encode()
+    except OverflowError:
+        data = None
     node.tag, node.parts, node.length = kept
     return how, data
 

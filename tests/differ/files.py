@@ -67,10 +67,10 @@ def damaged(dice, tree, flat, mended, aimed=0):
         if other and dice.random() < 0.1:
             how, other = how + " and a byte changed", damage.changed(dice, other, dice.randrange(len(other)))
         yield how, other
-    for _ in range(mended):
-        yield damage.mended(dice, tree, nodes)
-    for _ in range(aimed):
-        yield damage.aimed(dice, tree, nodes)
+    for change in [damage.mended] * mended + [damage.aimed] * aimed:
+        how, other = change(dice, tree, nodes)
+        if other is not None:
+            yield how, other
 
 
 def trees():

@@ -76,8 +76,10 @@ class Maker:
 
     def attribute(self):
         if self.often(0.4):
-            values = [octets(self.dice.choice(KEY_IDS))]
-            values = self.dice.choice((values, values, values, [], values * 2, [self.value()])) if self.often(self.wild) else values
+            own = self.dice.choice(KEY_IDS)
+            many = self.dice.choice((1, 1, 1, 0, 2)) if self.often(self.wild) else 1
+            values = [octets(own) for _ in range(many)]     # each a node of its own: `fit` changes one
+            values = [self.value()] if self.often(self.wild / 6) else values
             return seq(oid(KEY_ID, name="attribute.type"), E(0x31, *values))
         many = self.dice.choice((0, 1, 1, 1, 2, 5)) if self.often(0.98) else 100
         values = [self.value() for _ in range(many)]
@@ -158,7 +160,7 @@ def fit(dice, tree, size):
     by then all headers around the leaf have grown, and none gets past the forms that there are."""
     found = leaves(tree)
     leaf = dice.choice(found) if found else None
-    for due in ((size - 100,) if size > 0x1000 else ()) + (size, size, size) if leaf else ():
+    for due in ((size - 200,) if size > 0x1000 else ()) + (size, size, size) if leaf else ():
         more = due - len(tree.body())
         leaf.parts = [dice.randbytes(max(0, len(leaf.body()) + more))]
     return len(tree.body()) == size
@@ -172,12 +174,20 @@ def small(dice, wild):
     return tree
 
 
+def within(make):
+    """The first tree that isn't too long for a file."""
+    while True:
+        tree = make()
+        try:
+            if len(tree.encode()) <= FILE_BYTES:
+                return tree
+        except OverflowError:   # longer than a length can tell
+            pass
+
+
 def made(dice):
     wild = dice.choice((0, 0, 0.1, 0.5))
-    tree = small(dice, wild)
-    while len(tree.encode()) > FILE_BYTES:
-        tree = small(dice, wild)
-    return tree
+    return within(lambda: small(dice, wild))
 
 
 # ---- Pairs.
@@ -218,9 +228,9 @@ def rows(dice, safes=2, bags=8, attributes=8):
 
 
 def long(dice, size):
-    tree = small(dice, 0.3)
+    tree = made(dice)
     while not fit(dice, tree, size):    # the file has no header: its body is all of it
-        tree = small(dice, 0.3)
+        tree = made(dice)
     return tree
 
 
@@ -247,11 +257,11 @@ def limits(dice, more):
 
 def at_limit(dice):
     if dice.random() < 0.1:
-        return "all rows", rows(dice, SAFES, BAGS, ATTRIBUTES)
+        return "all rows", within(lambda: rows(dice, SAFES, BAGS, ATTRIBUTES))
     what, make = limits(dice, 0)
-    return what, make()
+    return what, within(make)
 
 
 def past(dice):
     what, make = limits(dice, 1)
-    return what, make()
+    return what, make() if what == "bytes" else within(make)
