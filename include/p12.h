@@ -58,7 +58,7 @@ struct p12_bag {
     uint32_t safe;        /* the row of its safe */
     uint32_t enclosing;   /* 0 for none, else the row of the enclosing bag and 1 */
     struct p12_parts parts;
-    uint32_t has_set;     /* whether a set of attributes stands there, 0 or 1 */
+    uint32_t has_set;     /* whether a set of attributes stands there: 0 if not; reading gives 1 if so, and writing takes anything else for it */
 };
 
 struct p12_attribute {
@@ -90,11 +90,12 @@ struct p12_table {
 
 static inline uint32_t *p12_words(struct p12_table *table) { return (uint32_t *)table; }
 
-/* Reads a file into a table of at least P12_TABLE_WORDS words. 1 to 9 for a file that is refused, with the offset of the fault in *offset; then 10 for
- * fewer words. In every other case *offset is 0. */
+/* Reads a file into a table of at least P12_TABLE_WORDS words; words behind them stay. 1 to 9 for a file that is refused, with the offset of the fault in
+ * *offset; then 10 for fewer words. In every other case *offset is 0. */
 uint8_t p12_read(const uint8_t *file, size_t length, uint32_t *table, size_t words, size_t *offset);
 
-/* The range of the MAC input in a file: the body of the outer OCTET STRING, without its header. 1 to 9 for a file that is refused, with an empty range. */
+/* The range of the MAC input in a file: the body of the outer OCTET STRING, without its header. 1 to 9 for a file that is refused, with the
+ * range 0..0. */
 uint8_t p12_mac_input(const uint8_t *file, size_t length, size_t *start, size_t *end);
 
 /* Writes the file of a table into a buffer, and its length into *written. 11 if the table isn't sound over the bytes that its ranges point into, then 9
@@ -102,20 +103,20 @@ uint8_t p12_mac_input(const uint8_t *file, size_t length, size_t *start, size_t 
  * row's kind doesn't use are ignored; words behind P12_TABLE_WORDS too, and words that aren't there count as 0. So for every table here. */
 uint8_t p12_write(const uint32_t *table, size_t words, const uint8_t *bytes, size_t length, uint8_t *out, size_t room, size_t *written);
 
-/* Attribute i of a bag, counted from 0, into a row of at least P12_ATTRIBUTE_WORDS words (struct p12_attribute). P12_DONE behind the last one. 11 if the
- * table isn't sound over the bytes, then 12 if it has no such bag, then, for an attribute that is there, 10 for fewer words. */
+/* Attribute i of a bag, counted from 0, into a row of at least P12_ATTRIBUTE_WORDS words (struct p12_attribute). P12_DONE behind the last one, and
+ * the row as it was. 11 if the table isn't sound over the bytes, then 12 if it has no such bag, then, for an attribute that is there, 10 for fewer words. */
 uint8_t p12_attribute(const uint32_t *table, size_t words, const uint8_t *bytes, size_t length, size_t bag, size_t i, uint32_t *row, size_t row_words);
 
 /* Element i of an attribute's values, counted from 0, as the range of the whole element: *start and *end, both 0 where there is none. Gives the number
- * of elements. `from` and `to` are the start and end of the values. */
+ * of elements. `from` and `to` are the start and end of the values; a range that ends before it starts or past the bytes has none. */
 size_t p12_element(const uint8_t *bytes, size_t length, uint32_t from, uint32_t to, size_t i, size_t *start, size_t *end);
 
 /* The certificate bag for the key bag `key`: the only one with an equal localKeyID; its row is *bag. 11 if the table isn't sound over the bytes, 12 if that
  * row is no key's, 13 if no certificate fits or the key has no localKeyID, 14 if more than one fits; *bag is 0 then. */
 uint8_t p12_certificate_for(const uint32_t *table, size_t words, const uint8_t *bytes, size_t length, size_t key, size_t *bag);
 
-/* The listing of a file as text, without a final 0, and its length in *written. A refused file lists as the one line `refused N at P`. 10 for a buffer that
- * is too short; *written is 0 then. */
+/* The listing of a file as text, without a final 0, and its length in *written. A refused file lists as the one line `refused N at P`, and the call
+ * gives P12_OK. 10 for a buffer that is too short; *written is 0 then. */
 uint8_t p12_list(const uint8_t *file, size_t length, uint8_t *out, size_t room, size_t *written);
 
 #ifdef __cplusplus

@@ -19,7 +19,8 @@ import tempfile
 import time
 from collections import Counter
 
-import files        # sets the path of the models
+sys.dont_write_bytecode = True
+import files        # noqa: E402  (sets the path of the models)
 import expect       # noqa: E402
 import p12_reader   # noqa: E402
 
