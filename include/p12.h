@@ -101,7 +101,7 @@ uint8_t p12_mac_input(const uint8_t *file, size_t length, size_t *start, size_t 
 /* Writes the file of a table into a buffer, and its length into *written. 11 if the table isn't sound over the bytes that its ranges point into, then 9
  * for a file that would be too long, then 10 for a buffer that is too short; *written is 0 then. Rows past the counts, `elements`, `mac_input` and what a
  * row's kind doesn't use are ignored; words behind P12_TABLE_WORDS too, and words that aren't there count as 0. So for every table here. */
-uint8_t p12_write(const uint32_t *table, size_t words, const uint8_t *bytes, size_t length, uint8_t *out, size_t room, size_t *written);
+uint8_t p12_write(const uint32_t *table, size_t words, const uint8_t *bytes, size_t length, uint8_t *out, size_t capacity, size_t *written);
 
 /* Attribute i of a bag, counted from 0, into a row of at least P12_ATTRIBUTE_WORDS words (struct p12_attribute). P12_DONE behind the last one, and
  * the row as it was. 11 if the table isn't sound over the bytes, then 12 if it has no such bag, then, for an attribute that is there, 10 for fewer words. */
@@ -117,7 +117,7 @@ uint8_t p12_certificate_for(const uint32_t *table, size_t words, const uint8_t *
 
 /* The listing of a file as text, without a final 0, and its length in *written. A refused file lists as the one line `refused N at P`, and the call
  * gives P12_OK. 10 for a buffer that is too short; *written is 0 then. */
-uint8_t p12_list(const uint8_t *file, size_t length, uint8_t *out, size_t room, size_t *written);
+uint8_t p12_list(const uint8_t *file, size_t length, uint8_t *out, size_t capacity, size_t *written);
 
 #ifdef __cplusplus
 }

@@ -14,11 +14,11 @@ const _: () = assert!(TABLE_WORDS == 1407 && ATTRIBUTE_WORDS == 5 && align_of::<
 extern "C" {
     fn p12_read(file: *const u8, length: usize, table: *mut u32, words: usize, offset: *mut usize) -> u8;
     fn p12_mac_input(file: *const u8, length: usize, start: *mut usize, end: *mut usize) -> u8;
-    fn p12_write(table: *const u32, words: usize, bytes: *const u8, length: usize, out: *mut u8, room: usize, written: *mut usize) -> u8;
+    fn p12_write(table: *const u32, words: usize, bytes: *const u8, length: usize, out: *mut u8, capacity: usize, written: *mut usize) -> u8;
     fn p12_attribute(table: *const u32, words: usize, bytes: *const u8, length: usize, bag: usize, i: usize, row: *mut u32, row_words: usize) -> u8;
     fn p12_element(bytes: *const u8, length: usize, values_start: u32, values_end: u32, i: usize, start: *mut usize, end: *mut usize) -> usize;
     fn p12_certificate_for(table: *const u32, words: usize, bytes: *const u8, length: usize, key: usize, bag: *mut usize) -> u8;
-    fn p12_list(file: *const u8, length: usize, out: *mut u8, room: usize, written: *mut usize) -> u8;
+    fn p12_list(file: *const u8, length: usize, out: *mut u8, capacity: usize, written: *mut usize) -> u8;
 }
 
 fn words(table: &Table) -> *const u32 {
@@ -28,9 +28,9 @@ fn words(table: &Table) -> *const u32 {
 /// The number and the offset.
 pub fn read(file: &[u8], table: &mut Table) -> (u8, usize) {
     let mut offset = 0;
-    let room: *mut Table = table;
-    // SAFETY: the module's head; `room` is TABLE_WORDS words that `table` lends.
-    let number = unsafe { p12_read(file.as_ptr(), file.len(), room.cast(), TABLE_WORDS, &mut offset) };
+    let memory: *mut Table = table;
+    // SAFETY: the module's head; `memory` is TABLE_WORDS words that `table` lends.
+    let number = unsafe { p12_read(file.as_ptr(), file.len(), memory.cast(), TABLE_WORDS, &mut offset) };
     (number, offset)
 }
 
@@ -53,9 +53,9 @@ pub fn write(table: &Table, bytes: &[u8], out: &mut [u8]) -> (u8, usize) {
 /// The number and the row; an empty row where none is given.
 pub fn attribute(table: &Table, bytes: &[u8], bag: usize, i: usize) -> (u8, Attribute) {
     let mut row = Attribute::default();
-    let room: *mut Attribute = &mut row;
-    // SAFETY: the module's head; `room` is ATTRIBUTE_WORDS words of a local.
-    let number = unsafe { p12_attribute(words(table), TABLE_WORDS, bytes.as_ptr(), bytes.len(), bag, i, room.cast(), ATTRIBUTE_WORDS) };
+    let memory: *mut Attribute = &mut row;
+    // SAFETY: the module's head; `memory` is ATTRIBUTE_WORDS words of a local.
+    let number = unsafe { p12_attribute(words(table), TABLE_WORDS, bytes.as_ptr(), bytes.len(), bag, i, memory.cast(), ATTRIBUTE_WORDS) };
     (number, row)
 }
 
