@@ -11,7 +11,7 @@ use Rattle.der.specs.Span.{Bytes}
 use Rattle.der.specs.declared.Fault.{Fault}
 use Rattle.der.proofs.Choices.{never, by-lt, by-eq, either}
 use Rattle.der.proofs.Spans.{span-whole, span-same}
-use Rattle.pkcs12.specs.Numbers.{notSound}
+use Rattle.pkcs12.specs.Numbers.{notSound, noRow}
 use Rattle.pkcs12.specs.Values.{bagsOfSafes}
 use Rattle.pkcs12.specs.Valid.{Opaques, bagsInSafes}
 use Rattle.pkcs12.specs.Table.{noAttribute, bytesIn, rowsIn}
@@ -22,7 +22,7 @@ use Rattle.pkcs12.specs.declared.AttributeRow.{AttributeRow}
 use Rattle.pkcs12.specs.declared.Table.{Table}
 use Rattle.pkcs12.proofs.Checked.{part-bytes, sound-keeps}
 use Rattle.pkcs12.proofs.Parents.{by-elements}
-use Rattle.attributes.specs.Reader.{noRow, position, refusedBy, openingOf, nextOf, itemAfter}
+use Rattle.attributes.specs.Reader.{position, refusedBy, openingOf, nextOf, itemAfter}
 use Rattle.attributes.specs.Own.{attributesOf, ownRows, setInSafes, listed, noValue, Gives}
 use Rattle.attributes.specs.declared.Item.{Item}
 use Rattle.attributes.specs.declared.Item.the-variants.{Ready, Done}

@@ -7,14 +7,14 @@ use Prim.Native.Nat.{ℕ, _≤_, _<_}
 use native.Mathlib.Omega.{arith}
 use lib.ListN.{length}
 use Rattle.der.proofs.Choices.{at-lt, at-not-lt}
-use Rattle.pkcs12.specs.Numbers.{notSound}
+use Rattle.pkcs12.specs.Numbers.{notSound, noRow}
 use Rattle.pkcs12.specs.Written.{fileOf, onFile}
 use Rattle.pkcs12.specs.declared.Table.{Table}
 use Rattle.sizes.specs.Sizes.{capped}
 use Rattle.sound.specs.Measured.{measured}
 use Rattle.sound.specs.declared.Measured.{Measured}
 use Rattle.sound.specs.declared.Measured.the-variants.{Unsound, Size}
-use Rattle.attributes.specs.Reader.{noRow, position, refusedBy, openingOf}
+use Rattle.attributes.specs.Reader.{position, refusedBy, openingOf}
 use Rattle.attributes.specs.declared.Item.the-variants.{Ready}
 use Rattle.attributes.specs.declared.Position.{Position}
 

@@ -9,7 +9,7 @@ use lib.ListN.{length, getD}
 use Rattle.der.specs.Element.{fault}
 use Rattle.der.specs.Span.{Bytes}
 use Rattle.der.specs.declared.Fault.{Fault}
-use Rattle.pkcs12.specs.Numbers.{notSound}
+use Rattle.pkcs12.specs.Numbers.{notSound, noRow}
 use Rattle.pkcs12.specs.Syntax.{Safe}
 use Rattle.pkcs12.specs.Valid.{Opaques, bagsInSafes}
 use Rattle.pkcs12.specs.Values.{BagValue, stands, bagsOfSafes, attributesOfSafes}
@@ -18,7 +18,7 @@ use Rattle.pkcs12.specs.Sound.{Sound, Lies}
 use Rattle.pkcs12.specs.declared.Range.{Range}
 use Rattle.pkcs12.specs.declared.AttributeRow.{AttributeRow}
 use Rattle.pkcs12.specs.declared.Table.{Table}
-use Rattle.attributes.specs.Reader.{noRow, openingOf, itemAfter}
+use Rattle.attributes.specs.Reader.{openingOf, itemAfter}
 use Rattle.attributes.specs.Elements.{elementRanges, countedOf}
 use Rattle.attributes.specs.Own.{attributesOf, ownRows, ownIn, setInSafes, listed, Gives, each, Chain}
 use Rattle.attributes.specs.declared.Item.{Item}

@@ -7,7 +7,7 @@ use lib.ListN.{length, getD, take, drop, replicate}
 use denote.Ref.{RefT}
 use Rattle.der.specs.Choice.{if_then_else_}
 use Rattle.der.specs.Element.{fault}
-use Rattle.pkcs12.specs.Numbers.{attributeRows, notSound}
+use Rattle.pkcs12.specs.Numbers.{attributeRows, notSound, noRow}
 use Rattle.pkcs12.specs.Table.{noAttribute}
 use Rattle.pkcs12.specs.Written.{fileOf, onFile}
 use Rattle.pkcs12.specs.declared.AttributeRow.{AttributeRow}
@@ -16,10 +16,6 @@ use Rattle.attributes.specs.declared.Item.{Item}
 use Rattle.attributes.specs.declared.Item.the-variants.{Ready, Done}
 use Rattle.attributes.specs.declared.Position.{Position}
 use Rattle.attributes.specs.declared.Attributes.{Attributes}
-
--- "row number not in the table"
-abbrev pub noRow : ℕ
-noRow = 12
 
 abbrev pub position : List AttributeRow → ℕ → ℕ → ℕ → Item → Position
 position rows count bag at item = record { rows = rows; count = count; bag = bag; at = at; item = item }

@@ -12,9 +12,6 @@ use pkcs12::Range;
 use pkcs12::Table;
 use sound::Measured;
 
-// The number of the refusal of a row that isn't there.
-pub const NO_ROW: u8 = 12;
-
 // What a call gave: nothing yet, an attribute, the word that there are no more, or the refusal of opening.
 pub enum Item {
     Ready,
@@ -75,7 +72,7 @@ pub fn opening(table: Table, file: &[u8], bag: usize) -> Position
                     item: Item::Ready,
                 };
             }
-            refused(NO_ROW)
+            refused(pkcs12::NO_ROW)
         }
     }
 }

@@ -1,12 +1,12 @@
 -- Rules by which `search` follows a definition's tests as the code's own tests decided them. Each proves that an answer r is what a
 -- choice gives, from the fact that the code learnt and from what the chosen side gives.
 use mathlib.Core.Path.{_≡_, refl, sym, _∙_}
-use mathlib.Core.Bool.{Bool, true, false}
+use mathlib.Core.Bool.{Bool, true, false, not}
 use Prim.Native.Nat.{ℕ, _<_, _≤_}
 use native.Mathlib.Omega.{arith}
 use native.Mathlib.Decide.{decLt}
 use lib.Dec.{leb, ltb, eqb}
-use borrow.Author.Tests.{lt-ltb, le-ltb, le-leb, lt-leb, eq-eqb, ne-eqb, ltb-true, ltb-false, leb-true, leb-false, eqb-true, eqb-false}
+use borrow.Author.Tests.{not-true, not-false, lt-ltb, le-ltb, le-leb, lt-leb, eq-eqb, ne-eqb, ltb-true, ltb-false, leb-true, leb-false, eqb-true, eqb-false}
 use Rattle.der.specs.Choice.{if_then_else_}
 use Rattle.der.specs.Element.{onExtent, onElement}
 use Rattle.der.specs.Content.{onInteger}
@@ -33,6 +33,13 @@ module _ {A : Type 0} where
 
   pub told-false : (t u : Bool) (r x y : A) → u ≡ t → u ≡ false → r ≡ y → r ≡ (if t then x else y)
   told-false t u r x y p q e = rw (sym p ∙ q) e
+
+  -- the same where the code asks for its opposite
+  pub denied : (t u : Bool) (r x y : A) → u ≡ t → not u ≡ true → r ≡ y → r ≡ (if t then x else y)
+  denied t u r x y p q e = rw (sym p ∙ not-true u q) e
+
+  pub granted : (t u : Bool) (r x y : A) → u ≡ t → not u ≡ false → r ≡ x → r ≡ (if t then x else y)
+  granted t u r x y p q e = rw (sym p ∙ not-false u q) e
 
   pub at-lt : (a b : ℕ) (r x y : A) → a < b → r ≡ x → r ≡ (if ltb a b then x else y)
   at-lt a b r x y h e = rw (lt-ltb a b h) e

@@ -1,9 +1,8 @@
 -- The octets of an INTEGER, by the size of its number: what a program writes.
 use mathlib.Core.Path.{_≡_, refl}
 use mathlib.Core.List.{List, [], _∷_}
-use Prim.Native.Nat.{ℕ, _+_, _*_, _/_, _%_, _≤_, _<_}
+use Prim.Native.Nat.{ℕ, _/_, _%_, _≤_, _<_}
 use native.Mathlib.Omega.{arith}
-use lib.ListN.{length, getD}
 use Rattle.der.specs.Octets.{digits, integerOctets, number, numberFrom, IntegerRule}
 use Rattle.der.specs.Span.{Bytes}
 use Rattle.der.proofs.Choices.{chosen-le}

@@ -11,13 +11,13 @@ use Rattle.der.specs.Element.{fault}
 use Rattle.der.specs.Span.{Bytes}
 use Rattle.der.specs.declared.Fault.{Fault}
 use Rattle.der.proofs.Choices.{by-lt}
-use Rattle.pkcs12.specs.Numbers.{bagRows, noRoom, notSound}
+use Rattle.pkcs12.specs.Numbers.{bagRows, noRoom, notSound, noRow}
 use Rattle.pkcs12.specs.Sound.{Sound}
 use Rattle.pkcs12.specs.declared.Table.{Table}
 use Rattle.pkcs12.specs.declared.Written.{Written}
 use Rattle.pkcs12.specs.declared.Written.the-variants.{Length}
 use Rattle.sizes.specs.Picked.{fewer}
-use Rattle.attributes.specs.Reader.{noRow, openingOf, refusedBy}
+use Rattle.attributes.specs.Reader.{openingOf, refusedBy}
 use Rattle.attributes.specs.declared.Position.{Position}
 use Rattle.pairing.specs.declared.IdentityRow.{IdentityRow}
 use Rattle.attributes.proofs.Shown.{by-file}

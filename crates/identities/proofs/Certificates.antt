@@ -12,7 +12,7 @@ use lib.ListN.{length, getD, take, replicate, length-append, length-replicate, l
 use lib.Seq.{getD-append-add, getD-take}
 use Rattle.der.specs.Span.{Bytes}
 use Rattle.der.proofs.Choices.{either, never, by-le}
-use Rattle.pkcs12.specs.Numbers.{bagRows, notSound}
+use Rattle.pkcs12.specs.Numbers.{bagRows, notSound, noRow, noCertificate, moreThanOne}
 use Rattle.pkcs12.specs.Table.{noBag, padded, bytesIn, contentIn, bagShown}
 use Rattle.pkcs12.specs.Sound.{Sound, Lies}
 use Rattle.pkcs12.specs.Written.{fileOf, onFile}
@@ -23,7 +23,7 @@ use Rattle.pkcs12.specs.declared.Table.{Table}
 use Rattle.sizes.specs.Picked.{fewer}
 use Rattle.attributes.specs.Own.{setInSafes, listed}
 use Rattle.attributes.proofs.First.{at-most}
-use Rattle.pairing.specs.Pairs.{noKey, noCertificate, moreThanOne, noIdentity, refusedBy, paired}
+use Rattle.pairing.specs.Pairs.{noIdentity, refusedBy, paired}
 use Rattle.pairing.specs.Only.{Matches, IdsLie, IsKey, Answered, answer-11}
 use Rattle.pairing.specs.declared.Paired.{Paired}
 use Rattle.pairing.proofs.Theorems.{only-certificate, five-answers, refused-11-iff, refused-12-iff, refused-13-iff, refused-14-iff}
@@ -124,9 +124,9 @@ module _ (t : Table) (s : List ℕ) (k : ℕ) where
         (λ o e. let p = only-certificate s (identityRows t s) k j .0 e in (o, p .1, p .2, p .3))
         (λ x. (x .0, only-certificate s (identityRows t s) k j .1 (ids-lie t s, x .1, x .2, x .3)))
 
-    pub certificate-12 : certificateFor t s k ≡ refusedBy noKey ↔ (Sound t s × (IsKey (identityRows t s) k → ⊥))
+    pub certificate-12 : certificateFor t s k ≡ refusedBy noRow ↔ (Sound t s × (IsKey (identityRows t s) k → ⊥))
     certificate-12 =
-        given (refusedBy noKey) _ (λ e. omega (arith, ap code e)) (λ o e. (o, refused-12-iff s (identityRows t s) k .0 e .1))
+        given (refusedBy noRow) _ (λ e. omega (arith, ap code e)) (λ o e. (o, refused-12-iff s (identityRows t s) k .0 e .1))
         (λ x. (x .0, refused-12-iff s (identityRows t s) k .1 (ids-lie t s, x .1)))
 
     pub certificate-13 : certificateFor t s k ≡ refusedBy noCertificate ↔ (Sound t s × IsKey (identityRows t s) k × ((j : ℕ) → Matches s (identityRows t s) k j → ⊥))

@@ -12,15 +12,14 @@ use Rattle.der.specs.Element.{fault}
 use Rattle.der.specs.Span.{Bytes}
 use Rattle.der.specs.Tree.{primitive, none, more}
 use Rattle.der.specs.declared.Fault.{Fault}
-use Rattle.pkcs12.specs.Numbers.{bagRows, noRoom, notSound}
+use Rattle.pkcs12.specs.Numbers.{bagRows, noRoom, notSound, noRow, noCertificate, moreThanOne}
 use Rattle.pkcs12.specs.Valid.{Opaques}
 use Rattle.pkcs12.specs.Sound.{Sound, Lies}
 use Rattle.pkcs12.specs.declared.Table.{Table}
 use Rattle.pkcs12.specs.declared.Written.{Written}
 use Rattle.pkcs12.specs.declared.Written.the-variants.{Length}
-use Rattle.attributes.specs.Reader.{noRow}
 use Rattle.attributes.specs.Own.{setInSafes, listed}
-use Rattle.pairing.specs.Pairs.{noKey, noCertificate, moreThanOne, noIdentity, refusedBy}
+use Rattle.pairing.specs.Pairs.{noIdentity, refusedBy}
 use Rattle.pairing.specs.Only.{Matches, IdsLie, IsKey, Answered}
 use Rattle.pairing.specs.declared.IdentityRow.{IdentityRow}
 use Rattle.pairing.specs.declared.Paired.{Paired}
@@ -106,7 +105,7 @@ pub certificate-11-iff : (t : Table) (s : List ℕ) (k : ℕ) → Bytes s → ce
 certificate-11-iff = certificates.certificate-11
 
 -- then 12 exactly if row k is no key's, 13 exactly if no row matches it, 14 exactly if two do.
-pub certificate-12-iff : (t : Table) (s : List ℕ) (k : ℕ) → Bytes s → certificateFor t s k ≡ refusedBy noKey ↔ (Sound t s × (IsKey (identityRows t s) k → ⊥))
+pub certificate-12-iff : (t : Table) (s : List ℕ) (k : ℕ) → Bytes s → certificateFor t s k ≡ refusedBy noRow ↔ (Sound t s × (IsKey (identityRows t s) k → ⊥))
 certificate-12-iff = certificates.certificate-12
 
 pub certificate-13-iff : (t : Table) (s : List ℕ) (k : ℕ) → Bytes s

@@ -2,7 +2,7 @@
 ghost use mathlib.Core.Path.{_≡_};
 ghost use lib.ListN.{getD};
 ghost use Rattle.pkcs12.specs.Table.{noBag};
-ghost use Rattle.pairing.specs.Pairs.{noIdentity, refusedBy};
+ghost use Rattle.pairing.specs.Pairs.{noIdentity};
 ghost use Rattle.identities.specs.Identities.{isLocalKey, keyRow, idIn, idOf, identityOf, identityAt, identityRows, certificateFor};
 ghost use Rattle.identities.specs.Filling.{refusedFilling, fillingOf, fillOf};
 use attributes::Item;

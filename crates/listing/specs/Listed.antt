@@ -11,6 +11,6 @@ use Rattle.listing.specs.Lines.{listing}
 
 -- refused, and the buffer as before, exactly where the buffer is shorter than the listing
 unfoldable pub listed : ℕ → Reading → List ℕ → Outcome
-listed size reading room =
-    if ltb (length room) (length (listing size reading)) then refusal noRoom room else
-    success (listing size reading) room
+listed size reading buffer =
+    if ltb (length buffer) (length (listing size reading)) then refusal noRoom buffer else
+    success (listing size reading) buffer

@@ -19,9 +19,9 @@ use pkcs12::Written;
 fn head(out: &mut [u8], at: usize, size: usize, table: Table) -> usize
     ensures { λ r. ⌜ Put (now (out .entry)) at (headLines size table) (now (out .exit)) r ⌝ }
 {
-    let safes = rows::counted(table.safe_count, pkcs12::SAFE_ROWS);
-    let bags = rows::counted(table.bag_count, pkcs12::BAG_ROWS);
-    let attributes = rows::counted(table.attribute_count, pkcs12::ATTRIBUTE_ROWS);
+    let safes = pkcs12::fewer(table.safe_count, pkcs12::SAFE_ROWS);
+    let bags = pkcs12::fewer(table.bag_count, pkcs12::BAG_ROWS);
+    let attributes = pkcs12::fewer(table.attribute_count, pkcs12::ATTRIBUTE_ROWS);
     let first = lines::file_line(out, at, size, table.elements);
     let second = lines::counts_line(out, first, safes, bags, attributes);
     lines::mac_line(out, second, table.mac_input, table.mac)

@@ -1,6 +1,5 @@
 // The lines of a table's rows. A count past its array counts as the array's rows.
 ghost use mathlib.Core.Path.{_≡_};
-ghost use Prim.Native.Nat.{min};
 ghost use lib.Dec.{eqb};
 ghost use Rattle.der.specs.Choice.{if_then_else_};
 ghost use Rattle.pkcs12.specs.Placed.{each};
@@ -11,12 +10,6 @@ use pkcs12::ATTRIBUTE_ROWS;
 use pkcs12::BAG_ROWS;
 use pkcs12::SAFE_ROWS;
 use pkcs12::Table;
-
-pub(crate) fn counted(count: usize, most: usize) -> usize
-    ensures { λ r. ⌜ r ≡ min count most ⌝ }
-{
-    if count < most { count } else { most }
-}
 
 // 1 for an attribute row of this bag.
 fn one_if_own(owner: usize, bag: usize) -> usize
@@ -29,7 +22,7 @@ fn one_if_own(owner: usize, bag: usize) -> usize
 fn own_attributes(table: Table, bag: usize) -> usize
     ensures { λ r. ⌜ r ≡ own table bag ⌝ }
 {
-    let n = counted(table.attribute_count, ATTRIBUTE_ROWS);
+    let n = pkcs12::fewer(table.attribute_count, ATTRIBUTE_ROWS);
     let mut own = 0;
     let mut i = 0;
     while i < n {
@@ -44,7 +37,7 @@ fn own_attributes(table: Table, bag: usize) -> usize
 pub(crate) fn safe_lines(out: &mut [u8], at: usize, table: Table) -> usize
     ensures { λ r. ⌜ Put (now (out .entry)) at (each (safeAt table) (safes table)) (now (out .exit)) r ⌝ }
 {
-    let n = counted(table.safe_count, SAFE_ROWS);
+    let n = pkcs12::fewer(table.safe_count, SAFE_ROWS);
     let mut to = at;
     let mut i = 0;
     while i < n {
@@ -58,7 +51,7 @@ pub(crate) fn safe_lines(out: &mut [u8], at: usize, table: Table) -> usize
 pub(crate) fn bag_lines(out: &mut [u8], at: usize, table: Table) -> usize
     ensures { λ r. ⌜ Put (now (out .entry)) at (each (bagAt table) (bags table)) (now (out .exit)) r ⌝ }
 {
-    let n = counted(table.bag_count, BAG_ROWS);
+    let n = pkcs12::fewer(table.bag_count, BAG_ROWS);
     let mut to = at;
     let mut i = 0;
     while i < n {
@@ -73,7 +66,7 @@ pub(crate) fn bag_lines(out: &mut [u8], at: usize, table: Table) -> usize
 pub(crate) fn attribute_lines(out: &mut [u8], at: usize, table: Table) -> usize
     ensures { λ r. ⌜ Put (now (out .entry)) at (each (attributeAt table) (attributes table)) (now (out .exit)) r ⌝ }
 {
-    let n = counted(table.attribute_count, ATTRIBUTE_ROWS);
+    let n = pkcs12::fewer(table.attribute_count, ATTRIBUTE_ROWS);
     let mut to = at;
     let mut i = 0;
     while i < n {

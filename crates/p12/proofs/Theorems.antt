@@ -1,18 +1,17 @@
 -- What is proved of the calls for C together: what one gives is what another takes. `Bytes f`: each number of the list is below 256. `IsAccepted f`: `readFile f`
 -- accepts. `tableFrom f`: the table of f. `readCall`, `writeCall`: what `p12_read` and `p12_write` give.
-use mathlib.Core.Path.{_≡_, refl, sym, ap, _∙_}
+use mathlib.Core.Path.{_≡_, ap, _∙_}
 use mathlib.Core.List.{List, _++_}
 use Prim.Native.Nat.{ℕ, _≤_}
 use lib.ListN.{length, drop}
 use Rattle.der.specs.Span.{Bytes}
 use Rattle.pkcs12.specs.Accepted.{IsAccepted, tableFrom}
-use Rattle.pkcs12.specs.Walk.{readFile}
-use Rattle.pkcs12.specs.Written.{Outcome, success, writeFile}
+use Rattle.pkcs12.specs.Written.{writeFile}
 use Rattle.pkcs12.specs.declared.Answer.{Answer}
 use Rattle.pkcs12.specs.declared.Table.{Table}
 use Rattle.pkcs12.proofs.Theorems.{read-is-written}
 use Rattle.words.specs.Layout.{tableWords}
-use Rattle.words.specs.Stored.{wordsOf, stored}
+use Rattle.words.specs.Stored.{wordsOf}
 use Rattle.words.specs.Loaded.{tableIn}
 use Rattle.words.proofs.Theorems.{stored-is-loaded, accepted-wordable}
 use Rattle.words.proofs.Whole.{stored-whole}

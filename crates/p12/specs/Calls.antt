@@ -63,25 +63,25 @@ put o = called (writtenNumber (o .answer)) (o .buffer) 0
 
 -- `p12_read`: the table of an accepted file as words; the offset of a refusal
 abbrev pub readAs : Answer → Table → List ℕ → Called
-readAs Accepted t room = put (stored t room)
-readAs (Answer.Refused f) t room = called (f .number) room (f .offset)
+readAs Accepted t buffer = put (stored t buffer)
+readAs (Answer.Refused f) t buffer = called (f .number) buffer (f .offset)
 
 unfoldable pub readCall : List ℕ → List ℕ → Called
-readCall f room = readAs (readFile f .answer) (readFile f .table) room
+readCall f buffer = readAs (readFile f .answer) (readFile f .table) buffer
 
 -- `p12_write`: the file of the table that words stand for
 unfoldable pub writeCall : List ℕ → List ℕ → List ℕ → Called
-writeCall words s room = wrote (writeFile (tableIn words) s room)
+writeCall words s buffer = wrote (writeFile (tableIn words) s buffer)
 
 -- `p12_attribute`: attribute i of a bag as words
 abbrev pub itemAs : Item → List ℕ → Called
-itemAs (Item.Attribute r) room = put (storedRow r room)
-itemAs Ready room = called done room 0
-itemAs Done room = called done room 0
-itemAs (Item.Refused f) room = called (f .number) room 0
+itemAs (Item.Attribute r) buffer = put (storedRow r buffer)
+itemAs Ready buffer = called done buffer 0
+itemAs Done buffer = called done buffer 0
+itemAs (Item.Refused f) buffer = called (f .number) buffer 0
 
 unfoldable pub attributeCall : List ℕ → List ℕ → ℕ → ℕ → List ℕ → Called
-attributeCall words s bag i room = itemAs (itemAfter i (openingOf (tableIn words) s bag)) room
+attributeCall words s bag i buffer = itemAs (itemAfter i (openingOf (tableIn words) s bag)) buffer
 
 -- `p12_certificate_for`
 unfoldable pub certificateCall : List ℕ → List ℕ → ℕ → Paired
@@ -89,4 +89,4 @@ certificateCall words s key = certificateFor (tableIn words) s key
 
 -- `p12_list`: the listing of what reading gives
 unfoldable pub listCall : List ℕ → List ℕ → Called
-listCall f room = wrote (listed (length f) (readFile f) room)
+listCall f buffer = wrote (listed (length f) (readFile f) buffer)

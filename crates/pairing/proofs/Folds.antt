@@ -9,9 +9,9 @@ use lib.ListN.{length, getD, drop, drop-of-length-le}
 use lib.Seq.{drop-cons}
 use borrow.Author.Tests.{eq-eqb, ne-eqb}
 use Rattle.der.specs.Choice.{if_then_else_}
-use Rattle.pkcs12.specs.Numbers.{notSound}
+use Rattle.pkcs12.specs.Numbers.{notSound, noRow}
 use Rattle.pkcs12.specs.Checks.{both, all}
-use Rattle.pairing.specs.Pairs.{noIdentity, isKey, idLies, pairsWith, matching, onlyOne, refusedBy, noKey, paired}
+use Rattle.pairing.specs.Pairs.{noIdentity, isKey, idLies, pairsWith, matching, onlyOne, refusedBy, paired}
 use Rattle.pairing.specs.Search.{search, keyAt, tallied, firstAt, visited, passed, begun, again, answered}
 use Rattle.pairing.specs.declared.IdentityRow.{IdentityRow}
 use Rattle.pairing.specs.declared.Paired.{Paired}
@@ -130,7 +130,7 @@ many-two (m ∷ ms) = many-two ms
 
 -- the count and the first of the matches tell which answer is due
 answer-of : (k : ℕ) (key : IdentityRow) (t : Bool) (ms : List ℕ)
-    → answered (search k key t (many ms 0) (front ms 0 0)) ≡ (if t then (if isKey (key .kind) then onlyOne ms else refusedBy noKey) else refusedBy notSound)
+    → answered (search k key t (many ms 0) (front ms 0 0)) ≡ (if t then (if isKey (key .kind) then onlyOne ms else refusedBy noRow) else refusedBy notSound)
 unfolding answered many front onlyOne tallied firstAt
 answer-of k key t [] = refl
 answer-of k key t (m ∷ []) = refl

@@ -8,7 +8,7 @@ use native.Mathlib.Omega.{arith}
 use borrow.Author.Tests.{leb-true, le-leb}
 use lib.ListN.{length, getD, List·getD-eq-default}
 use Rattle.der.proofs.Choices.{never, by-test, either}
-use Rattle.pkcs12.specs.Numbers.{notSound}
+use Rattle.pkcs12.specs.Numbers.{notSound, noRow, noCertificate, moreThanOne}
 use Rattle.pkcs12.specs.Checks.{both, all, lies}
 use Rattle.pkcs12.specs.Sound.{Lies}
 use Rattle.pkcs12.specs.Table.{bytesIn}
@@ -16,7 +16,7 @@ use Rattle.pkcs12.specs.declared.Range.{Range}
 use Rattle.pkcs12.specs.declared.BagKind.{BagKind}
 use Rattle.pkcs12.specs.declared.BagKind.the-variants.{Key, ShroudedKey, Certificate, Crl, Secret, Nested}
 use Rattle.pkcs12.proofs.SameBytes.{same-self, same-is}
-use Rattle.pairing.specs.Pairs.{noKey, noCertificate, moreThanOne, noIdentity, isKey, isCertificate, idLies, sameId, pairsWith, matching, refusedBy, onlyOne, paired}
+use Rattle.pairing.specs.Pairs.{noIdentity, isKey, isCertificate, idLies, sameId, pairsWith, matching, refusedBy, onlyOne, paired}
 use Rattle.pairing.specs.Only.{Matches, IdsLie, IsKey, Answered, answer-row, answer-11, answer-12, answer-13, answer-14}
 use Rattle.pairing.specs.declared.IdentityRow.{IdentityRow}
 use Rattle.pairing.specs.declared.Paired.{Paired}
@@ -195,7 +195,7 @@ module _ (s : List ℕ) (rows : List IdentityRow) (k : ℕ) where
   -- what holds of each answer, with what it says, holds of the one that is given
   pub by-answer : (P : Paired → Type 0)
       → ((IdsLie s rows → ⊥) → P (refusedBy notSound))
-      → (IdsLie s rows → (IsKey rows k → ⊥) → P (refusedBy noKey))
+      → (IdsLie s rows → (IsKey rows k → ⊥) → P (refusedBy noRow))
       → (IdsLie s rows → IsKey rows k → ((j : ℕ) → Matches s rows k j → ⊥) → P (refusedBy noCertificate))
       → (IdsLie s rows → IsKey rows k → (j : ℕ) → Matches s rows k j → ((i : ℕ) → Matches s rows k i → i ≡ j) → P (Paired.Certificate j))
       → (IdsLie s rows → IsKey rows k → (i j : ℕ) → i < j → Matches s rows k i → Matches s rows k j → P (refusedBy moreThanOne))
@@ -265,13 +265,13 @@ module _ (s : List ℕ) (rows : List IdentityRow) (k : ℕ) where
         (λ a b i m u. absurd (alone (Matches s rows k) _ _ i (f .2 .2) (f .2 .3) (f .2 .4) u)) (λ a b i m l p q. refl),
   )
 
-  pub refused-12 : paired s rows k ≡ refusedBy noKey ↔ (IdsLie s rows × (IsKey rows k → ⊥))
+  pub refused-12 : paired s rows k ≡ refusedBy noRow ↔ (IdsLie s rows × (IsKey rows k → ⊥))
   refused-12 = (
-    by-answer s rows k (λ x. x ≡ refusedBy noKey → IdsLie s rows × (IsKey rows k → ⊥))
+    by-answer s rows k (λ x. x ≡ refusedBy noRow → IdsLie s rows × (IsKey rows k → ⊥))
         (λ a. other _ _ (λ z. omega arith)) (λ a b e. (a, b)) (λ a b c. other _ _ (λ z. omega arith))
         (λ a b i m u. other _ _ (λ z. omega arith)) (λ a b i m l p q. other _ _ (λ z. omega arith)),
     λ f.
-        by-answer s rows k (λ x. x ≡ refusedBy noKey)
+        by-answer s rows k (λ x. x ≡ refusedBy noRow)
         (λ a. absurd (a (f .0))) (λ a b. refl) (λ a b c. absurd (f .1 b)) (λ a b i m u. absurd (f .1 b)) (λ a b i m l p q. absurd (f .1 b)),
   )
 

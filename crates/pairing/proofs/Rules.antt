@@ -3,24 +3,19 @@ use mathlib.Core.Path.{_≡_, sym, _∙_}
 use mathlib.Core.Bool.{Bool, true, false, not}
 use mathlib.Core.List.{List}
 use Prim.Native.Nat.{ℕ}
-use borrow.Author.Tests.{not-true, not-false}
+use borrow.Author.Tests.{not-true, not-false, eq-eqb, ne-eqb}
 use Rattle.der.specs.Choice.{if_then_else_}
-use Rattle.der.proofs.Choices.{told-true, told-false, at-lt, at-not-lt, at-le, at-not-le, at-eq, at-ne, same}
+use Rattle.der.proofs.Choices.{told-true, told-false, denied, granted, at-lt, at-not-lt, at-le, at-not-le, at-eq, at-ne, same}
+use Rattle.pkcs12.specs.Numbers.{noCertificate, moreThanOne}
 use Rattle.pkcs12.specs.Identifiers.{sameBytes}
 use Rattle.pkcs12.specs.Checks.{both}
-use Rattle.pairing.specs.Pairs.{idLies, pairsWith}
-use Rattle.pairing.specs.Search.{search, keyAt, tallied, firstAt, visited}
+use Rattle.pairing.specs.Pairs.{isKey, idLies, pairsWith, refusedBy}
+use Rattle.pairing.specs.Search.{search, keyAt, tallied, firstAt, visited, answered}
 use Rattle.pairing.specs.declared.IdentityRow.{IdentityRow}
+use Rattle.pairing.specs.declared.Paired.{Paired}
 use Rattle.pairing.specs.declared.Search.{Search}
 
 module _ {A : Type 0} where
-  -- a test whose opposite the code asks for
-  pub denied : (t u : Bool) (r x y : A) → u ≡ t → not u ≡ true → r ≡ y → r ≡ (if t then x else y)
-  denied t u r x y p q e = rw (sym p ∙ not-true u q) e
-
-  pub granted : (t u : Bool) (r x y : A) → u ≡ t → not u ≡ false → r ≡ x → r ≡ (if t then x else y)
-  granted t u r x y p q e = rw (sym p ∙ not-false u q) e
-
   -- a bool that the code tested itself
   pub is-true : (t : Bool) (r x y : A) → t ≡ true → r ≡ x → r ≡ (if t then x else y)
   is-true t r x y q e = rw q e
@@ -63,3 +58,13 @@ pub visit-is : (s : List ℕ) (i : ℕ) (r : IdentityRow) (st : Search) (p : Boo
     → search (st .number) k t c l ≡ visited s i r st
 unfolding visited
 visit-is s i r st p k t c l e f g h j = rw (h, j, e, f, g)
+
+-- the answer for a key of which the code counted the certificates
+module _ (st : Search) (u : Bool) (r : Paired) (sound : not (st .sound) ≡ false) (told : u ≡ isKey (st .key .kind)) (key : not u ≡ false) where
+  pub answered-none : st .count ≡ 0 → r ≡ refusedBy noCertificate → r ≡ answered st
+  unfolding answered
+  answered-none h e = rw (not-false (st .sound) sound, sym told ∙ not-false u key, eq-eqb (st .count) 0 h) e
+
+  pub answered-several : (st .count ≡ 0 → ⊥) → (st .count ≡ 1 → ⊥) → r ≡ refusedBy moreThanOne → r ≡ answered st
+  unfolding answered
+  answered-several h k e = rw (not-false (st .sound) sound, sym told ∙ not-false u key, ne-eqb (st .count) 0 h, ne-eqb (st .count) 1 k) e

@@ -5,11 +5,11 @@ use mathlib.Core.Path.{_≡_}
 use mathlib.Core.List.{List}
 use Prim.Native.Nat.{ℕ, _<_}
 use lib.ListN.{length, getD}
-use Rattle.pkcs12.specs.Numbers.{notSound}
+use Rattle.pkcs12.specs.Numbers.{notSound, noRow, noCertificate, moreThanOne}
 use Rattle.pkcs12.specs.Sound.{Lies}
 use Rattle.pkcs12.specs.Table.{bytesIn}
 use Rattle.pkcs12.specs.declared.BagKind.the-variants.{Certificate}
-use Rattle.pairing.specs.Pairs.{noKey, noCertificate, moreThanOne, noIdentity, refusedBy, paired}
+use Rattle.pairing.specs.Pairs.{noIdentity, refusedBy, paired}
 use Rattle.pairing.specs.Only.{Matches, IdsLie, IsKey, Answered}
 use Rattle.pairing.specs.declared.IdentityRow.{IdentityRow}
 use Rattle.pairing.specs.declared.Paired.{Paired}
@@ -38,7 +38,7 @@ pub refused-11-where : (s : List ℕ) (rows : List IdentityRow) (k : ℕ) → pa
 refused-11-where = proved.where-11
 
 -- then 12 exactly if row k isn't there or is no key's
-pub refused-12-iff : (s : List ℕ) (rows : List IdentityRow) (k : ℕ) → paired s rows k ≡ refusedBy noKey ↔ (IdsLie s rows × (IsKey rows k → ⊥))
+pub refused-12-iff : (s : List ℕ) (rows : List IdentityRow) (k : ℕ) → paired s rows k ≡ refusedBy noRow ↔ (IdsLie s rows × (IsKey rows k → ⊥))
 refused-12-iff = proved.refused-12
 
 -- 13 exactly if no row matches the key, as where the key has no id

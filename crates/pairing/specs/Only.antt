@@ -5,11 +5,11 @@ use mathlib.Core.Path.{_≡_}
 use mathlib.Core.List.{List}
 use Prim.Native.Nat.{ℕ, _<_}
 use lib.ListN.{length, getD}
-use Rattle.pkcs12.specs.Numbers.{notSound}
+use Rattle.pkcs12.specs.Numbers.{notSound, noRow, noCertificate, moreThanOne}
 use Rattle.pkcs12.specs.Sound.{Lies}
 use Rattle.pkcs12.specs.Table.{bytesIn}
 use Rattle.pkcs12.specs.declared.BagKind.the-variants.{Key, ShroudedKey, Certificate}
-use Rattle.pairing.specs.Pairs.{noKey, noCertificate, moreThanOne, noIdentity, refusedBy}
+use Rattle.pairing.specs.Pairs.{noIdentity, refusedBy}
 use Rattle.pairing.specs.declared.IdentityRow.{IdentityRow}
 use Rattle.pairing.specs.declared.Paired.{Paired}
 
@@ -33,6 +33,6 @@ IsKey rows k = (k < length rows) × ((getD rows k noIdentity .kind ≡ Key) ⊎ 
 pub data Answered : Paired → Type 0 where
   answer-row : (j : ℕ) → Answered (Paired.Certificate j)
   answer-11 : Answered (refusedBy notSound)
-  answer-12 : Answered (refusedBy noKey)
+  answer-12 : Answered (refusedBy noRow)
   answer-13 : Answered (refusedBy noCertificate)
   answer-14 : Answered (refusedBy moreThanOne)

@@ -5,7 +5,7 @@ use Prim.Native.Nat.{ℕ, _+_}
 use lib.ListN.{getD}
 use Rattle.der.specs.Choice.{if_then_else_}
 use Rattle.der.specs.Element.{fault}
-use Rattle.pkcs12.specs.Numbers.{notSound}
+use Rattle.pkcs12.specs.Numbers.{notSound, noRow, noCertificate, moreThanOne}
 use Rattle.pkcs12.specs.Identifiers.{sameBytes}
 use Rattle.pkcs12.specs.Table.{noRange, bytesIn}
 use Rattle.pkcs12.specs.Checks.{both, all, lies}
@@ -14,17 +14,6 @@ use Rattle.pkcs12.specs.declared.BagKind.{BagKind}
 use Rattle.pkcs12.specs.declared.BagKind.the-variants.{Key, ShroudedKey, Certificate, Crl, Secret, Nested}
 use Rattle.pairing.specs.declared.IdentityRow.{IdentityRow}
 use Rattle.pairing.specs.declared.Paired.{Paired}
-
--- "row number not in the table, or a row that isn't a key"
-abbrev pub noKey : ℕ
-noKey = 12
-
--- "no certificate for this key; more than one"
-abbrev pub noCertificate : ℕ
-noCertificate = 13
-
-abbrev pub moreThanOne : ℕ
-moreThanOne = 14
 
 -- "identity rows: kind, whether an id is there, and the id's bytes"
 abbrev pub identity : BagKind → Bool → Range → IdentityRow
@@ -84,5 +73,5 @@ onlyOne (n ∷ m ∷ ns) = refusedBy moreThanOne
 unfoldable pub paired : List ℕ → List IdentityRow → ℕ → Paired
 paired s rows k =
     if all (idLies s) rows then
-    (if isKey (getD rows k noIdentity .kind) then onlyOne (matching s (getD rows k noIdentity) 0 rows) else refusedBy noKey) else
+    (if isKey (getD rows k noIdentity .kind) then onlyOne (matching s (getD rows k noIdentity) 0 rows) else refusedBy noRow) else
     refusedBy notSound

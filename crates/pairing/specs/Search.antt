@@ -4,9 +4,9 @@ use mathlib.Core.List.{List, [], _∷_}
 use Prim.Native.Nat.{ℕ, _+_}
 use lib.Dec.{eqb}
 use Rattle.der.specs.Choice.{if_then_else_}
-use Rattle.pkcs12.specs.Numbers.{notSound}
+use Rattle.pkcs12.specs.Numbers.{notSound, noRow, noCertificate, moreThanOne}
 use Rattle.pkcs12.specs.Checks.{both}
-use Rattle.pairing.specs.Pairs.{noKey, noCertificate, moreThanOne, noIdentity, isKey, idLies, pairsWith, refusedBy}
+use Rattle.pairing.specs.Pairs.{noIdentity, isKey, idLies, pairsWith, refusedBy}
 use Rattle.pairing.specs.declared.IdentityRow.{IdentityRow}
 use Rattle.pairing.specs.declared.Paired.{Paired}
 use Rattle.pairing.specs.declared.Search.{Search}
@@ -48,5 +48,5 @@ answered st =
     if st .sound then
     (if isKey (st .key .kind) then
     (if eqb (st .count) 0 then refusedBy noCertificate else if eqb (st .count) 1 then Paired.Certificate (st .row) else refusedBy moreThanOne) else
-    refusedBy noKey) else
+    refusedBy noRow) else
     refusedBy notSound

@@ -8,13 +8,6 @@ use der::Fault;
 use pkcs12::BagKind;
 use pkcs12::Range;
 
-// The numbers of the refusals: a row that isn't there or is no key; no certificate for this key; more than one.
-pub const NO_KEY: u8 = 12;
-
-pub const NO_CERTIFICATE: u8 = 13;
-
-pub const MORE_THAN_ONE: u8 = 14;
-
 // What pairing goes by: a bag's kind, whether it has an id, and the id's range in the bytes (the scope's lent bytes).
 pub struct IdentityRow {
     pub kind: BagKind,
@@ -83,12 +76,7 @@ fn id_lies(bytes: &[u8], row: IdentityRow) -> bool
         return true;
     }
     let id = row.id;
-    let start = id.start as usize;
-    let end = id.end as usize;
-    if start <= end {
-        return end <= bytes.len();
-    }
-    false
+    id.lies(bytes)
 }
 
 // Whether every id lies in the bytes, with one row more.
@@ -238,16 +226,16 @@ fn answer(state: Search) -> Paired
     let key = state.key;
     let kind = key.kind;
     if !is_key(kind) {
-        return refused(NO_KEY);
+        return refused(pkcs12::NO_ROW);
     }
     let count = state.count;
     if count == 0 {
-        return refused(NO_CERTIFICATE);
+        return refused(pkcs12::NO_CERTIFICATE);
     }
     if count == 1 {
         return Paired::Certificate(state.row);
     }
-    refused(MORE_THAN_ONE)
+    refused(pkcs12::MORE_THAN_ONE)
 }
 
 // The only certificate row with the id of the key in row `key`.

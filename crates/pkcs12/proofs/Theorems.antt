@@ -5,29 +5,25 @@ use mathlib.Core.Logic.{_↔_}
 use mathlib.Core.Path.{_≡_}
 use mathlib.Core.List.{List, [], _++_}
 use mathlib.Core.Option.{some}
-use Prim.Native.Nat.{ℕ, _+_, _*_, _≤_, _<_}
+use Prim.Native.Nat.{ℕ, _+_, _*_, _≤_}
 use lib.ListN.{length, drop}
 use Rattle.der.specs.Span.{Bytes}
 use Rattle.der.specs.Element.{fault}
 use Rattle.der.specs.Tree.{elementsIn}
 use Rattle.der.specs.declared.Fault.{Fault}
-use Rattle.pkcs12.specs.Numbers.{safeRows, bagRows, attributeRows, fileBytes, notSound}
+use Rattle.pkcs12.specs.Numbers.{fileBytes, notSound}
 use Rattle.pkcs12.specs.Syntax.{Pfx}
 use Rattle.pkcs12.specs.Encode.{encode}
 use Rattle.pkcs12.specs.Valid.{Valid, Opaques}
 use Rattle.pkcs12.specs.Elements.{opaqueCount, elements}
 use Rattle.pkcs12.specs.Values.{Values, rowsOf, treeOf}
-use Rattle.pkcs12.specs.Table.{Rows, tableOf, emptyTable, withSafe, withBag, withAttribute, rowsIn, readingOf}
-use Rattle.pkcs12.specs.Walk.{addSafe, addBag, addAttribute, readFile}
+use Rattle.pkcs12.specs.Table.{Rows, tableOf, emptyTable, rowsIn, readingOf}
+use Rattle.pkcs12.specs.Walk.{readFile}
 use Rattle.pkcs12.specs.Laid.{ElementLaid, PfxLaid}
 use Rattle.pkcs12.specs.Accepted.{IsAccepted, Follows, tableFrom, readingFrom, endToEnd, Each}
 use Rattle.pkcs12.specs.Sound.{Sound}
 use Rattle.pkcs12.specs.Written.{fileOf, success, writeFile}
 use Rattle.pkcs12.specs.declared.Range.{Range}
-use Rattle.pkcs12.specs.declared.SafeRow.{SafeRow}
-use Rattle.pkcs12.specs.declared.BagRow.{BagRow}
-use Rattle.pkcs12.specs.declared.AttributeRow.{AttributeRow}
-use Rattle.pkcs12.specs.declared.Mac.{Mac}
 use Rattle.pkcs12.specs.declared.Table.{Table}
 use Rattle.pkcs12.specs.declared.Answer.{Answer}
 use Rattle.pkcs12.specs.declared.Written.{Written}
@@ -36,7 +32,6 @@ use Rattle.pkcs12.specs.Bench.{Holds, benchCases}
 use Rattle.pkcs12.specs.Telling.{slipCases, numberCases}
 use Rattle.pkcs12.proofs.Bench as bench
 use Rattle.pkcs12.proofs.Rows as rows
-use Rattle.pkcs12.proofs.Stored as stored
 use Rattle.pkcs12.proofs.Refusals as refusals
 use Rattle.pkcs12.proofs.Corollaries as corollaries
 use Rattle.pkcs12.proofs.Checked as checked
@@ -140,17 +135,6 @@ rows-show-reading x v = rows.rows-tree x (v .safes)
 
 pub reading-has-rows : (v : Values) (x : Pfx) → treeOf v ≡ some x → rowsOf x ≡ v
 reading-has-rows = rows.tree-rows
-
--- A row that is stored where there is room stands behind the rows of its kind, and nothing else changes.
-pub stored-safe-is-last : (st : Rows) (m : Mac) (r : SafeRow) → length (st .safes) < safeRows → withSafe (tableOf st m) r ≡ tableOf (addSafe st r 0) m
-stored-safe-is-last = stored.stored-safe
-
-pub stored-bag-is-last : (st : Rows) (m : Mac) (r : BagRow) → length (st .bags) < bagRows → withBag (tableOf st m) r ≡ tableOf (addBag st r 0) m
-stored-bag-is-last = stored.stored-bag
-
-pub stored-attribute-is-last : (st : Rows) (m : Mac) (r : AttributeRow) → length (st .attributes) < attributeRows
-    → withAttribute (tableOf st m) r ≡ tableOf (addAttribute st r 0) m
-stored-attribute-is-last = stored.stored-attribute
 
 -- ---- the bench set
 

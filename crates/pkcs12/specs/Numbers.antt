@@ -35,6 +35,17 @@ noRoom = 10
 abbrev pub notSound : ℕ
 notSound = 11
 
+-- "row number not in the table, or a row that isn't a key"
+abbrev pub noRow : ℕ
+noRow = 12
+
+-- "no certificate for this key; more than one"
+abbrev pub noCertificate : ℕ
+noCertificate = 13
+
+abbrev pub moreThanOne : ℕ
+moreThanOne = 14
+
 -- "SEQUENCE (30)", "SET (31)", "[0] (A0)", "tag 80 with the ciphertext"
 abbrev pub sequenceTag : ℕ
 sequenceTag = 48

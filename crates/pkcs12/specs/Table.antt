@@ -3,10 +3,8 @@ use mathlib.Core.Bool.{Bool, false}
 use mathlib.Core.List.{List, [], _++_, map}
 use mathlib.Core.Option.{Option}
 use Prim.Native.Nat.{ℕ, _+_, _-_}
-use lib.Dec.{ltb}
-use lib.ListN.{length, take, set, replicate}
+use lib.ListN.{length, take, replicate}
 use lib.Seq.{slice}
-use Rattle.der.specs.Choice.{if_then_else_}
 use Rattle.pkcs12.specs.Numbers.{safeRows, bagRows, attributeRows}
 use Rattle.pkcs12.specs.Syntax.{Algorithm, Sealed, Typed, certificate, crl, secret, Leaf, key, shrouded, typed, MacData, Pfx}
 use Rattle.pkcs12.specs.Values.{SafeValue, empty-safe, plain-safe, encrypted-safe, Content, empty-bag, leaf, nested, BagValue, AttributeValue, Values, treeOf}
@@ -107,25 +105,6 @@ tableOf st m =
 -- "In an empty table every count, number and range end is 0."
 unfoldable pub emptyTable : Table
 emptyTable = tableOf noRows noMac
-
--- a row stored behind the others, where there is room for it
-unfoldable pub withSafe : Table → SafeRow → Table
-withSafe t row =
-    if ltb (t .«safe_count») safeRows then
-    table (set (t .safes) (t .«safe_count») row) (t .«safe_count» + 1) (t .bags) (t .«bag_count») (t .attributes) (t .«attribute_count») (t .mac) (t .«mac_input») (t .elements) else
-    t
-
-unfoldable pub withBag : Table → BagRow → Table
-withBag t row =
-    if ltb (t .«bag_count») bagRows then
-    table (t .safes) (t .«safe_count») (set (t .bags) (t .«bag_count») row) (t .«bag_count» + 1) (t .attributes) (t .«attribute_count») (t .mac) (t .«mac_input») (t .elements) else
-    t
-
-unfoldable pub withAttribute : Table → AttributeRow → Table
-withAttribute t row =
-    if ltb (t .«attribute_count») attributeRows then
-    table (t .safes) (t .«safe_count») (t .bags) (t .«bag_count») (set (t .attributes) (t .«attribute_count») row) (t .«attribute_count» + 1) (t .mac) (t .«mac_input») (t .elements) else
-    t
 
 -- the rows below the counts
 unfoldable pub rowsIn : Table → Rows

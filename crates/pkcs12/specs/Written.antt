@@ -40,18 +40,18 @@ pub record Outcome : Type 0 where
 
 -- "For 9 to 14 the place is 0." "On refusal the whole room is" as before.
 abbrev pub refusal : ℕ → List ℕ → Outcome
-refusal number room = record { answer = Written.Refused (fault number 0); buffer = room }
+refusal number buffer = record { answer = Written.Refused (fault number 0); buffer = buffer }
 
 -- "On success the file stands at the front of the room, its length is returned, and every byte after it is as before."
 abbrev pub success : List ℕ → List ℕ → Outcome
-success f room = record { answer = Length (length f); buffer = f ++ drop (length f) room }
+success f buffer = record { answer = Length (length f); buffer = f ++ drop (length f) buffer }
 
 -- "Order: 11, 9, 10."
 unfoldable pub writeFile : Table → List ℕ → List ℕ → Outcome
-writeFile t s room =
+writeFile t s buffer =
     onFile (fileOf t s)
-    (refusal notSound room)
+    (refusal notSound buffer)
     (λ f.
-    if ltb fileBytes (length f) then refusal tooLong room else
-    if ltb (length room) (length f) then refusal noRoom room else
-    success f room)
+    if ltb fileBytes (length f) then refusal tooLong buffer else
+    if ltb (length buffer) (length f) then refusal noRoom buffer else
+    success f buffer)

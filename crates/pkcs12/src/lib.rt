@@ -1,8 +1,10 @@
 // What the reading of a PKCS #12 file is kept in: the table with its rows, by value, and the kinds of bag. The rules that a file follows and
 // what is read from it are definitions in specs/, with the theorems about them in proofs/.
 ghost use mathlib.Core.Path.{_≡_};
+ghost use Prim.Native.Nat.{min};
 ghost use Rattle.pkcs12.specs.Identifiers.{sameBytes, kindOf};
-ghost use Rattle.pkcs12.specs.Table.{bytesIn, emptyTable, withSafe, withBag, withAttribute};
+ghost use Rattle.pkcs12.specs.Table.{bytesIn, emptyTable};
+ghost use Rattle.pkcs12.specs.Checks.{lies};
 use der::Cursor;
 use der::Fault;
 
@@ -27,6 +29,12 @@ pub const TOO_LONG: u8 = 9;
 pub const NO_ROOM: u8 = 10;
 
 pub const NOT_SOUND: u8 = 11;
+
+pub const NO_ROW: u8 = 12;
+
+pub const NO_CERTIFICATE: u8 = 13;
+
+pub const MORE_THAN_ONE: u8 = 14;
 
 // Tags.
 pub const SEQUENCE: u8 = 0x30;
@@ -174,6 +182,16 @@ pub enum MacAt {
     Refused(Fault),
 }
 
+// The fewer of the two: rows that are counted, rows that there are.
+pub fn fewer(count: usize, rows: usize) -> usize
+    ensures { λ r. ⌜ r ≡ min count rows ⌝ }
+{
+    if count <= rows {
+        return count;
+    }
+    rows
+}
+
 // Whether two strings of bytes are the same.
 pub fn same(a: &[u8], b: &[u8]) -> bool
     ensures { λ r. ⌜ r ≡ sameBytes (now (a .entry)) (now (b .entry)) ⌝ }
@@ -233,6 +251,18 @@ impl BagKind {
 
 impl Range {
     pub const EMPTY: Range = Range { start: 0, end: 0 };
+
+    // Whether the range lies in the bytes.
+    pub fn lies(self, bytes: &[u8]) -> bool
+        ensures { λ r. ⌜ r ≡ lies (now (bytes .entry)) self ⌝ }
+    {
+        let start = self.start as usize;
+        let end = self.end as usize;
+        if end < start {
+            return false;
+        }
+        end <= bytes.len()
+    }
 
     // The bytes that the range names, that part of the caller's own; of a range that goes past them those that are there.
     pub fn part(self, bytes: &[u8]) -> &[u8]
@@ -311,39 +341,5 @@ impl Table {
             mac_input: Range::EMPTY,
             elements: 0,
         }
-    }
-
-    // The table with one row more, where there is room for it.
-    pub fn with_safe(mut self, row: SafeRow) -> Table
-        ensures { λ r. ⌜ r ≡ withSafe self row ⌝ }
-    {
-        let i = self.safe_count;
-        if i < SAFE_ROWS {
-            self.safes[i] = row;
-            self.safe_count = i + 1;
-        }
-        self
-    }
-
-    pub fn with_bag(mut self, row: BagRow) -> Table
-        ensures { λ r. ⌜ r ≡ withBag self row ⌝ }
-    {
-        let i = self.bag_count;
-        if i < BAG_ROWS {
-            self.bags[i] = row;
-            self.bag_count = i + 1;
-        }
-        self
-    }
-
-    pub fn with_attribute(mut self, row: AttributeRow) -> Table
-        ensures { λ r. ⌜ r ≡ withAttribute self row ⌝ }
-    {
-        let i = self.attribute_count;
-        if i < ATTRIBUTE_ROWS {
-            self.attributes[i] = row;
-            self.attribute_count = i + 1;
-        }
-        self
     }
 }

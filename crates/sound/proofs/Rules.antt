@@ -29,14 +29,6 @@ use Rattle.pkcs12.specs.declared.BagKind.{BagKind}
 use Rattle.pkcs12.specs.declared.BagKind.the-variants.{Key, ShroudedKey, Certificate, Crl, Secret, Nested}
 use Rattle.pkcs12.specs.declared.Table.{Table}
 
--- a test that failed or passed, where the code asks for its opposite; u is what a callee told
-module _ {A : Type 0} where
-  pub denied : (t u : Bool) (r x y : A) → u ≡ t → not u ≡ true → r ≡ y → r ≡ (if t then x else y)
-  denied t u r x y p q e = rw (sym p ∙ not-true u q) e
-
-  pub granted : (t u : Bool) (r x y : A) → u ≡ t → not u ≡ false → r ≡ x → r ≡ (if t then x else y)
-  granted t u r x y p q e = rw (sym p ∙ not-false u q) e
-
 -- 0 on either side of a test
 zero-either : (t : ℕ) → eqb t 0 ≡ eqb 0 t
 zero-either zero = refl

@@ -31,23 +31,11 @@ fn counts_fit(table: Table) -> bool
     table.attribute_count <= pkcs12::ATTRIBUTE_ROWS
 }
 
-// Whether a range lies in the bytes.
-fn lies(bytes: &[u8], range: Range) -> bool
-    ensures { λ r. ⌜ r ≡ lies (now (bytes .entry)) range ⌝ }
-{
-    let start = range.start as usize;
-    let end = range.end as usize;
-    if end < start {
-        return false;
-    }
-    end <= bytes.len()
-}
-
 // Whether it holds an identifier's body.
 fn names_type(bytes: &[u8], range: Range) -> bool
     ensures { λ r. ⌜ r ≡ namesType (now (bytes .entry)) range ⌝ }
 {
-    if !lies(bytes, range) {
+    if !range.lies(bytes) {
         return false;
     }
     let body = range.part(bytes);
@@ -83,7 +71,7 @@ fn all_opaque(x: &[u8]) -> bool
 fn holds_opaque(bytes: &[u8], range: Range) -> bool
     ensures { λ r. ⌜ r ≡ holdsOpaque (now (bytes .entry)) range ⌝ }
 {
-    if !lies(bytes, range) {
+    if !range.lies(bytes) {
         return false;
     }
     one_opaque(range.part(bytes))
@@ -92,7 +80,7 @@ fn holds_opaque(bytes: &[u8], range: Range) -> bool
 fn holds_all(bytes: &[u8], range: Range) -> bool
     ensures { λ r. ⌜ r ≡ holdsAll (now (bytes .entry)) range ⌝ }
 {
-    if !lies(bytes, range) {
+    if !range.lies(bytes) {
         return false;
     }
     all_opaque(range.part(bytes))
@@ -101,7 +89,7 @@ fn holds_all(bytes: &[u8], range: Range) -> bool
 fn holds_at_most_one(bytes: &[u8], range: Range) -> bool
     ensures { λ r. ⌜ r ≡ holdsAtMostOne (now (bytes .entry)) range ⌝ }
 {
-    if !lies(bytes, range) {
+    if !range.lies(bytes) {
         return false;
     }
     let x = range.part(bytes);
@@ -141,7 +129,7 @@ fn is_sealed(bytes: &[u8], parts: Parts) -> bool
     if !holds_at_most_one(bytes, parts.parameters) {
         return false;
     }
-    lies(bytes, parts.value)
+    parts.value.lies(bytes)
 }
 
 // A type and the element that it names.
@@ -212,7 +200,7 @@ fn mac_test(bytes: &[u8], mac: Mac) -> bool
     if !is_sealed(bytes, mac.parts) {
         return false;
     }
-    if !lies(bytes, mac.salt) {
+    if !mac.salt.lies(bytes) {
         return false;
     }
     if mac.iterations < 1 {

@@ -221,13 +221,14 @@ impl Rows {
     }
 }
 
-// The table with n more rows, from that place of the frame on.
+// The table with these n rows, from that place of the frame on, as far as it has rows.
 fn with_safes(mut table: Table, s: &[u8], start: usize, n: usize) -> Table
     requires { ⌜ (start < 10000) × (n < 256) ⌝ }
 {
+    let end = pkcs12::fewer(n, pkcs12::SAFE_ROWS);
     let mut i = 0;
-    while i < n {
-        table = table.with_safe(safe_row(s, start + i * SAFE));
+    while i < end {
+        table.safes[i] = safe_row(s, start + i * SAFE);
         i = i + 1;
     }
     table
@@ -236,9 +237,10 @@ fn with_safes(mut table: Table, s: &[u8], start: usize, n: usize) -> Table
 fn with_bags(mut table: Table, s: &[u8], start: usize, n: usize) -> Table
     requires { ⌜ (start < 10000) × (n < 256) ⌝ }
 {
+    let end = pkcs12::fewer(n, pkcs12::BAG_ROWS);
     let mut i = 0;
-    while i < n {
-        table = table.with_bag(bag_row(s, start + i * BAG));
+    while i < end {
+        table.bags[i] = bag_row(s, start + i * BAG);
         i = i + 1;
     }
     table
@@ -247,9 +249,10 @@ fn with_bags(mut table: Table, s: &[u8], start: usize, n: usize) -> Table
 fn with_attributes(mut table: Table, s: &[u8], start: usize, n: usize) -> Table
     requires { ⌜ (start < 10000) × (n < 256) ⌝ }
 {
+    let end = pkcs12::fewer(n, pkcs12::ATTRIBUTE_ROWS);
     let mut i = 0;
-    while i < n {
-        table = table.with_attribute(attribute_row(s, start + i * ATTRIBUTE));
+    while i < end {
+        table.attributes[i] = attribute_row(s, start + i * ATTRIBUTE);
         i = i + 1;
     }
     table

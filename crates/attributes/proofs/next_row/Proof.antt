@@ -28,7 +28,7 @@ cast-owner : tie.Need-cast-owner Inv-loop μ-loop
 cast-owner c = search needs
 
 returns : tie.Need-returns Inv-loop μ-loop
-returns c = search next-found
+returns c = next-found (c .before .before .before .before .before .before .args .t1) _ _ _ (c .before .before .before .before .loop .inv .0) (c .before .before .before .loop-test .taken) (c .if1 .taken)
 
 add-i : tie.Need-add-i Inv-loop μ-loop
 add-i c = search needs

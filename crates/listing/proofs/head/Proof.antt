@@ -5,14 +5,14 @@ use borrow.Author.Needs.{needs}
 use Rattle.listing.proofs.head.Statement.{statement}
 use Rattle.listing.proofs.head.Tie as tie
 
-counted-requires : tie.Need-counted-requires
-counted-requires c κs = search needs
+fewer-requires : tie.Need-fewer-requires
+fewer-requires c κs = search needs
 
-counted-requires-2 : tie.Need-counted-requires-2
-counted-requires-2 c κs = search needs
+fewer-requires-2 : tie.Need-fewer-requires-2
+fewer-requires-2 c κs = search needs
 
-counted-requires-3 : tie.Need-counted-requires-3
-counted-requires-3 c κs = search needs
+fewer-requires-3 : tie.Need-fewer-requires-3
+fewer-requires-3 c κs = search needs
 
 file-line-requires : tie.Need-file-line-requires
 file-line-requires c κs = search needs
@@ -28,15 +28,15 @@ same-length c = search needs
 
 returns : tie.Need-returns
 unfolding headLines
-returns c = c .before .before .before .before .before .before .before .before .before .before .file-line .ensures then (rw (c .before .before .before .before .before .before .before .before .before .before .before .before .before .before .counted .ensures, c .before .before .before .before .before .before .before .before .before .before .before .before .before .counted2 .ensures, c .before .before .before .before .before .before .before .before .before .before .before .before .counted3 .ensures) at (c .before .before .before .before .before .before .counts-line .ensures)) then c .before .before .mac-line .ensures
+returns c = c .before .before .before .before .before .before .before .before .before .before .file-line .ensures then (rw (c .before .before .before .before .before .before .before .before .before .before .before .before .before .before .fewer .ensures, c .before .before .before .before .before .before .before .before .before .before .before .before .before .fewer2 .ensures, c .before .before .before .before .before .before .before .before .before .before .before .before .fewer3 .ensures) at (c .before .before .before .before .before .before .counts-line .ensures)) then c .before .before .mac-line .ensures
 
 pub head-spec : {M : Type 1} → statement M
 head-spec =
     tie.close
     (tie.spec
-    counted-requires
-    counted-requires-2
-    counted-requires-3
+    fewer-requires
+    fewer-requires-2
+    fewer-requires-3
     file-line-requires
     counts-line-requires
     mac-line-requires

@@ -1,6 +1,6 @@
 -- Each way out is the definition's, by the tests on the way.
 use Rattle.pairing.specs.Search.{answered}
-use Rattle.pairing.proofs.Rules.{pairs}
+use Rattle.pairing.proofs.Rules.{pairs, answered-none, answered-several}
 use borrow.Author.Needs.{needs}
 use Rattle.pairing.proofs.answer.Statement.{statement}
 use Rattle.pairing.proofs.answer.Tie as tie
@@ -26,8 +26,7 @@ refused-requires-3 : tie.Need-refused-requires-3
 refused-requires-3 c κs = search needs
 
 returns-3 : tie.Need-returns-3
-unfolding answered
-returns-3 c = search pairs depth 14
+returns-3 c = answered-none (c .before .before .before .before .before .before .before .args .state) _ _ (c .before .before .before .before .before .if1 .left) (c .before .before .before .is-key .ensures) (c .before .before .if2 .left) (c .before .if3 .taken) (c .refused3 .ensures)
 
 returns-4 : tie.Need-returns-4
 unfolding answered
@@ -37,8 +36,7 @@ refused-requires-4 : tie.Need-refused-requires-4
 refused-requires-4 c κs = search needs
 
 returns-5 : tie.Need-returns-5
-unfolding answered
-returns-5 c = search pairs depth 14
+returns-5 c = answered-several (c .before .before .before .before .before .before .before .before .args .state) _ _ (c .before .before .before .before .before .before .if1 .left) (c .before .before .before .before .is-key .ensures) (c .before .before .before .if2 .left) (c .before .before .if3 .left) (c .before .if4 .left) (c .refused4 .ensures)
 
 pub answer-spec : {M : Type 1} → statement M
 answer-spec =

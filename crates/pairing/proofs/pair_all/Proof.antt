@@ -47,6 +47,7 @@ use denote.Triple.Spec.{Meets, tripleOf}
 use denote.Triple.Statement.{Contract, Triple}
 use denote.Triple.Table.{entered, cited}
 use denote.Triple.Walked.{says, Stays, stay-dropped, stay-none-slice, walkOf, goes-dropped, goes-none-slice, Walks, ends-at, walked, walk-meets}
+use Rattle.pkcs12.specs.Numbers.{bagRows}
 use Rattle.pairing.specs.declared.IdentityRow.{IdentityRow}
 use Rattle.pairing.specs.declared.Paired.{Paired}
 use Rattle.pairing.specs.Pairs.{paired}
@@ -65,17 +66,17 @@ use Rattle.pairing.proofs.pair_all.Code as code
 
 -- the array's type, and its type in MIR
 abbrev Rows : RattleType
-Rows = Array I.the-row 64
+Rows = Array I.the-row bagRows
 
 abbrev rows-ty : Ty
-rows-ty = tyArray I′.mir 64
+rows-ty = tyArray I′.mir bagRows
 
 -- a row's machine value
 abbrev row-vals : IdentityRow → List Val
 row-vals = LL.vals I.the-type I′.the-laws
 
 abbrev stayed : Stays (pair-all.ended .signature .params) (pair-all.ended .kept)
-stayed = (stay-dropped (arrayOf (plain (λ _. I.the-row)) 64) yes, (stay-none-slice (0 ∷ []) tt (plain (λ _. u8)) yes, (stay-dropped (plain (λ _. usize)) yes, tt)))
+stayed = (stay-dropped (arrayOf (plain (λ _. I.the-row)) bagRows) yes, (stay-none-slice (0 ∷ []) tt (plain (λ _. u8)) yes, (stay-dropped (plain (λ _. usize)) yes, tt)))
 
 module _ {M : Type 1} (𝓤 : URA M) (H : Heap 𝓤) (A : Atoms 𝓤) (mem : Memory → SProp 𝓤) (run : Routine → Fun 𝓤) where
   -- the contract that the proof cites
@@ -89,29 +90,29 @@ borrowed-as rows l γ = record { ptr = (l, 0); name = γ; now = rows }
 abbrev Apart : List IdentityRow → ℕ → Fml
 Apart rows l = arr-parts (shares I.the-row) (length rows) .part fullShare rows l 0
 
-room : (rows : List IdentityRow) → length rows ≡ 64 → Room I.the-row (length rows)
+room : (rows : List IdentityRow) → length rows ≡ bagRows → Room I.the-row (length rows)
 room rows long = subst (λ (n : ℕ). Room I.the-row n) (sym long) (lit< tt, lit< tt)
 
 -- the memory of the local, with what the array owns, is the rows side by side; and these are the memory again, at some machine value
-module _ {M : Type 1} (𝓤 : URA M) (H : Heap 𝓤) (A : Atoms 𝓤) (W : Given 𝓤 H A) (rows : List IdentityRow) (long : length rows ≡ 64) (l : ℕ) where
+module _ {M : Type 1} (𝓤 : URA M) (H : Heap 𝓤) (A : Atoms 𝓤) (W : Given 𝓤 H A) (rows : List IdentityRow) (long : length rows ≡ bagRows) (l : ℕ) where
   apart : (v : Val) → ent 𝓤 (⋆ 𝓤 H A (‵ (fat fullShare rows-ty l 0 v) ∷ ‵ (Rows .own rows (v ∷ [])) ∷ [])) (sem 𝓤 H A (Apart rows l))
   unfolding partOf
   apart v =
       qed W (‵ (fat fullShare rows-ty l 0 v) ∷ ‵ (Rows .own rows (v ∷ [])) ∷ []) ∵
       use1 W (‵ (cellAt fullShare (Rows .mir) (v ∷ []) l 0)) (W .laws .at-raw fullShare rows-ty l 0 v) $ fjoin ! $
       fpack ! (List Val) (λ vs. fsep (cellAt fullShare (Rows .mir) vs l 0) (Rows .own rows vs)) (v ∷ []) $
-      by ! (subst (λ (n : ℕ). ent 𝓤 (sem 𝓤 H A (partAt Rows fullShare rows l 0)) (sem 𝓤 H A (arr-parts (shares I.the-row) n .part fullShare rows l 0))) (sym long) (array-apart 𝓤 H A W I.the-row fullShare tt 64 rows l 0))
+      by ! (subst (λ (n : ℕ). ent 𝓤 (sem 𝓤 H A (partAt Rows fullShare rows l 0)) (sem 𝓤 H A (arr-parts (shares I.the-row) n .part fullShare rows l 0))) (sym long) (array-apart 𝓤 H A W I.the-row fullShare tt bagRows rows l 0))
 
   back : ent 𝓤 (sem 𝓤 H A (Apart rows l)) (ex 𝓤 (λ (v : Val). sem 𝓤 H A (fat fullShare rows-ty l 0 v)))
   unfolding partOf
   back =
       qed W (‵ (Apart rows l) ∷ []) ∵
-      use1 W (‵ (partAt Rows fullShare rows l 0)) (subst (λ (n : ℕ). ent 𝓤 (sem 𝓤 H A (arr-parts (shares I.the-row) n .part fullShare rows l 0)) (sem 𝓤 H A (partAt Rows fullShare rows l 0))) (sym long) (array-whole 𝓤 H A W I.the-row fullShare 64 rows l 0)) $
+      use1 W (‵ (partAt Rows fullShare rows l 0)) (subst (λ (n : ℕ). ent 𝓤 (sem 𝓤 H A (arr-parts (shares I.the-row) n .part fullShare rows l 0)) (sem 𝓤 H A (partAt Rows fullShare rows l 0))) (sym long) (array-whole 𝓤 H A W I.the-row fullShare bagRows rows l 0)) $
       fpick ! (λ vs. fsplit ! $ move ! (1 ∷ []) $ fpick ! (λ us. fsplit ! $ fsplit ! $ feqL ! (λ e. drop ! $ drop ! $
       rewrite ! 0 (λ (ws : List Val). ‵ (cellAt fullShare (Rows .mir) ws l 0)) e refl $ use1 W (‵ (fat fullShare rows-ty l 0 (arrayVal us))) (W .laws .raw-at fullShare rows-ty l 0 (arrayVal us)) $
       show ! (λ (v : Val). sem 𝓤 H A (fat fullShare rows-ty l 0 v)) (arrayVal us) $ done !)))
 
-module _ {M : Type 1} (𝓤 : URA M) (H : Heap 𝓤) (A : Atoms 𝓤) (W : Given 𝓤 H A) (mem : Memory → SProp 𝓤) (run : Routine → Fun 𝓤) (κ : Lft) (q : Share) (rows : List IdentityRow) (long : length rows ≡ 64) (bytes : RefT (List ℕ)) (k : ℕ) (k-fits : k < 2 ^ 64) where
+module _ {M : Type 1} (𝓤 : URA M) (H : Heap 𝓤) (A : Atoms 𝓤) (W : Given 𝓤 H A) (mem : Memory → SProp 𝓤) (run : Routine → Fun 𝓤) (κ : Lft) (q : Share) (rows : List IdentityRow) (long : length rows ≡ bagRows) (bytes : RefT (List ℕ)) (k : ℕ) (k-fits : k < 2 ^ bagRows) where
   -- the parameters' machine values
   abbrev va : Val
   va = only (array-vals row-vals rows)
@@ -207,16 +208,16 @@ module _ {M : Type 1} (𝓤 : URA M) (H : Heap 𝓤) (A : Atoms 𝓤) (W : Given
   pair-all-walks : (C : Calls 𝓤 H) (Λ : Loops 𝓤 H) → FmC 𝓤 H (W .laws) C → Triple 𝓤 (C #pairing·pair) (Pair 𝓤 H A mem run)
       → Walks 𝓤 H A pair-all.ended stayed (WpFn 𝓤 H C Λ code.function) (pair-all.clauses 𝓤 H A mem run)
   pair-all-walks C Λ fm known = walked 𝓤 H A pair-all.ended stayed (pair-all.clauses 𝓤 H A mem run) (WpFn 𝓤 H C Λ code.function)
-      (λ κs. (array-vals row-vals, (slice-vals, (uint-vals w64, tt)))) (λ κs. (array-tells I.the-row row-vals (LL.tells I.the-type I′.the-laws) 64, (shr-slice-tells (named 0) (κs .0) u8, (uint-tells w64, tt))))
+      (λ κs. (array-vals row-vals, (slice-vals, (uint-vals w64, tt)))) (λ κs. (array-tells I.the-row row-vals (LL.tells I.the-type I′.the-laws) bagRows, (shr-slice-tells (named 0) (κs .0) u8, (uint-tells w64, tt))))
       (λ κs qs bounds a g are. via 𝓤 _ (fst∗ 𝓤 _ (emp 𝓤))
       (walk 𝓤 H A W mem run (κs .0) (qs .0) (a .0) (are .0 .1 .0 .1) (a .1 .0) (a .1 .1 .0) (are .1 .1 .0 .1) C Λ fm known
-      (array-lawful 𝓤 H A W I.the-row (LL.lawful I.the-type I′.the-laws 𝓤 H A W) 64 .typed (a .0) _ (are .0) .0) (are .1 .0)))
+      (array-lawful 𝓤 H A W I.the-row (LL.lawful I.the-type I′.the-laws 𝓤 H A W) bagRows .typed (a .0) _ (are .0) .0) (are .1 .0)))
 
 pair-all-meets : {M : Type 1} (𝓤 : URA M) (H : Heap 𝓤) (A : Atoms 𝓤) (W : Given 𝓤 H A) (mem : Memory → SProp 𝓤) (run : Routine → Fun 𝓤) (𝓣 : Tables 𝓤 H)
     → Triple 𝓤 (𝓣 .C #pairing·pair) (Pair 𝓤 H A mem run)
     → Meets 𝓤 H A pair-all.signature (WpFn 𝓤 H (𝓣 .C) (𝓣 .Λ) code.function) (pair-all.spec 𝓤 H A mem run)
 pair-all-meets 𝓤 H A W mem run 𝓣 known =
-    walk-meets 𝓤 H A pair-all.ended stayed W (goes-dropped 𝓤 H A W 1 (arrayOf (plain (λ _. I.the-row)) 64) yes (λ κs x f. refl), (goes-none-slice 𝓤 H A W 1 (0 ∷ []) tt (plain (λ _. u8)) yes, (goes-dropped 𝓤 H A W 1 (plain (λ _. usize)) yes (λ κs x f. refl), tt)))
+    walk-meets 𝓤 H A pair-all.ended stayed W (goes-dropped 𝓤 H A W 1 (arrayOf (plain (λ _. I.the-row)) bagRows) yes (λ κs x f. refl), (goes-none-slice 𝓤 H A W 1 (0 ∷ []) tt (plain (λ _. u8)) yes, (goes-dropped 𝓤 H A W 1 (plain (λ _. usize)) yes (λ κs x f. refl), tt)))
     (pair-all.clauses 𝓤 H A mem run) (WpFn 𝓤 H (𝓣 .C) (𝓣 .Λ) code.function) (WpFn-mono 𝓤 H (W .laws) 𝓣 code.function)
     (pair-all-walks 𝓤 H A W mem run (𝓣 .C) (𝓣 .Λ) (fmOf 𝓤 H (W .laws) 𝓣) known)
 

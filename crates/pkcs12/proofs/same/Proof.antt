@@ -1,5 +1,4 @@
 -- The loop's invariant: the answer that is due is that of the bytes from i on. The measure is what is left of them.
-use mathlib.Core.Path.{_≡_}
 use Prim.Native.Nat.{_-_}
 use native.Mathlib.Omega.{arith}
 use Rattle.pkcs12.specs.Identifiers.{sameBytes}

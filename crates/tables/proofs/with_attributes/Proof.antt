@@ -1,17 +1,22 @@
 -- Fewer rows are left each time, and the places stay small.
-use Prim.Native.Nat.{_-_}
+use Prim.Native.Nat.{_-_, _≤_}
+use native.Mathlib.Omega.{arith}
 use borrow.Author.Needs.{needs}
+use Rattle.pkcs12.specs.Numbers.{attributeRows}
 use Rattle.tables.proofs.with_attributes.Statement.{statement}
 use Rattle.tables.proofs.with_attributes.Tie as tie
 
 abbrev Inv-loop : tie.InvT-loop
-Inv-loop table₀ s start n i₀ table i = Unit {0}
+Inv-loop s start n table₀ end i₀ table i = (end ≤ attributeRows) × (end ≤ n)
 
 abbrev μ-loop : tie.MeasureT-loop
-μ-loop table₀ s start n i₀ table i = n - i
+μ-loop s start n table₀ end i₀ table i = end - i
+
+fewer-requires : tie.Need-fewer-requires Inv-loop μ-loop
+fewer-requires c κs = search needs
 
 loop-holds : tie.Need-loop-holds Inv-loop μ-loop
-loop-holds c = search needs
+loop-holds c = (omega (arith, c .fewer .ensures), omega (arith, c .fewer .ensures))
 
 mul-attribute-row : tie.Need-mul-attribute-row Inv-loop μ-loop
 mul-attribute-row c = search needs
@@ -22,8 +27,11 @@ add-attribute-row c = search needs
 attribute-row-requires : tie.Need-attribute-row-requires Inv-loop μ-loop
 attribute-row-requires c κs = search needs
 
-with-attribute-requires : tie.Need-with-attribute-requires Inv-loop μ-loop
-with-attribute-requires c κs = search needs
+mul-t12 : tie.Need-mul-t12 Inv-loop μ-loop
+mul-t12 c = search needs
+
+element-set-from-table : tie.Need-element-set-from-table Inv-loop μ-loop
+element-set-from-table c = search needs
 
 add-i : tie.Need-add-i Inv-loop μ-loop
 add-i c = search needs
@@ -43,11 +51,13 @@ with-attributes-spec =
     (tie.spec
     Inv-loop
     μ-loop
+    fewer-requires
     loop-holds
     mul-attribute-row
     add-attribute-row
     attribute-row-requires
-    with-attribute-requires
+    mul-t12
+    element-set-from-table
     add-i
     loop-less
     loop-again

@@ -12,8 +12,8 @@ Inv-loop out₀ at table n to₀ i₀ out to i = Lined (bagAt table) out₀ at n
 abbrev μ-loop : tie.MeasureT-loop
 μ-loop out₀ at table n to₀ i₀ out to i = n - i
 
-counted-requires : tie.Need-counted-requires Inv-loop μ-loop
-counted-requires c κs = search needs
+fewer-requires : tie.Need-fewer-requires Inv-loop μ-loop
+fewer-requires c κs = search needs
 
 loop-holds : tie.Need-loop-holds Inv-loop μ-loop
 loop-holds c = lines-start _ _ _ _
@@ -43,7 +43,7 @@ same-length : tie.Need-same-length Inv-loop μ-loop
 same-length c = search needs
 
 returns : tie.Need-returns Inv-loop μ-loop
-returns c = lines-end _ _ _ _ _ _ _ (c .before .loop .inv) _ (c .before .before .counted .ensures) (c .loop-test .left)
+returns c = lines-end _ _ _ _ _ _ _ (c .before .loop .inv) _ (c .before .before .fewer .ensures) (c .loop-test .left)
 
 pub bag-lines-spec : {M : Type 1} → statement M
 bag-lines-spec =
@@ -51,7 +51,7 @@ bag-lines-spec =
     (tie.spec
     Inv-loop
     μ-loop
-    counted-requires
+    fewer-requires
     loop-holds
     mul-row
     element-copy-out-row

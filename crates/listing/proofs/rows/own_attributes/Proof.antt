@@ -12,8 +12,8 @@ Inv-loop bag table n own₀ i₀ own i = Counting table bag n own i
 abbrev μ-loop : tie.MeasureT-loop
 μ-loop bag table n own₀ i₀ own i = n - i
 
-counted-requires : tie.Need-counted-requires Inv-loop μ-loop
-counted-requires c κs = search needs
+fewer-requires : tie.Need-fewer-requires Inv-loop μ-loop
+fewer-requires c κs = search needs
 
 loop-holds : tie.Need-loop-holds Inv-loop μ-loop
 loop-holds c = own-start _ _ _
@@ -43,7 +43,7 @@ loop-again : tie.Need-loop-again Inv-loop μ-loop
 loop-again c = own-turn _ _ _ _ _ (c .before .before .before .before .loop .inv) _ (c .before .before .before .loop-test .taken) (c .one-if-own .ensures)
 
 returns : tie.Need-returns Inv-loop μ-loop
-returns c = own-end _ _ _ _ _ (c .before .loop .inv) _ (c .before .before .counted .ensures) (c .loop-test .left)
+returns c = own-end _ _ _ _ _ (c .before .loop .inv) _ (c .before .before .fewer .ensures) (c .loop-test .left)
 
 pub own-attributes-spec : {M : Type 1} → statement M
 own-attributes-spec =
@@ -51,7 +51,7 @@ own-attributes-spec =
     (tie.spec
     Inv-loop
     μ-loop
-    counted-requires
+    fewer-requires
     loop-holds
     mul-row
     element-copy-out-row

@@ -12,8 +12,8 @@ Inv-loop out₀ at table n to₀ i₀ out to i = Lined (safeAt table) out₀ at 
 abbrev μ-loop : tie.MeasureT-loop
 μ-loop out₀ at table n to₀ i₀ out to i = n - i
 
-counted-requires : tie.Need-counted-requires Inv-loop μ-loop
-counted-requires c κs = search needs
+fewer-requires : tie.Need-fewer-requires Inv-loop μ-loop
+fewer-requires c κs = search needs
 
 loop-holds : tie.Need-loop-holds Inv-loop μ-loop
 loop-holds c = lines-start _ _ _ _
@@ -40,7 +40,7 @@ same-length : tie.Need-same-length Inv-loop μ-loop
 same-length c = search needs
 
 returns : tie.Need-returns Inv-loop μ-loop
-returns c = lines-end _ _ _ _ _ _ _ (c .before .loop .inv) _ (c .before .before .counted .ensures) (c .loop-test .left)
+returns c = lines-end _ _ _ _ _ _ _ (c .before .loop .inv) _ (c .before .before .fewer .ensures) (c .loop-test .left)
 
 pub safe-lines-spec : {M : Type 1} → statement M
 safe-lines-spec =
@@ -48,7 +48,7 @@ safe-lines-spec =
     (tie.spec
     Inv-loop
     μ-loop
-    counted-requires
+    fewer-requires
     loop-holds
     mul-row
     element-copy-out-row

@@ -1,7 +1,8 @@
 -- Each way out is the definition's, by the tests and answers on the way; the part that is lent is the bytes of the range.
 use borrow.Author.Needs.{needs}
 use Rattle.pkcs12.specs.Checks.{holdsOpaque}
-use Rattle.sound.proofs.Rules.{denied, granted, one-of}
+use Rattle.der.proofs.Choices.{denied, granted}
+use Rattle.sound.proofs.Rules.{one-of}
 use Rattle.sound.proofs.checks.holds_opaque.Statement.{statement}
 use Rattle.sound.proofs.checks.holds_opaque.Tie as tie
 

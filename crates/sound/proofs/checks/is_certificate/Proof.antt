@@ -2,7 +2,8 @@
 use borrow.Author.Needs.{needs}
 use Rattle.pkcs12.specs.Identifiers.{x509Certificate}
 use Rattle.pkcs12.specs.Checks.{isCertificate}
-use Rattle.sound.proofs.Rules.{denied, granted, same-of, other-of}
+use Rattle.der.proofs.Choices.{denied, granted}
+use Rattle.sound.proofs.Rules.{same-of, other-of}
 use Rattle.sound.proofs.checks.is_certificate.Statement.{statement}
 use Rattle.sound.proofs.checks.is_certificate.Tie as tie
 

@@ -1,7 +1,7 @@
 -- Each way out is the definition's, by the tests and answers on the way.
 use borrow.Author.Needs.{needs}
 use Rattle.pkcs12.specs.Checks.{isSealed}
-use Rattle.sound.proofs.Rules.{denied, granted}
+use Rattle.der.proofs.Choices.{denied, granted}
 use Rattle.sound.proofs.checks.is_sealed.Statement.{statement}
 use Rattle.sound.proofs.checks.is_sealed.Tie as tie
 

@@ -1,8 +1,7 @@
 -- Each way out is the definition's, by the tests and answers on the way.
 use borrow.Author.Needs.{needs}
-use Rattle.der.proofs.Choices.{choices}
+use Rattle.der.proofs.Choices.{choices, denied, granted}
 use Rattle.pkcs12.specs.Checks.{macTest}
-use Rattle.sound.proofs.Rules.{denied, granted}
 use Rattle.sound.proofs.checks.mac_test.Statement.{statement}
 use Rattle.sound.proofs.checks.mac_test.Tie as tie
 

@@ -1,7 +1,8 @@
 -- Each way out is the definition's, by the tests and answers on the way. The loops may run, since the counts fit.
 use borrow.Author.Needs.{needs}
 use Rattle.pkcs12.specs.Checks.{keepsRules, rowsTest}
-use Rattle.sound.proofs.Rules.{denied, granted, safes-fit, bags-fit, attributes-fit}
+use Rattle.der.proofs.Choices.{denied, granted}
+use Rattle.sound.proofs.Rules.{safes-fit, bags-fit, attributes-fit}
 use Rattle.sound.proofs.checks.rules.Statement.{statement}
 use Rattle.sound.proofs.checks.rules.Tie as tie
 

@@ -1,9 +1,9 @@
 -- Each way out is the definition's, by the tests and answers on the way.
 use borrow.Author.Needs.{needs}
 use Rattle.der.proofs.Choices.{choices}
 use Rattle.pkcs12.specs.Checks.{lies}
-use Rattle.sound.proofs.checks.lies.Statement.{statement}
-use Rattle.sound.proofs.checks.lies.Tie as tie
+use Rattle.pkcs12.proofs.Range.lies.Statement.{statement}
+use Rattle.pkcs12.proofs.Range.lies.Tie as tie
 
 cast-start : tie.Need-cast-start
 cast-start c = search needs
