@@ -81,7 +81,7 @@ pub fn opening(table: Table, file: &[u8], bag: usize) -> Position
 fn next_row(p: Position) -> usize
     ensures { λ r. ⌜ r ≡ nextRow p ⌝ }
 {
-    let end = sizes::rows::fewer(p.count, pkcs12::ATTRIBUTE_ROWS);
+    let end = pkcs12::fewer(p.count, pkcs12::ATTRIBUTE_ROWS);
     let bag = p.bag;
     let mut i = p.at;
     while i < end {
@@ -103,7 +103,7 @@ fn moved(p: Position) -> Position
     let count = p.count;
     let bag = p.bag;
     let i = next_row(p);
-    let end = sizes::rows::fewer(count, pkcs12::ATTRIBUTE_ROWS);
+    let end = pkcs12::fewer(count, pkcs12::ATTRIBUTE_ROWS);
     if i < end {
         let row = rows[i];
         let at = i + 1;

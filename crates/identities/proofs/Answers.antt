@@ -2,9 +2,8 @@
 use mathlib.Core.Logic.{_↔_}
 use mathlib.Core.Path.{_≡_, refl, sym, _∙_, ap}
 use mathlib.Core.List.{List, _++_}
-use Prim.Native.Nat.{ℕ, _+_, _-_, _≤_, _<_}
+use Prim.Native.Nat.{ℕ, _+_, _-_, _≤_, _<_, min}
 use native.Mathlib.Omega.{arith}
-use borrow.Author.Tests.{le-leb}
 use lib.ListN.{length, getD, drop, length-append, length-drop, List·getD-append}
 use lib.Seq.{getD-append-add, getD-drop}
 use Rattle.der.specs.Element.{fault}
@@ -16,7 +15,6 @@ use Rattle.pkcs12.specs.Sound.{Sound}
 use Rattle.pkcs12.specs.declared.Table.{Table}
 use Rattle.pkcs12.specs.declared.Written.{Written}
 use Rattle.pkcs12.specs.declared.Written.the-variants.{Length}
-use Rattle.sizes.specs.Picked.{fewer}
 use Rattle.attributes.specs.Reader.{openingOf, refusedBy}
 use Rattle.attributes.specs.declared.Position.{Position}
 use Rattle.pairing.specs.declared.IdentityRow.{IdentityRow}
@@ -75,8 +73,7 @@ code (Written.Refused f) = 1 + f .number
 module _ (t : Table) (s : List ℕ) (out : List IdentityRow) where
   -- as many rows are filled in as there are bags
   all-rows : t .«bag_count» ≤ bagRows → length (identitiesOf t s) ≡ t .«bag_count»
-  unfolding fewer
-  all-rows h = first-length (identityOf t s) _ ∙ rw (le-leb (t .«bag_count») bagRows h)
+  all-rows h = first-length (identityOf t s) _ ∙ omega (arith, h)
 
   module _ (b : Bytes s) where
     by-filled : (P : Written → Type 0)
@@ -122,7 +119,7 @@ module _ (t : Table) (s : List ℕ) (out : List IdentityRow) where
       (λ h k e i d l.
       let z : length (identitiesOf t s) ≡ n = cc in
       List·getD-append (identitiesOf t s) _ d i (omega arith)
-      ∙ first-at (identityOf t s) (fewer (t .«bag_count») bagRows) i d (omega (arith, first-length (identityOf t s) (fewer (t .«bag_count») bagRows))))
+      ∙ first-at (identityOf t s) (min (t .«bag_count») bagRows) i d (omega (arith, first-length (identityOf t s) (min (t .«bag_count») bagRows))))
 
   -- what stands behind the rows in front is what stood there
   behind : (xs : List IdentityRow) (i : ℕ) (d : IdentityRow) → length xs ≤ i → getD (xs ++ drop (length xs) out) i d ≡ getD out i d

@@ -5,13 +5,12 @@ use mathlib.Core.Path.{_≡_, refl, sym, _∙_, ap}
 use mathlib.Core.List.{List, map}
 use mathlib.Core.Option.{Option, some}
 use mathlib.Core.Option as option
-use Prim.Native.Nat.{ℕ, _+_, _-_, _≤_, _<_}
+use Prim.Native.Nat.{ℕ, _+_, _-_, _≤_, _<_, min}
 use native.Mathlib.Omega.{arith}
-use borrow.Author.Tests.{le-leb}
 use lib.ListN.{length, getD, take, replicate, length-append, length-replicate, length-map, length-take, getD-replicate, List·getD-append, List·getD-map, List·getD-eq-default}
 use lib.Seq.{getD-append-add, getD-take}
 use Rattle.der.specs.Span.{Bytes}
-use Rattle.der.proofs.Choices.{either, never, by-le}
+use Rattle.der.proofs.Choices.{either, never}
 use Rattle.pkcs12.specs.Numbers.{bagRows, notSound, noRow, noCertificate, moreThanOne}
 use Rattle.pkcs12.specs.Table.{noBag, padded, bytesIn, contentIn, bagShown}
 use Rattle.pkcs12.specs.Sound.{Sound, Lies}
@@ -20,9 +19,7 @@ use Rattle.pkcs12.specs.declared.Parts.{Parts}
 use Rattle.pkcs12.specs.declared.BagKind.{BagKind}
 use Rattle.pkcs12.specs.declared.BagKind.the-variants.{Key, ShroudedKey, Certificate, Crl, Secret, Nested}
 use Rattle.pkcs12.specs.declared.Table.{Table}
-use Rattle.sizes.specs.Picked.{fewer}
 use Rattle.attributes.specs.Own.{setInSafes, listed}
-use Rattle.attributes.proofs.First.{at-most}
 use Rattle.pairing.specs.Pairs.{noIdentity, refusedBy, paired}
 use Rattle.pairing.specs.Only.{Matches, IdsLie, IsKey, Answered, answer-11}
 use Rattle.pairing.specs.declared.Paired.{Paired}
@@ -51,24 +48,22 @@ row-past k j none xs h =
 
 module _ (t : Table) (s : List ℕ) where
   -- no more rows stand in the array than bags are counted
-  few-rows : fewer (t .«bag_count») bagRows ≤ t .«bag_count»
-  unfolding fewer
-  few-rows = by-le (λ v. v ≤ t .«bag_count») _ _ (t .«bag_count») bagRows (λ h. omega arith) (λ h. omega arith)
+  few-rows : min (t .«bag_count») bagRows ≤ t .«bag_count»
+  few-rows = omega arith
 
   pub identity-row : (j : ℕ) → j < t .«bag_count» → t .«bag_count» ≤ bagRows → getD (identityRows t s) j noIdentity ≡ identityOf t s j
-  unfolding identityRows fewer
-  identity-row j h k = rw (le-leb (t .«bag_count») bagRows k) (row-in (identityOf t s) bagRows (t .«bag_count») noIdentity j h)
+  unfolding identityRows
+  identity-row j h k = row-in (identityOf t s) bagRows (min (t .«bag_count») bagRows) noIdentity j (omega (arith, h, k))
 
   pub identity-row-past : (j : ℕ) → t .«bag_count» ≤ j → getD (identityRows t s) j noIdentity ≡ noIdentity
   unfolding identityRows
-  identity-row-past j h = row-past bagRows j noIdentity (identitiesOf t s) (omega (arith, first-length (identityOf t s) (fewer (t .«bag_count») bagRows), few-rows))
+  identity-row-past j h = row-past bagRows j noIdentity (identitiesOf t s) (omega (arith, first-length (identityOf t s) (min (t .«bag_count») bagRows), few-rows))
 
   pub rows-length : length (identityRows t s) ≡ bagRows
   unfolding identityRows
   rows-length =
-      let m : fewer (t .«bag_count») bagRows ≤ bagRows = at-most (t .«bag_count») bagRows _ refl in
       length-append (identitiesOf t s) _
-      ∙ omega (arith, first-length (identityOf t s) (fewer (t .«bag_count») bagRows), length-replicate (bagRows - length (identitiesOf t s)) noIdentity)
+      ∙ omega (arith, first-length (identityOf t s) (min (t .«bag_count») bagRows), length-replicate (bagRows - length (identitiesOf t s)) noIdentity)
 
   -- every id that is there lies in the bytes
   row-lies : (j : ℕ) → identityOf t s j .«has_id» ≡ true → Lies s (identityOf t s j .id)
@@ -78,9 +73,9 @@ module _ (t : Table) (s : List ℕ) where
   pub ids-lie : IdsLie s (identityRows t s)
   unfolding identityRows
   ids-lie j l =
-      either j (fewer (t .«bag_count») bagRows)
-      (λ h. rw (row-in (identityOf t s) bagRows (fewer (t .«bag_count») bagRows) noIdentity j h) (row-lies j))
-      (λ h. rw (row-past bagRows j noIdentity (identitiesOf t s) (omega (arith, first-length (identityOf t s) (fewer (t .«bag_count») bagRows)))) (λ q. never q))
+      either j (min (t .«bag_count») bagRows)
+      (λ h. rw (row-in (identityOf t s) bagRows (min (t .«bag_count») bagRows) noIdentity j h) (row-lies j))
+      (λ h. rw (row-past bagRows j noIdentity (identitiesOf t s) (omega (arith, first-length (identityOf t s) (min (t .«bag_count») bagRows)))) (λ q. never q))
 
 -- ---- the answers
 

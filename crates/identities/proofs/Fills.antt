@@ -4,10 +4,10 @@ use mathlib.Core.Bool.{Bool, true, false}
 use mathlib.Core.List.{List, [], _∷_, _++_, append-assoc}
 use mathlib.Core.Option.{Option, some}
 use mathlib.Core.Option as option
-use Prim.Native.Nat.{ℕ, zero, suc, _+_, _≤_, _<_}
+use Prim.Native.Nat.{ℕ, zero, suc, _+_, _≤_, _<_, min}
 use native.Mathlib.Numerals.{add-one}
 use native.Mathlib.Omega.{arith}
-use borrow.Author.Tests.{le-leb, leb-true, ltb-false}
+use borrow.Author.Tests.{leb-true, ltb-false}
 use lib.Dec.{leb, ltb}
 use lib.ListN.{length, getD, set, drop, length-append, length-drop, List·getD-append}
 use lib.Seq.{drop-cons, getD-at, set-append-seam}
@@ -21,7 +21,6 @@ use Rattle.pkcs12.specs.declared.Table.{Table}
 use Rattle.pkcs12.specs.declared.Written.{Written}
 use Rattle.pkcs12.specs.declared.Written.the-variants.{Length}
 use Rattle.pkcs12.proofs.Stored.{stored}
-use Rattle.sizes.specs.Picked.{fewer}
 use Rattle.pairing.specs.Pairs.{noIdentity}
 use Rattle.pairing.specs.declared.IdentityRow.{IdentityRow}
 use Rattle.identities.specs.Identities.{firstOf, identityOf, identitiesOf, identityRows}
@@ -62,11 +61,11 @@ module _ {A : Type 0} (f : ℕ → A) where
 pub record Collecting (t : Table) (s : List ℕ) (end : ℕ) (rows : List IdentityRow) (i : ℕ) : Type 0 where
   pub within : i ≤ end
   pub few : end ≤ bagRows
-  pub due : end ≡ fewer (t .«bag_count») bagRows
+  pub due : end ≡ min (t .«bag_count») bagRows
   pub so-far : rows ≡ padded bagRows noIdentity (firstOf (identityOf t s) i)
 
 module _ (t : Table) (s : List ℕ) (end : ℕ) where
-  pub collect-start : (rows : List IdentityRow) → end ≡ fewer (t .«bag_count») bagRows → end ≤ bagRows → rows ≡ padded bagRows noIdentity [] → Collecting t s end rows 0
+  pub collect-start : (rows : List IdentityRow) → end ≡ min (t .«bag_count») bagRows → end ≤ bagRows → rows ≡ padded bagRows noIdentity [] → Collecting t s end rows 0
   unfolding firstOf
   collect-start rows e h p = record { within = omega arith; few = h; due = e; so-far = p }
 
@@ -82,7 +81,7 @@ module _ (t : Table) (s : List ℕ) (end : ℕ) where
 
     pub collect-end : end ≤ i → rows ≡ identityRows t s
     unfolding identityRows
-    collect-end h = let e : i ≡ fewer (t .«bag_count») bagRows = omega (arith, g .within, g .due) in g .so-far ∙ rw e
+    collect-end h = let e : i ≡ min (t .«bag_count») bagRows = omega (arith, g .within, g .due) in g .so-far ∙ rw e
 
 -- ---- storing rows at the front of others
 
@@ -160,15 +159,14 @@ module _ (t : Table) (s : List ℕ) (out : List IdentityRow) where
   unfolding refusedFilling
   fill-count = by-filling (λ p q. p .count ≤ length out) (λ n. omega arith) (λ h k. h)
 
-  all-bags : t .«bag_count» ≤ bagRows → fewer (t .«bag_count») bagRows ≡ t .«bag_count»
-  unfolding fewer
-  all-bags k = rw (le-leb (t .«bag_count») bagRows k)
+  all-bags : t .«bag_count» ≤ bagRows → min (t .«bag_count») bagRows ≡ t .«bag_count»
+  all-bags k = omega (arith, k)
 
   pub fill-answer : fillingOf t s (length out) .answer ≡ fillOf t s out .answer
   unfolding refusedFilling
   fill-answer =
       by-filling (λ p q. p .answer ≡ q .answer) (λ n. refl)
-      (λ h k. ap {B = Written} Length (sym (first-length (identityOf t s) (fewer (t .«bag_count») bagRows) ∙ all-bags k)))
+      (λ h k. ap {B = Written} Length (sym (first-length (identityOf t s) (min (t .«bag_count») bagRows) ∙ all-bags k)))
 
   -- the rows that were collected, stored one by one
   all-stored : t .«bag_count» ≤ bagRows → storedTo (identityRows t s) out (t .«bag_count») ≡ success (identitiesOf t s) out .rows

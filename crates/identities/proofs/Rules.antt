@@ -2,7 +2,7 @@
 use mathlib.Core.Path.{_≡_, refl, sym, _∙_}
 use mathlib.Core.Bool.{Bool, true, false}
 use mathlib.Core.List.{List, [], map}
-use Prim.Native.Nat.{ℕ, _+_, _≤_, _<_}
+use Prim.Native.Nat.{ℕ, _+_, _≤_, _<_, min}
 use native.Mathlib.Omega.{arith}
 use borrow.Author.Tests.{eq-eqb, ne-eqb, lt-ltb, le-ltb, le-leb, lt-leb}
 use lib.ListN.{length, getD, length-map, length-take, List·getD-eq-default}
@@ -21,7 +21,6 @@ use Rattle.pkcs12.specs.Table.{bytesIn, range, noAttribute}
 use Rattle.pkcs12.specs.declared.Range.{Range}
 use Rattle.pkcs12.specs.declared.AttributeRow.{AttributeRow}
 use Rattle.pkcs12.specs.declared.Table.{Table}
-use Rattle.sizes.specs.Picked.{fewer}
 use Rattle.attributes.specs.Reader.{openingOf}
 use Rattle.attributes.specs.declared.Item.{Item}
 use Rattle.attributes.specs.declared.Item.the-variants.{Ready, Done}
@@ -82,7 +81,7 @@ module _ (t : Table) (s : List ℕ) (bag end : ℕ) where
   abbrev pub Keys : ℕ → Type 0
   Keys i = Looking (isLocalKey s bag) (t .«attribute_count») (t .attributes) 0 end i
 
-  pub keys-start : (B : Type 0) (f : AttributeRow → B) (k : ℕ) → length (map f (t .attributes)) ≡ k → end ≡ fewer (t .«attribute_count») k → Keys 0
+  pub keys-start : (B : Type 0) (f : AttributeRow → B) (k : ℕ) → length (map f (t .attributes)) ≡ k → end ≡ min (t .«attribute_count») k → Keys 0
   keys-start B f k e g = look-start _ _ _ _ end (counted-length B f k (t .«attribute_count») end (t .attributes) e g)
 
   module _ (i : ℕ) (g : Keys i) where
@@ -99,7 +98,7 @@ module _ (t : Table) (s : List ℕ) (bag end : ℕ) where
     keys-end h = look-end _ _ _ _ end i g h
 
 -- the id of a bag: in its first localKeyID, if it has one
-module _ (t : Table) (s : List ℕ) (bag end i : ℕ) (e : i ≡ keyRow t s bag) (B : Type 0) (f : AttributeRow → B) (k : ℕ) (a : length (map f (t .attributes)) ≡ k) (g : end ≡ fewer (t .«attribute_count») k) where
+module _ (t : Table) (s : List ℕ) (bag end i : ℕ) (e : i ≡ keyRow t s bag) (B : Type 0) (f : AttributeRow → B) (k : ℕ) (a : length (map f (t .attributes)) ≡ k) (g : end ≡ min (t .«attribute_count») k) where
   counted : end ≡ length (attributesOf t)
   counted = counted-length B f k (t .«attribute_count») end (t .attributes) a g
 

@@ -1,7 +1,7 @@
 -- The identity rows of a table's bags (scope, "Attributes and pairs").
 use mathlib.Core.Bool.{Bool, true, false}
 use mathlib.Core.List.{List, [], _∷_, _++_}
-use Prim.Native.Nat.{ℕ, zero, suc}
+use Prim.Native.Nat.{ℕ, zero, suc, min}
 use lib.Dec.{leb, ltb}
 use lib.ListN.{length, getD}
 use Rattle.der.specs.Choice.{if_then_else_}
@@ -16,7 +16,6 @@ use Rattle.pkcs12.specs.Written.{fileOf, onFile}
 use Rattle.pkcs12.specs.declared.Range.{Range}
 use Rattle.pkcs12.specs.declared.AttributeRow.{AttributeRow}
 use Rattle.pkcs12.specs.declared.Table.{Table}
-use Rattle.sizes.specs.Picked.{fewer}
 use Rattle.attributes.specs.Own.{attributesOf}
 use Rattle.attributes.specs.Reader.{firstFrom, names, openingOf}
 use Rattle.attributes.specs.declared.Item.{Item}
@@ -77,7 +76,7 @@ firstOf f (suc n) = firstOf f n ++ (f n ∷ [])
 
 -- the identity rows of all bags, in the bags' order
 abbrev pub identitiesOf : Table → List ℕ → List IdentityRow
-identitiesOf t s = firstOf (identityOf t s) (fewer (t .«bag_count») bagRows)
+identitiesOf t s = firstOf (identityOf t s) (min (t .«bag_count») bagRows)
 
 -- the same as an array, padded with rows that are no key's and no certificate's
 unfoldable pub identityRows : Table → List ℕ → List IdentityRow

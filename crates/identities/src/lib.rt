@@ -61,7 +61,7 @@ fn is_local_key(bytes: &[u8], bag: usize, row: AttributeRow) -> bool
 fn key_row(table: Table, bytes: &[u8], bag: usize) -> usize
     ensures { λ r. ⌜ r ≡ keyRow table (now (bytes .entry)) bag ⌝ }
 {
-    let end = sizes::rows::fewer(table.attribute_count, pkcs12::ATTRIBUTE_ROWS);
+    let end = pkcs12::fewer(table.attribute_count, pkcs12::ATTRIBUTE_ROWS);
     let mut i: usize = 0;
     while i < end {
         let row = table.attributes[i];
@@ -104,7 +104,7 @@ fn id_of(table: Table, bytes: &[u8], bag: usize) -> Id
     ensures { λ r. ⌜ r ≡ idOf table (now (bytes .entry)) bag ⌝ }
 {
     let i = key_row(table, bytes, bag);
-    let end = sizes::rows::fewer(table.attribute_count, pkcs12::ATTRIBUTE_ROWS);
+    let end = pkcs12::fewer(table.attribute_count, pkcs12::ATTRIBUTE_ROWS);
     if i < end {
         let row = table.attributes[i];
         let values = row.values;
@@ -156,7 +156,7 @@ pub fn identity_of(table: Table, bytes: &[u8], bag: usize) -> Identity
 fn rows_of(table: Table, bytes: &[u8]) -> [IdentityRow; pkcs12::BAG_ROWS]
     ensures { λ r. ⌜ r ≡ identityRows table (now (bytes .entry)) ⌝ }
 {
-    let end = sizes::rows::fewer(table.bag_count, pkcs12::BAG_ROWS);
+    let end = pkcs12::fewer(table.bag_count, pkcs12::BAG_ROWS);
     let mut rows = [IdentityRow::EMPTY; pkcs12::BAG_ROWS];
     let mut i: usize = 0;
     while i < end {

@@ -106,9 +106,9 @@ pub extern "C" fn p12_write(table: &[u32], bytes: &[u8], out: &mut [u8], written
     ensures { λ _. ⌜ now (out .exit) ≡ writeCall (now (table .entry)) (now (bytes .entry)) (now (out .entry)) .memory ⌝ }
     ensures { λ _. ⌜ now (written .exit) ≡ writeCall (now (table .entry)) (now (bytes .entry)) (now (out .entry)) .value ⌝ }
 {
-    let answer = writer::write(words::load(table), bytes, out);
-    *written = length_of(answer);
-    written_number(answer)
+    let file = writer::write(words::load(table), bytes, out);
+    *written = length_of(file);
+    written_number(file)
 }
 
 // Attribute i of a bag, as a row of words.

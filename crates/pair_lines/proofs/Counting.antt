@@ -2,7 +2,7 @@
 use mathlib.Core.Path.{_≡_, sym, _∙_}
 use mathlib.Core.Bool.{Bool, true, false}
 use mathlib.Core.List.{map}
-use Prim.Native.Nat.{ℕ, _+_, _≤_, _<_}
+use Prim.Native.Nat.{ℕ, _+_, _≤_, _<_, min}
 use native.Mathlib.Numerals.{add-one}
 use native.Mathlib.Omega.{arith}
 use lib.ListN.{length, getD, take, drop, drop-of-length-le, length-take}
@@ -12,7 +12,6 @@ use Rattle.pkcs12.specs.Numbers.{bagRows}
 use Rattle.pkcs12.specs.declared.BagKind.{BagKind}
 use Rattle.pkcs12.specs.declared.BagRow.{BagRow}
 use Rattle.pkcs12.specs.declared.Table.{Table}
-use Rattle.sizes.specs.Picked.{fewer}
 use Rattle.attributes.proofs.First.{counted-length, at-most}
 use Rattle.pairing.specs.Pairs.{isKey}
 use Rattle.pair_lines.specs.Lines.{keyLine, linesOf, keyLines}
@@ -37,7 +36,7 @@ module _ (t : Table) (end : ℕ) where
     pub so-far : lines ≤ i
     pub rest : keyLines t ≡ lines + linesOf (drop i (take (t .«bag_count») (t .bags)))
 
-  pub count-start : (B : Type 0) (f : BagRow → B) → length (map f (t .bags)) ≡ bagRows → end ≡ fewer (t .«bag_count») bagRows → Counting 0 0
+  pub count-start : (B : Type 0) (f : BagRow → B) → length (map f (t .bags)) ≡ bagRows → end ≡ min (t .«bag_count») bagRows → Counting 0 0
   unfolding keyLines
   count-start B f e g =
       record { counted = counted-length B f bagRows (t .«bag_count») end (t .bags) e g; few = at-most _ _ _ g; so-far = omega arith; rest = omega arith }

@@ -48,7 +48,7 @@ fn bag_line(table: Table, file: &[u8], bag: usize, kind: BagKind) -> usize
 pub fn show(table: Table, file: &[u8]) -> usize
     ensures { λ r. ⌜ r ≡ keyLines table ⌝ }
 {
-    let end = sizes::rows::fewer(table.bag_count, pkcs12::BAG_ROWS);
+    let end = pkcs12::fewer(table.bag_count, pkcs12::BAG_ROWS);
     let mut lines: usize = 0;
     let mut i: usize = 0;
     while i < end {

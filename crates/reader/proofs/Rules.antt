@@ -131,8 +131,8 @@ pub small : (s : List ℕ) (c : Cursor) (k : ℕ) (n : Cursor) → Past s c 0 k 
 small s c k n p h = omega (arith, p .long, p .within, p .inside)
 
 module _ (s : List ℕ) (c : Cursor) (w : PartsAt) (p : Parts) (k : ℕ) (n : Cursor) where
-  pub algorithm-small : w ≡ algorithmAt s c → w ≡ PartsAt.Found p k n → length s ≤ fileBytes → k ≤ fileBytes
-  algorithm-small e f h = small s c k n (algorithm-past s c w p k n e f) h
+  pub algorithm-fits : (j : ℕ) → w ≡ algorithmAt s c → w ≡ PartsAt.Found p k n → length s ≤ fileBytes → leb j 16 ≡ true → Fits w64 (k + j)
+  algorithm-fits j e f h l = let o = small s c k n (algorithm-past s c w p k n e f) h in omega (arith, o, leb-true j 16 l)
 
   pub encrypted-info-fits : (j : ℕ) → w ≡ encryptedInfoAt s c → w ≡ PartsAt.Found p k n → length s ≤ fileBytes → leb j 16 ≡ true → Fits w64 (k + j)
   encrypted-info-fits j e f h l = let o = small s c k n (encrypted-info-past s c w p k n e f) h in omega (arith, o, leb-true j 16 l)
@@ -148,7 +148,6 @@ pub ruleset rooms = (
   opaque-to,
   value-from,
   value-to,
-  algorithm-small,
 )
 
 -- parts by their ranges

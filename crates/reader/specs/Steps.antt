@@ -49,13 +49,13 @@ parametersAt s i m stop n =
     if ltb (m .at) (m .end) then someParametersAt s i m n else
     PartsAt.Found (parts (rangeOf i) (range stop stop) noRange) 2 n
 
--- the OCTET STRING behind an algorithm
-unfoldable pub octetsAt : List ℕ → Parts → ℕ → Cursor → Cursor → PartsAt
-octetsAt s p k m n =
-    onElement (expectAt octetStringTag s m) PartsAt.Refused
+-- the value with this tag behind an algorithm; k is the count of all of them
+unfoldable pub sealedValueAt : ℕ → List ℕ → Parts → ℕ → Cursor → Cursor → PartsAt
+sealedValueAt tag s p k m n =
+    onElement (expectAt tag s m) PartsAt.Refused
     (λ t o e.
     onChecked (finishAt e) PartsAt.Refused
-    (λ z f. PartsAt.Found (withValue p (rangeOf o)) (k + 2) n))
+    (λ z f. PartsAt.Found (withValue p (rangeOf o)) k n))
 
 -- the value in [0] behind the identifier i of its type
 unfoldable pub typedValueAt : Bool → List ℕ → Cursor → Cursor → Cursor → Cursor → PartsAt
@@ -67,18 +67,13 @@ typedValueAt octets s i v e n =
     onChecked (finishAt e) PartsAt.Refused
     (λ z h. PartsAt.Found (parts (rangeOf i) noRange (range (v .at) (f .at))) (k + 3) n)))
 
--- the ciphertext behind an algorithm
-unfoldable pub ciphertextAt : List ℕ → Parts → ℕ → Cursor → Cursor → PartsAt
-ciphertextAt s p k e n =
-    if leb (e .end) (e .at) then PartsAt.Refused (fault notServed (e .end)) else
-    onElement (expectAt ciphertextTag s e) PartsAt.Refused
-    (λ t o f.
-    onChecked (finishAt f) PartsAt.Refused
-    (λ z g. PartsAt.Found (withValue p (rangeOf o)) (k + 3) n))
-
 -- the algorithm at m and its ciphertext
 unfoldable pub encryptedPartsAt : List ℕ → Cursor → Cursor → PartsAt
-encryptedPartsAt s m n = onParts (algorithmAt s m) PartsAt.Refused (λ p k e. ciphertextAt s p k e n)
+encryptedPartsAt s m n =
+    onParts (algorithmAt s m) PartsAt.Refused
+    (λ p k e.
+    if leb (e .end) (e .at) then PartsAt.Refused (fault notServed (e .end)) else
+    sealedValueAt ciphertextTag s p (k + 3) e n)
 
 -- the EncryptedContentInfo at m, which ends the EncryptedData
 unfoldable pub encryptedContentAt : List ℕ → Cursor → Cursor → PartsAt

@@ -39,11 +39,15 @@ pub fn read(file: &[u8]) -> Reading
     ensures { λ r. ⌜ r ≡ readFile (now (file .entry)) ⌝ }
 {
     if pkcs12::FILE_BYTES < file.len() {
-        return refused(LONG);
+        let none = refused(LONG);
+        return none;
     }
     let whole = Cursor::over(file);
     match file::open(file, whole) {
-        Opened::Refused(f) => refused(f),
+        Opened::Refused(f) => {
+            let none = refused(f);
+            return none;
+        }
         Opened::Found {
             input,
             body,
@@ -56,7 +60,10 @@ pub fn read(file: &[u8]) -> Reading
             let all = rows::safes(file, input, body);
             let answer = all.answer;
             match file::close(file, answer, safes, string, content, mac, rest) {
-                MacAt::Refused(f) => refused(f),
+                MacAt::Refused(f) => {
+                    let none = refused(f);
+                    return none;
+                }
                 MacAt::Found {
                     mac: fields,
                     count,

@@ -10,7 +10,7 @@ ghost use Rattle.pkcs12.specs.Numbers.{fileBytes};
 ghost use Rattle.pkcs12.specs.Identifiers.{sameBytes, x509Certificate};
 ghost use Rattle.pkcs12.specs.Table.{range};
 ghost use Rattle.pkcs12.specs.Walk.{rangeOf, algorithmAt, sealedAt, keyAt, valueAt, typedAt, encryptedInfoAt, encryptedAt};
-ghost use Rattle.reader.specs.Steps.{someParametersAt, parametersAt, octetsAt, typedValueAt, ciphertextAt, encryptedPartsAt, encryptedContentAt};
+ghost use Rattle.reader.specs.Steps.{someParametersAt, parametersAt, sealedValueAt, typedValueAt, encryptedPartsAt, encryptedContentAt};
 use der::Checked;
 use der::Cursor;
 use der::Element;
@@ -128,12 +128,12 @@ pub(crate) fn algorithm(s: &[u8], c: Cursor) -> PartsAt
     }
 }
 
-// The OCTET STRING behind an algorithm, which ends their SEQUENCE; n is past it.
-fn octets(s: &[u8], algorithm: Parts, count: usize, m: Cursor, n: Cursor) -> PartsAt
-    requires { ⌜ (length (now s) ≤ fileBytes) × (count ≤ fileBytes) ⌝ }
-    ensures { λ r. ⌜ r ≡ octetsAt (now (s .entry)) algorithm count m n ⌝ }
+// The value with this tag behind an algorithm, which ends their SEQUENCE; `count` is of all of them, and n is past it.
+fn sealed_value(s: &[u8], tag: u8, algorithm: Parts, count: usize, m: Cursor, n: Cursor) -> PartsAt
+    requires { ⌜ length (now s) ≤ fileBytes ⌝ }
+    ensures { λ r. ⌜ r ≡ sealedValueAt tag (now (s .entry)) algorithm count m n ⌝ }
 {
-    match m.octet_string(s) {
+    match m.expect(s, tag) {
         Element::Refused(f) => PartsAt::Refused(f),
         Element::Found { tag: _, body, next } => match next.finish() {
             Checked::Refused(f) => PartsAt::Refused(f),
@@ -146,10 +146,9 @@ fn octets(s: &[u8], algorithm: Parts, count: usize, m: Cursor, n: Cursor) -> Par
                     parameters,
                     value,
                 };
-                let more = count + 2;
                 PartsAt::Found {
                     parts,
-                    count: more,
+                    count,
                     next: n,
                 }
             }
@@ -170,7 +169,10 @@ pub(crate) fn sealed(s: &[u8], c: Cursor) -> PartsAt
                 parts,
                 count,
                 next: m,
-            } => octets(s, parts, count, m, next),
+            } => {
+                let more = count + 2;
+                sealed_value(s, der::OCTET_STRING, parts, more, m, next)
+            }
         },
     }
 }
@@ -295,43 +297,6 @@ pub(crate) fn typed(certificate: bool, s: &[u8], c: Cursor) -> PartsAt
     }
 }
 
-// The ciphertext behind an algorithm, which ends their SEQUENCE; n is past it.
-fn ciphertext(s: &[u8], algorithm: Parts, count: usize, e: Cursor, n: Cursor) -> PartsAt
-    requires { ⌜ (length (now s) ≤ fileBytes) × (count ≤ fileBytes) ⌝ }
-    ensures { λ r. ⌜ r ≡ ciphertextAt (now (s .entry)) algorithm count e n ⌝ }
-{
-    let at = e.at;
-    let end = e.end;
-    if end <= at {
-        return PartsAt::Refused(Fault {
-            number: pkcs12::NOT_SERVED,
-            offset: end,
-        });
-    }
-    match e.expect(s, pkcs12::CIPHERTEXT) {
-        Element::Refused(f) => PartsAt::Refused(f),
-        Element::Found { tag: _, body, next } => match next.finish() {
-            Checked::Refused(f) => PartsAt::Refused(f),
-            Checked::Passed { count: _, next: _ } => {
-                let identifier = algorithm.identifier;
-                let parameters = algorithm.parameters;
-                let value = range_of(body);
-                let parts = Parts {
-                    identifier,
-                    parameters,
-                    value,
-                };
-                let more = count + 3;
-                PartsAt::Found {
-                    parts,
-                    count: more,
-                    next: n,
-                }
-            }
-        },
-    }
-}
-
 // The algorithm at m and its ciphertext.
 fn encrypted_parts(s: &[u8], m: Cursor, n: Cursor) -> PartsAt
     requires { ⌜ length (now s) ≤ fileBytes ⌝ }
@@ -339,7 +304,18 @@ fn encrypted_parts(s: &[u8], m: Cursor, n: Cursor) -> PartsAt
 {
     match algorithm(s, m) {
         PartsAt::Refused(f) => PartsAt::Refused(f),
-        PartsAt::Found { parts, count, next } => ciphertext(s, parts, count, next, n),
+        PartsAt::Found { parts, count, next } => {
+            let at = next.at;
+            let end = next.end;
+            if end <= at {
+                return PartsAt::Refused(Fault {
+                    number: pkcs12::NOT_SERVED,
+                    offset: end,
+                });
+            }
+            let more = count + 3;
+            sealed_value(s, pkcs12::CIPHERTEXT, parts, more, next, n)
+        }
     }
 }
 

@@ -1,6 +1,7 @@
 // Rows: safes, safe contents, bags and their attributes. The table goes by value: what reads a part takes the table and gives it back with the
 // rows of that part, or gives the empty table with the first fault. A function keeps what it has so far in one place, and a call's answer goes
-// there: then the table is copied less.
+// there: then the table is copied less. Where a function makes its answer itself, a refusal is named before it is returned (`none`): a call straight
+// into the answer would cost the other ways out a copy.
 ghost use mathlib.Core.Path.{_≡_};
 ghost use Prim.Native.Nat.{_≤_};
 ghost use lib.Dec.{ltb};
@@ -71,50 +72,62 @@ fn attribute_row(number: u16, parts: Parts) -> AttributeRow
 }
 
 // The attributes of the bag with this number, behind [0], in whose body e is left; n is past the bag.
-fn attributes(s: &[u8], number: u16, mut table: Table, e: Cursor, c: Cursor, n: Cursor) -> Progress
+fn attributes(s: &[u8], number: u16, table: Table, e: Cursor, c: Cursor, n: Cursor) -> Progress
     requires { ⌜ Ready (now s) table (c .at) ⌝ }
     ensures { λ r. ⌜ r ≡ progress (bagEndAt (now (s .entry)) number (rowsIn table) e c n) ⌝ }
 {
     match bags::set_at(s, e, c) {
-        Set::Refused(f) => refused(f),
-        Set::None => Progress {
-            answer: Answer::Accepted,
-            table,
-            next: n,
-        },
+        Set::Refused(f) => {
+            let none = refused(f);
+            return none;
+        }
+        Set::None => {
+            return Progress {
+                answer: Answer::Accepted,
+                table,
+                next: n,
+            };
+        }
         Set::Found { body, next } => {
-            let first = table.elements + 1;
-            table.elements = first;
+            let mut grown = table;
+            let first = grown.elements + 1;
+            grown.elements = first;
             let end = body.end;
             let mut at = body.at;
             while at < end {
                 let here = Cursor { at, end };
-                let row = table.attribute_count;
+                let row = grown.attribute_count;
                 let full = pkcs12::ATTRIBUTE_ROWS <= row;
                 match bags::attribute(s, full, here) {
                     PartsAt::Refused(f) => {
-                        return refused(f);
+                        let none = refused(f);
+                        return none;
                     }
                     PartsAt::Found {
                         parts,
                         count,
                         next: behind,
                     } => {
-                        let elements = table.elements + count;
-                        table.attributes[row] = attribute_row(number, parts);
-                        table.attribute_count = row + 1;
-                        table.elements = elements;
+                        let elements = grown.elements + count;
+                        grown.attributes[row] = attribute_row(number, parts);
+                        grown.attribute_count = row + 1;
+                        grown.elements = elements;
                         at = behind.at;
                     }
                 }
             }
             match next.finish() {
-                Checked::Refused(f) => refused(f),
-                Checked::Passed { count: _, next: _ } => Progress {
-                    answer: Answer::Accepted,
-                    table,
-                    next: n,
-                },
+                Checked::Refused(f) => {
+                    let none = refused(f);
+                    return none;
+                }
+                Checked::Passed { count: _, next: _ } => {
+                    return Progress {
+                        answer: Answer::Accepted,
+                        table: grown,
+                        next: n,
+                    };
+                }
             }
         }
     }
@@ -274,7 +287,8 @@ pub(crate) fn safes(s: &[u8], m: Cursor, b: Cursor) -> Progress
         let full = pkcs12::SAFE_ROWS <= row;
         match safes::safe(s, full, here) {
             Contents::Refused(f) => {
-                return refused(f);
+                let none = refused(f);
+                return none;
             }
             Contents::Encrypted { parts, count, next } => {
                 let elements = table.elements + count;
@@ -306,7 +320,8 @@ pub(crate) fn safes(s: &[u8], m: Cursor, b: Cursor) -> Progress
                 let behind = inner.next;
                 match safes::closed(answer, behind, string, content) {
                     Checked::Refused(f) => {
-                        return refused(f);
+                        let none = refused(f);
+                        return none;
                     }
                     Checked::Passed { count: _, next: _ } => {
                         table = inner.table;

@@ -27,9 +27,6 @@ by-size n small past = either fileBytes n (λ h. past h (capped-past n h)) (λ h
 pub capped-told : (n : ℕ) → capped n ≤ fileBytes → capped n ≡ n
 capped-told n h = by-size n (λ l e. e) (λ l e. absurd (omega (arith, h, e)))
 
-pub capped-bound : (n : ℕ) → capped n ≤ fileBytes + 1
-capped-bound n = by-size n (λ l e. omega (arith, l, e)) (λ l e. omega (arith, e))
-
 -- two numbers that are told alike
 pub record Near (a b : ℕ) : Type 0 where
   pub alike : capped a ≡ capped b
@@ -60,7 +57,8 @@ near-plus a b c d p q =
     (λ e. near-cases b d q (λ f. rw (e, f) (near-same (c + d))) (λ h k. both-past (a + b) (c + d) (omega (arith, h)) (omega (arith, k))))
     (λ h k. both-past (a + b) (c + d) (omega (arith, h)) (omega (arith, k)))
 
-element-more : (n : ℕ) → n + 2 ≤ elementSize n
+-- an element is longer than its body
+pub element-more : (n : ℕ) → n + 2 ≤ elementSize n
 unfolding elementSize
 element-more n = omega (arith, octets-some n)
 
@@ -74,9 +72,6 @@ pub near-then : (a b c : ℕ) → Near a b → Near b c → Near a c
 near-then a b c p q = record { alike = p .alike ∙ q .alike }
 
 -- ---- rules: r is what a callee gave
-
-pub by-sum : (r a b c d : ℕ) → r ≡ capped (a + b) → Near a c → Near b d → Near r (c + d)
-by-sum r a b c d e p q = near-then _ _ _ (near-told r (a + b) e) (near-plus a b c d p q)
 
 pub by-element : (r n m : ℕ) → r ≡ capped (elementSize n) → Near n m → Near r (elementSize m)
 by-element r n m e p = near-then _ _ _ (near-told r (elementSize n) e) (near-element n m p)
@@ -106,9 +101,6 @@ pub near-data : (a c : ℕ) → Near a c → Near (dataSize a) (dataSize c)
 unfolding dataSize
 near-data a c p = near-content-info _ _ (near-element _ _ (near-element a c p))
 
-pub by-data : (r a c : ℕ) → r ≡ capped (dataSize a) → Near a c → Near r (dataSize c)
-by-data r a c e p = near-then _ _ _ (near-told r (dataSize a) e) (near-data a c p)
-
 pub near-pfx : (a b c d : ℕ) → Near a c → Near b d → Near (pfxSize a b) (pfxSize c d)
 unfolding pfxSize
 near-pfx a b c d p q = near-plus 3 _ 3 _ (near-same 3) (near-plus _ _ _ _ (near-element _ _ (near-data a c p)) (near-element b d q))
@@ -131,9 +123,6 @@ sized-is r x e = near-is r (length x) e
 pub sized-element : (r n t : ℕ) (b : List ℕ) → r ≡ capped (elementSize n) → Sized n b → Sized r (tlv t b)
 sized-element r n t b e p = rw (length-element t b) (by-element r n (length b) e p)
 
-pub sized-sum : (r a b : ℕ) (x y : List ℕ) → r ≡ capped (a + b) → Sized a x → Sized b y → Sized r (x ++ y)
-sized-sum r a b x y e p q = rw (length-append x y) (by-sum r a b (length x) (length y) e p q)
-
 pub sum-is : (r a b : ℕ) (x y : List ℕ) → r ≡ capped (a + b) → Sized a x → Sized b y → r ≡ capped (length (x ++ y))
 sum-is r a b x y e p q = rw (length-append x y) (sum-told r a b (length x) (length y) e p q)
 
@@ -141,7 +130,6 @@ pub element-is : (r n t : ℕ) (b : List ℕ) → r ≡ capped (elementSize n) �
 element-is r n t b e p = rw (length-element t b) (element-told r n (length b) e p)
 
 pub ruleset sizing = (
-  by-sum,
   by-element,
   near-told,
   near-same,
@@ -150,7 +138,6 @@ pub ruleset sizing = (
   sized-told,
   sized-is,
   sized-element,
-  sized-sum,
   sum-is,
   element-is,
 )

@@ -8,23 +8,21 @@ use lib.ListN.{length}
 use borrow.Author.Tests.{eq-eqb, ne-eqb}
 use Rattle.der.specs.Octets.{digitsFrom, digits, lengthOctets, integerOctets, tlv}
 use Rattle.der.proofs.Integers.{one-octet, two-octets, three-octets, four-octets, five-octets}
-use Rattle.pkcs12.specs.Numbers.{defaultIterations}
-use Rattle.pkcs12.specs.Encode.{integer, iterationsBytes}
-use Rattle.pkcs12.specs.Numbers.{encryptedVersion}
+use Rattle.pkcs12.specs.Numbers.{defaultIterations, encryptedVersion}
 use Rattle.pkcs12.specs.Identifiers.{dataType}
-use Rattle.pkcs12.specs.Encode.{identifier, sealedBytes, leafBytes}
+use Rattle.pkcs12.specs.Encode.{integer, identifier, sealedBytes, leafBytes, iterationsBytes}
+use Rattle.pkcs12.specs.Values.{sameEnclosing}
 use Rattle.pkcs12.specs.Table.{bytesIn, sealedIn}
 use Rattle.pkcs12.specs.declared.Parts.{Parts}
-use Rattle.pkcs12.specs.Values.{sameEnclosing}
-use Rattle.pkcs12.specs.declared.Enclosing.{Enclosing}
-use Rattle.pkcs12.specs.declared.Enclosing.the-variants.{Bag}
 use Rattle.pkcs12.specs.declared.BagKind.{BagKind}
 use Rattle.pkcs12.specs.declared.BagKind.the-variants.{Key, ShroudedKey, Certificate, Crl, Secret, Nested}
+use Rattle.pkcs12.specs.declared.Enclosing.{Enclosing}
+use Rattle.pkcs12.specs.declared.Enclosing.the-variants.{Bag}
 use Rattle.sizes.specs.Bodies.{sealedBody, typedBody, contentOf}
 use Rattle.sizes.specs.Sizes.{capped, elementSize, bagSize, sizedAs, oneOf}
 use Rattle.sizes.specs.declared.rows.Taken.{Taken}
 use Rattle.sizes.specs.declared.rows.One.the-variants.{Found}
-use Rattle.sizes.proofs.Capped.{Sized, near-told, element-told, element-is, sized-told, sized-is, near-is}
+use Rattle.sizes.proofs.Capped.{Near, Sized, near-told, element-told, element-is, sized-told, sized-is, near-is}
 
 module _ (n : ℕ) where
   pub size-1 : n < 128 → 1 ≡ length (integerOctets n)
@@ -98,9 +96,14 @@ module _ (s : List ℕ) (k : BagKind) (p : Parts) (r : ℕ) where
 pub taken-is : (r n bag attribute : ℕ) → r ≡ capped n → _≡_ {A = Taken} (record { size = r; bag = bag; attribute = attribute }) (sizedAs n bag attribute)
 taken-is r n bag attribute e = rw e refl
 
+-- one that was found, by the size of its body
+pub found-is : (r body b bag attribute : ℕ) → r ≡ capped (elementSize body) → Near body b
+    → Found (record { size = r; bag = bag; attribute = attribute }) ≡ oneOf (elementSize b) bag attribute
+found-is r body b bag attribute e n = ap Found (taken-is r (elementSize b) bag attribute (element-told r body b e n))
+
 pub one-is : (r body a b bag attribute : ℕ) → body ≡ capped (bagSize a b) → r ≡ capped (elementSize body)
     → Found (record { size = r; bag = bag; attribute = attribute }) ≡ oneOf (elementSize (bagSize a b)) bag attribute
-one-is r body a b bag attribute e f = ap Found (taken-is r (elementSize (bagSize a b)) bag attribute (element-told r body _ f (near-told body _ e)))
+one-is r body a b bag attribute e f = found-is r body (bagSize a b) bag attribute f (near-told body (bagSize a b) e)
 
 -- two enclosing bags are compared by their numbers
 pub both-bags : (a b : Enclosing) (n m : ℕ) → a ≡ Bag n → b ≡ Bag m → eqb n m ≡ sameEnclosing a b

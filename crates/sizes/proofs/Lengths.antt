@@ -1,7 +1,7 @@
 -- The lengths of what is written, by the sizes of its parts.
 use mathlib.Core.Path.{_≡_, refl, ap, _∙_}
 use mathlib.Core.List.{List, _++_}
-use Prim.Native.Nat.{ℕ, _+_}
+use Prim.Native.Nat.{ℕ}
 use lib.ListN.{length, length-append}
 use Rattle.der.specs.Octets.{digitsFrom, digits, lengthOctets, tlv, integerOctets}
 use Rattle.pkcs12.specs.Numbers.{contextTag, pfxVersion}

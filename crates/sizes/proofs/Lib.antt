@@ -4,6 +4,7 @@ pub mod Leaves
 pub mod Lengths
 pub mod Picks
 pub mod Loops
+pub mod Taken
 pub mod Measures
 pub mod MeasuresSafes
 pub mod Reading

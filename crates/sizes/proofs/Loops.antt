@@ -5,11 +5,8 @@ use mathlib.Core.List.{List, [], _++_, append-assoc, append-nil}
 use mathlib.Core.Option.{some}
 use mathlib.Core.Option as option
 use Prim.Native.Nat.{ℕ, _+_, _≤_, _<_}
-use native.Mathlib.Omega.{arith}
 use lib.Dec.{eqb}
 use lib.ListN.{getD}
-use borrow.Author.Tests.{le-leb, lt-leb}
-use Rattle.der.proofs.Choices.{either}
 use Rattle.pkcs12.specs.Syntax.{none}
 use Rattle.pkcs12.specs.Encode.{attributeBytes, attributesBytes, bagsBytes, safeBytes, safesBytes}
 use Rattle.pkcs12.specs.Checks.{both}
@@ -18,12 +15,8 @@ use Rattle.pkcs12.specs.Table.{noAttribute}
 use Rattle.pkcs12.specs.declared.Enclosing.{Enclosing}
 use Rattle.pkcs12.specs.declared.Table.{Table}
 use Rattle.sizes.specs.Bodies.{attributeIn}
-use Rattle.sizes.specs.Picked.{fewer, attributeEnd, bagEnd, safeEnd, attributeValue, bagValueAt, ownAt, nothing, OnePicked, bagAt, bagsAt, SafePicked, noSafes, safeAt, safesAt}
+use Rattle.sizes.specs.Picked.{attributeEnd, bagEnd, safeEnd, attributeValue, bagValueAt, ownAt, nothing, OnePicked, bagAt, bagsAt, SafePicked, noSafes, safeAt, safesAt}
 use Rattle.sizes.proofs.Picks.{own-past, own-other, own-more, bags-past, bags-other, bags-none, bags-more, front-bytes, safes-past, safes-none, safes-more}
-
-pub fewer-bound : (a b : ℕ) → fewer a b ≤ b
-unfolding fewer
-fewer-bound a b = either b a (λ h. rw (lt-leb a b h) (omega arith)) (λ h. rw (le-leb a b h) h)
 
 -- x was seen of the whole, and the rest is to come; the whole ends where the rest does
 pub record Seen {A : Type 0} (whole rest : List ℕ) (last here : A) (x : List ℕ) : Type 0 where

@@ -232,16 +232,6 @@ module _ (t : Table) (s : List ℕ) where
     unfolding bagAt
     bag-nest below c h = rw (c, h)
 
-    -- likewise with one level less, as the code has it
-    pub bag-nest-less : bagValueAt t s n .content ≡ nested → (l ≡ 0 → ⊥)
-        → bagAt t s l k n m
-        ≡ some (record {
-          front = nest (bagsAt t s (l - 1) k (Bag n) (n + 1) m .bags) (setAt t s (bagValueAt t s n .has-set) n (bagsAt t s (l - 1) k (Bag n) (n + 1) m .attribute) .set);
-          bag = bagsAt t s (l - 1) k (Bag n) (n + 1) m .bag;
-          attribute = setAt t s (bagValueAt t s n .has-set) n (bagsAt t s (l - 1) k (Bag n) (n + 1) m .attribute) .next;
-        })
-    bag-nest-less c h = bag-nest (l - 1) c (omega arith)
-
   -- ---- safes
 
   module _ (k n m : ℕ) where

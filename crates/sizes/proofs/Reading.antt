@@ -9,7 +9,7 @@ use native.Mathlib.Omega.{arith}
 use lib.Dec.{eqb}
 use lib.ListN.{length, getD, take, drop, length-map, length-drop, drop-of-length-le, List·getD-map}
 use lib.Seq.{length-take-le, drop-cons, getD-take}
-use borrow.Author.Tests.{lt-ltb, le-ltb, le-leb, eq-eqb, ne-eqb}
+use borrow.Author.Tests.{lt-ltb, le-ltb, eq-eqb, ne-eqb}
 use Rattle.der.specs.Choice.{if_then_else_}
 use Rattle.der.proofs.Choices.{by-test, by-lt, by-eq, either}
 use Rattle.pkcs12.specs.Numbers.{safeRows, bagRows, attributeRows}
@@ -21,8 +21,8 @@ use Rattle.pkcs12.specs.Table.{noSafe, noBag, noAttribute, safeShown, bagShown,
 use Rattle.pkcs12.specs.declared.Enclosing.{Enclosing}
 use Rattle.pkcs12.specs.declared.Enclosing.the-variants.{Bag}
 use Rattle.pkcs12.specs.declared.Table.{Table}
-use Rattle.sizes.specs.Picked.{fewer, attributeEnd, bagEnd, safeEnd, attributeValue, bagValueAt, safeValueAt, OwnPicked, ownFrom, ownAt, setAt, Picked, nothing, bagsFrom, bagsAt, SafesPicked, noSafes, alsoSafe, SafePicked, safeOf, safeAt, onSafe, safesFrom, safesAt, contentsAt}
-use Rattle.sizes.proofs.Picks.{by-content, by-level, OfSome, own-past, own-other, own-more, safes-past, safes-none, safes-more}
+use Rattle.sizes.specs.Picked.{attributeEnd, bagEnd, safeEnd, attributeValue, bagValueAt, safeValueAt, OwnPicked, ownFrom, ownAt, setAt, Picked, nothing, bagsFrom, bagsAt, SafesPicked, noSafes, safeAt, safesAt, contentsAt}
+use Rattle.sizes.proofs.Picks.{by-content, by-level, own-past, own-other, own-more, safes-past, safes-none, safes-more}
 
 -- the counts are within the arrays, and these have their sizes
 pub record CountsFit (t : Table) : Type 0 where
@@ -67,9 +67,6 @@ same-choice f true true nested (suc l) x a p q d e g h i = i l
 abbrev pub Within : Table → ℕ → ℕ → Type 0
 Within t n m = (n ≤ bagEnd t) × (m ≤ attributeEnd t)
 
-abbrev pub AllWithin : Table → ℕ → SafesPicked → Type 0
-AllWithin t k p = (p .safe ≤ k) × Within t (p .bag) (p .attribute)
-
 module _ (t : Table) (s : List ℕ) where
   own-from-within : (f n m : ℕ) → ownFrom t s f n m .next ≤ m + f
   unfolding ownFrom
@@ -98,30 +95,9 @@ module _ (t : Table) (s : List ℕ) where
       (λ c. p))
       (λ h. p)
 
-  safe-of-within : (v : SafeValue) (k n m : ℕ) → Within t n m → OfSome (λ (o : SafePicked). Within t (o .bag) (o .attribute)) (safeOf t s v k n m)
+  contents-within : (k n m : ℕ) → Within t n m → Within t (contentsAt t s k n m .bag) (contentsAt t s k n m .attribute)
   unfolding bagsAt
-  safe-of-within empty-safe k n m p = tt
-  safe-of-within plain-safe k n m p = bags-within (bagEnd t - n) _ k Enclosing.None n m p
-  safe-of-within (encrypted-safe x) k n m p = p
-
-  safe-within : (k n m : ℕ) → Within t n m → OfSome (λ (o : SafePicked). Within t (o .bag) (o .attribute)) (safeAt t s k n m)
-  unfolding safeAt
-  safe-within k n m p = safe-of-within (safeValueAt t s k) k n m p
-
-  safes-from-within : (f k n m : ℕ) → Within t n m → AllWithin t (k + f) (safesFrom t s f k n m)
-  unfolding safesFrom
-  safes-from-within zero k n m p = (omega arith, p)
-  safes-from-within (suc f) k n m p = go (safeAt t s k n m) (safe-within k n m p) (λ a b w. safes-from-within f (k + 1) a b w)
-    where
-      go : (o : Option SafePicked) → OfSome (λ (u : SafePicked). Within t (u .bag) (u .attribute)) o
-          → ((a b : ℕ) → Within t a b → AllWithin t (k + 1 + f) (safesFrom t s f (k + 1) a b))
-          → AllWithin t (k + suc f) (onSafe o (noSafes k n m) (λ u. alsoSafe (u .safe) (safesFrom t s f (k + 1) (u .bag) (u .attribute))))
-      go option.none w i = (omega arith, p)
-      go (some u) w i = let j = i (u .bag) (u .attribute) w in (omega (arith, j .0), j .1)
-
-  pub safes-within : (k n m : ℕ) → k ≤ safeEnd t → Within t n m → AllWithin t (safeEnd t) (safesAt t s k n m)
-  unfolding safesAt
-  safes-within k n m h p = let j = safes-from-within (safeEnd t - k) k n m p in (omega (arith, h, j .0), j .1)
+  contents-within k n m p = bags-within (bagEnd t - n) _ k Enclosing.None n m p
 
 -- ---- safes of which every row was taken
 
@@ -150,16 +126,13 @@ mac-all m xs true true true = refl
 module _ (t : Table) (fit : CountsFit t) where
   -- where the rows end
   pub attribute-end : attributeEnd t ≡ t .«attribute_count»
-  unfolding fewer
-  attribute-end = rw (le-leb (t .«attribute_count») attributeRows (fit .attribute-count))
+  attribute-end = omega (arith, fit .attribute-count)
 
   pub bag-end : bagEnd t ≡ t .«bag_count»
-  unfolding fewer
-  bag-end = rw (le-leb (t .«bag_count») bagRows (fit .bag-count))
+  bag-end = omega (arith, fit .bag-count)
 
   pub safe-end : safeEnd t ≡ t .«safe_count»
-  unfolding fewer
-  safe-end = rw (le-leb (t .«safe_count») safeRows (fit .safe-count))
+  safe-end = omega (arith, fit .safe-count)
 
 -- what was taken by number, as what is left of the rows
 abbrev pub takenAs : Table → List ℕ → Picked → Taken
@@ -288,7 +261,7 @@ module _ (t : Table) (s : List ℕ) (fit : CountsFit t) where
         rw (safes-none t s k n m (omega (arith, safe-end t fit, h)) (rw e refl), ne-eqb k (t .«safe_count») (λ c. omega arith)) refl
     safe-next w i plain-safe e =
         let p : Picked = contentsAt t s k n m in
-        rw (contents-is k n m) (safe-more (plain (p .bags)) (p .bag) (p .attribute) (rw e refl) (i (p .bag) (p .attribute) (safe-of-within t s plain-safe k n m w)))
+        rw (contents-is k n m) (safe-more (plain (p .bags)) (p .bag) (p .attribute) (rw e refl) (i (p .bag) (p .attribute) (contents-within t s k n m w)))
     safe-next w i (encrypted-safe x) e = safe-more (encrypted x) n m (rw e refl) (i n m w)
 
   safes-done : (k n m : ℕ) → k ≡ t .«safe_count» → Within t n m → Alike k n m
@@ -320,9 +293,3 @@ module _ (t : Table) (s : List ℕ) (fit : CountsFit t) where
       let p : SafesPicked = safesAt t s 0 0 0 in
       ap (withMac (macShown s (t .mac))) (safes-are 0 0 0 (omega arith) (omega arith) (omega arith))
       ∙ mac-all (macShown s (t .mac)) (p .safes) (eqb (p .safe) (t .«safe_count»)) (eqb (p .bag) (t .«bag_count»)) (eqb (p .attribute) (t .«attribute_count»))
-
-  -- no count is passed
-  pub counts-bound : (safesAt t s 0 0 0 .safe ≤ t .«safe_count») × (safesAt t s 0 0 0 .bag ≤ t .«bag_count») × (safesAt t s 0 0 0 .attribute ≤ t .«attribute_count»)
-  counts-bound =
-      let w = safes-within t s 0 0 0 (omega arith) (omega arith, omega arith) in
-      (omega (arith, w .0, safe-end t fit), omega (arith, w .1 .0, bag-end t fit), omega (arith, w .1 .1, attribute-end t fit))

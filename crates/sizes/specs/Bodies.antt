@@ -2,10 +2,10 @@
 use mathlib.Core.List.{List, [], _++_}
 use Prim.Native.Nat.{ℕ}
 use Rattle.der.specs.Octets.{tlv}
-use Rattle.pkcs12.specs.Numbers.{setTag, contextTag, ciphertextTag, pfxVersion, encryptedVersion}
-use Rattle.pkcs12.specs.Identifiers.{dataType, identifierOf}
-use Rattle.pkcs12.specs.Syntax.{Algorithm, Sealed, Attribute, Set, MacData, Pfx}
-use Rattle.pkcs12.specs.Encode.{integer, octetString, identifier, algorithmBytes, sealedBytes, dataBytes, setBytes, leafBytes, encryptedInfo, safesBytes, iterationsBytes, macBytes}
+use Rattle.pkcs12.specs.Numbers.{setTag, contextTag, ciphertextTag, encryptedVersion}
+use Rattle.pkcs12.specs.Identifiers.{dataType}
+use Rattle.pkcs12.specs.Syntax.{Algorithm, Sealed, Attribute, MacData}
+use Rattle.pkcs12.specs.Encode.{integer, octetString, identifier, algorithmBytes, sealedBytes, leafBytes, encryptedInfo, iterationsBytes}
 use Rattle.pkcs12.specs.Values.{onContent}
 use Rattle.pkcs12.specs.Table.{bytesIn, contentIn}
 use Rattle.pkcs12.specs.declared.Parts.{Parts}
@@ -31,20 +31,11 @@ attributeIn s r = record { identifier = bytesIn s (r .identifier); values = byte
 unfoldable pub attributeBody : Attribute → List ℕ
 attributeBody a = identifier (a .identifier) ++ tlv setTag (a .values)
 
-unfoldable pub bagBody : BagKind → List ℕ → Set → List ℕ
-bagBody k content set = identifier (identifierOf k) ++ (tlv contextTag content ++ setBytes set)
-
 unfoldable pub encryptedInfoBody : Sealed → List ℕ
 encryptedInfoBody x = identifier dataType ++ (algorithmBytes (x .algorithm) ++ tlv ciphertextTag (x .octets))
 
 unfoldable pub encryptedDataBody : Sealed → List ℕ
 encryptedDataBody x = integer encryptedVersion ++ encryptedInfo x
 
-unfoldable pub contentInfoBody : List ℕ → List ℕ → List ℕ
-contentInfoBody type content = identifier type ++ tlv contextTag content
-
 unfoldable pub macBody : MacData → List ℕ
 macBody m = sealedBytes (m .digest) ++ (octetString (m .salt) ++ iterationsBytes (m .iterations))
-
-unfoldable pub pfxBody : Pfx → List ℕ
-pfxBody x = integer pfxVersion ++ (dataBytes (safesBytes (x .safes)) ++ macBytes (x .mac))

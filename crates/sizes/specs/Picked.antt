@@ -3,12 +3,12 @@ use mathlib.Core.Bool.{Bool, true, false}
 use mathlib.Core.List.{List, [], _∷_}
 use mathlib.Core.Option.{Option, some}
 use mathlib.Core.Option as option
-use Prim.Native.Nat.{ℕ, zero, suc, _+_, _-_}
-use lib.Dec.{leb, ltb, eqb}
+use Prim.Native.Nat.{ℕ, zero, suc, _+_, _-_, min}
+use lib.Dec.{ltb, eqb}
 use lib.ListN.{getD}
 use Rattle.der.specs.Choice.{if_then_else_}
 use Rattle.pkcs12.specs.Numbers.{safeRows, bagRows, attributeRows, levels}
-use Rattle.pkcs12.specs.Syntax.{Leaf, Attribute, Set, absent, present, Bags, none, bag, nest, Safe, plain, encrypted}
+use Rattle.pkcs12.specs.Syntax.{Attribute, Set, absent, present, Bags, none, bag, nest, Safe, plain, encrypted}
 use Rattle.pkcs12.specs.Checks.{both}
 use Rattle.pkcs12.specs.Values.{SafeValue, empty-safe, plain-safe, encrypted-safe, BagValue, AttributeValue, sameEnclosing, onContent, onLevel}
 use Rattle.pkcs12.specs.Table.{noSafe, noBag, noAttribute, safeShown, bagShown, attributeShown}
@@ -20,17 +20,14 @@ use Rattle.pkcs12.specs.declared.Table.{Table}
 use Rattle.sizes.specs.declared.rows.Form.{Form}
 
 -- rows that are counted and that there are
-unfoldable pub fewer : ℕ → ℕ → ℕ
-fewer count rows = if leb count rows then count else rows
-
 abbrev pub attributeEnd : Table → ℕ
-attributeEnd t = fewer (t .«attribute_count») attributeRows
+attributeEnd t = min (t .«attribute_count») attributeRows
 
 abbrev pub bagEnd : Table → ℕ
-bagEnd t = fewer (t .«bag_count») bagRows
+bagEnd t = min (t .«bag_count») bagRows
 
 abbrev pub safeEnd : Table → ℕ
-safeEnd t = fewer (t .«safe_count») safeRows
+safeEnd t = min (t .«safe_count») safeRows
 
 -- what a row shows
 abbrev pub attributeValue : Table → List ℕ → ℕ → AttributeValue

@@ -8,7 +8,7 @@ ghost use Rattle.pkcs12.specs.Numbers.{bagRows};
 ghost use Rattle.pkcs12.specs.Checks.{both};
 ghost use Rattle.pkcs12.specs.Table.{noSafe, noBag};
 ghost use Rattle.pkcs12.specs.Values.{sameEnclosing};
-ghost use Rattle.sizes.specs.Picked.{fewer, formOf, setAt, bagAt, bagsAt, safeAt, safesAt};
+ghost use Rattle.sizes.specs.Picked.{formOf, setAt, bagAt, bagsAt, safeAt, safesAt};
 ghost use Rattle.sizes.specs.Sizes.{elementSize, bagSize, sizedAs, oneOf, withSafe, presentAs, setSized, oneSized, takenSized, safeSized, safesSized};
 use pkcs12::BagKind;
 use pkcs12::BagRow;
@@ -55,16 +55,6 @@ pub struct Safes {
     pub attribute: usize,
 }
 
-// The fewer of the two: rows that are counted, rows that there are.
-pub fn fewer(count: usize, rows: usize) -> usize
-    ensures { λ r. ⌜ r ≡ fewer count rows ⌝ }
-{
-    if count <= rows {
-        return count;
-    }
-    rows
-}
-
 // A set that stands there, by the size of its attributes.
 fn present(body: usize, next: usize) -> Owned
     ensures { λ r. ⌜ r ≡ presentAs body next ⌝ }
@@ -84,7 +74,7 @@ pub fn set(table: Table, bytes: &[u8], has_set: bool, bag: usize, from: usize) -
             next: from,
         };
     }
-    let end = fewer(table.attribute_count, pkcs12::ATTRIBUTE_ROWS);
+    let end = pkcs12::fewer(table.attribute_count, pkcs12::ATTRIBUTE_ROWS);
     let mut body: usize = 0;
     let mut next = from;
     while next < end {
@@ -225,7 +215,7 @@ pub fn bags(
 ) -> Taken
     ensures { λ r. ⌜ r ≡ takenSized (bagsAt table (now (bytes .entry)) level safe enclosing first from) ⌝ }
 {
-    let end = fewer(table.bag_count, pkcs12::BAG_ROWS);
+    let end = pkcs12::fewer(table.bag_count, pkcs12::BAG_ROWS);
     let mut taken = Taken {
         size: 0,
         bag: first,
@@ -285,7 +275,7 @@ fn safe(table: Table, bytes: &[u8], row: SafeRow, k: usize, first: usize, from: 
 pub fn all_safes(table: Table, bytes: &[u8]) -> Safes
     ensures { λ r. ⌜ r ≡ safesSized (safesAt table (now (bytes .entry)) 0 0 0) ⌝ }
 {
-    let end = fewer(table.safe_count, pkcs12::SAFE_ROWS);
+    let end = pkcs12::fewer(table.safe_count, pkcs12::SAFE_ROWS);
     let mut taken = Taken {
         size: 0,
         bag: 0,

@@ -182,7 +182,7 @@ each-take g xs d (suc n) h e = rw (each-take g xs d n (omega arith) (λ i l. e i
 pub rows-back : {A : Type 0} (P : A → Type 0) (words : A → List ℕ) (read : ℕ → A) (width rows count : ℕ) (none : A) (xs : List A) (ws : List ℕ) (at : ℕ)
     → ((x : A) → length (words x) ≡ width) → ((p : ℕ) (x : A) → P x → Stands ws p (words x) → read p ≡ x)
     → count ≤ rows → count ≡ length (take count xs) → xs ≡ padded rows none (take count xs) → Each P (take count xs)
-    → Stands ws at (rowsWords (λ i. words (getD xs i none)) width rows count)
+    → Stands ws at (rowsWords words none width rows xs count)
     → rowsFrom (λ i. read (at + i * width)) none rows count ≡ xs
 unfolding rowsWords rowsFrom
 rows-back P words read width rows count none xs ws at long back few all past fits s =

@@ -1,38 +1,62 @@
--- A table that fits is loaded from its words, whatever stands behind them.
+-- The table of parts that were read; a table that fits is loaded from its words, whatever stands behind them.
 use mathlib.Core.Path.{_≡_, refl, ap, _∙_}
 use mathlib.Core.List.{List, [], _∷_, _++_}
 use Prim.Native.Nat.{ℕ, _+_, _≤_}
 use native.Mathlib.Omega.{arith}
 use lib.ListN.{length, take}
 use Rattle.pkcs12.specs.Numbers.{safeRows, bagRows, attributeRows}
-use Rattle.pkcs12.specs.Table.{noSafe, noBag, noAttribute, padded, tableOf, rowsIn}
+use Rattle.pkcs12.specs.Table.{noSafe, noBag, noAttribute, padded, table, tableOf, rowsIn}
 use Rattle.pkcs12.specs.declared.Table.{Table}
-use Rattle.words.specs.Layout.{safeWidth, bagWidth, attributeWidth, macInputAt, macFieldsAt, safesAt, bagsAt, attributesAt, greatestWord}
+use Rattle.words.specs.Layout.{safeWidth, bagWidth, attributeWidth, elementsAt, safeCountAt, bagCountAt, attributeCountAt, macInputAt, macFieldsAt, safesAt, bagsAt, attributesAt, greatestWord}
 use Rattle.words.specs.Stored.{countWord, countWords, rangeWords, macWords, safeWords, bagWords, attributeWords, headWords, safesWords, bagsWords, attributesWords, wordsOf}
 use Rattle.words.specs.Loaded.{wordAt, rangeAt, safeAt, bagAt, attributeAt, macAt, safeFrom, bagFrom, attributeFrom, rowsFrom, tableIn}
 use Rattle.words.specs.Wordable.{SafeFits, BagFits, AttributeFits, Wordable}
 use Rattle.words.proofs.Whole.{safes-length, bags-length}
 use Rattle.words.proofs.Back.{Stands, stands-front, stands-back, stands-word, range-back, safe-back, bag-back, attribute-back, mac-back, rows-back}
 
+-- each part is what the words have at its place
+module _ (ws : List ℕ) (t : Table) where
+  pub table-read : t .«safe_count» ≡ wordAt ws safeCountAt → t .«bag_count» ≡ wordAt ws bagCountAt → t .«attribute_count» ≡ wordAt ws attributeCountAt
+      → t .elements ≡ wordAt ws elementsAt
+      → t .safes ≡ rowsFrom (safeFrom ws) noSafe safeRows (t .«safe_count»)
+      → t .bags ≡ rowsFrom (bagFrom ws) noBag bagRows (t .«bag_count»)
+      → t .attributes ≡ rowsFrom (attributeFrom ws) noAttribute attributeRows (t .«attribute_count»)
+      → t .mac ≡ macAt ws macFieldsAt → t .«mac_input» ≡ rangeAt ws macInputAt → t ≡ tableIn ws
+  unfolding tableIn
+  table-read i j k n x y z m r =
+      let xs = x ∙ ap (rowsFrom (safeFrom ws) noSafe safeRows) i in
+      let ys = y ∙ ap (rowsFrom (bagFrom ws) noBag bagRows) j in
+      let zs = z ∙ ap (rowsFrom (attributeFrom ws) noAttribute attributeRows) k in
+      λ l. table (xs l) (i l) (ys l) (j l) (zs l) (k l) (m l) (r l) (n l)
+
 count-same : (n : ℕ) → n ≤ greatestWord → countWord n ≡ n
 count-same n h = omega arith
 
 module _ (t : Table) (w : Wordable t) (ws : List ℕ) (s : Stands ws 0 (wordsOf t)) where
+  abbrev safes : List ℕ
+  safes = safesWords (t .safes) (t .«safe_count»)
+
+  abbrev bags : List ℕ
+  bags = bagsWords (t .bags) (t .«bag_count»)
+
+  abbrev attributes : List ℕ
+  attributes = attributesWords (t .attributes) (t .«attribute_count»)
+
   -- ---- where the parts stand
 
   head-stands : Stands ws 0 (headWords t)
   unfolding wordsOf
   head-stands = stands-front ws 0 (headWords t) _ s
 
-  rows-stand : Stands ws safesAt (safesWords t ++ (bagsWords t ++ attributesWords t))
+  rows-stand : Stands ws safesAt (safes ++ (bags ++ attributes))
   unfolding wordsOf
   rows-stand = stands-back ws 0 (headWords t) _ s
 
-  past-safes : Stands ws bagsAt (bagsWords t ++ attributesWords t)
-  past-safes = rw (safes-length t) at (stands-back ws safesAt (safesWords t) (bagsWords t ++ attributesWords t) rows-stand)
+  past-safes : Stands ws bagsAt (bags ++ attributes)
+  past-safes = rw (safes-length (t .safes) (t .«safe_count»)) at (stands-back ws safesAt safes (bags ++ attributes) rows-stand)
 
-  past-bags : Stands ws attributesAt (attributesWords t)
-  past-bags = rw (bags-length t) at (stands-back ws bagsAt (bagsWords t) (attributesWords t) past-safes)
+  past-bags : Stands ws attributesAt attributes
+  past-bags = rw (bags-length (t .bags) (t .«bag_count»)) at (stands-back ws bagsAt bags attributes past-safes)
 
   -- ---- the head
 
@@ -80,13 +104,13 @@ module _ (t : Table) (w : Wordable t) (ws : List ℕ) (s : Stands ws 0 (wordsOf 
   unfolding rowsIn
   safes-back =
       rows-back SafeFits safeWords (safeAt ws) safeWidth safeRows (t .«safe_count») noSafe (t .safes) ws safesAt (λ x. refl) (safe-back ws) (w .safe-count) safe-number safe-rows
-      (w .safes) (stands-front ws safesAt (safesWords t) (bagsWords t ++ attributesWords t) rows-stand)
+      (w .safes) (stands-front ws safesAt safes (bags ++ attributes) rows-stand)
 
   bags-back : rowsFrom (bagFrom ws) noBag bagRows (t .«bag_count») ≡ t .bags
   unfolding rowsIn
   bags-back =
       rows-back BagFits bagWords (bagAt ws) bagWidth bagRows (t .«bag_count») noBag (t .bags) ws bagsAt (λ x. refl) (bag-back ws) (w .bag-count) bag-number bag-rows (w .bags)
-      (stands-front ws bagsAt (bagsWords t) (attributesWords t) past-safes)
+      (stands-front ws bagsAt bags attributes past-safes)
 
   attributes-back : rowsFrom (attributeFrom ws) noAttribute attributeRows (t .«attribute_count») ≡ t .attributes
   unfolding rowsIn

@@ -1,10 +1,10 @@
 -- Rows of one kind, one by one: stored behind one another, or collected in an array; for any width and any kind.
 use mathlib.Core.Path.{_≡_, refl, sym, ap, _∙_}
-use mathlib.Core.List.{List, [], _∷_, _++_}
+use mathlib.Core.List.{List, [], _∷_}
 use Prim.Native.Nat.{ℕ, zero, suc, _+_, _-_, _*_, _≤_, _<_, min}
 use native.Mathlib.Nat.{zero-mul, suc-mul, mul-one, add-mul}
 use native.Mathlib.Omega.{arith}
-use lib.ListN.{length, set, replicate, length-append, length-replicate}
+use lib.ListN.{length, getD, set, replicate, length-append, length-replicate}
 use Rattle.pkcs12.specs.Table.{padded}
 use Rattle.pkcs12.specs.Placed.{each}
 use Rattle.pkcs12.proofs.Placing.{each-more}
@@ -20,38 +20,49 @@ each-length f w h zero = sym (zero-mul w)
 each-length f w h (suc n) = length-append (each f n) (f n) ∙ rw (each-length f w h n, h n, suc-mul n w)
 
 -- rows of a width fill as many words as there are rows
-pub rows-length : (f : ℕ → List ℕ) (w rows count : ℕ) → ((i : ℕ) → length (f i) ≡ w) → length (rowsWords f w rows count) ≡ rows * w
+pub rows-length : {A : Type 0} (words : A → List ℕ) (none : A) (width size : ℕ) (rows : List A) (count : ℕ) → ((x : A) → length (words x) ≡ width)
+    → length (rowsWords words none width size rows count) ≡ size * width
 unfolding rowsWords
-rows-length f w rows count h =
-    let k : min count rows + (rows - min count rows) ≡ rows = omega arith in
-    length-append (each f (min count rows)) _
-    ∙ rw (each-length f w h (min count rows), length-replicate {A = ℕ} ((rows - min count rows) * w) 0, ← (add-mul (min count rows) (rows - min count rows) w), k)
+rows-length words none width size rows count h =
+    let k : min count size + (size - min count size) ≡ size = omega arith in
+    length-append (each (λ i. words (getD rows i none)) (min count size)) _
+    ∙ rw (
+      each-length (λ i. words (getD rows i none)) width (λ i. h (getD rows i none)) (min count size),
+      length-replicate {A = ℕ} ((size - min count size) * width) 0,
+      ← (add-mul (min count size) (size - min count size) width),
+      k,
+    )
 
 -- ---- storing
 
-module _ (f : ℕ → List ℕ) (rows : ℕ) (d : List ℕ) (at end : ℕ) where
+module _ {A : Type 0} (words : A → List ℕ) (none : A) (size : ℕ) (rows : List A) (d : List ℕ) (at end : ℕ) where
   -- i rows are stored
   pub record Storing (e : List ℕ) (r i : ℕ) : Type 0 where
     pub within : i ≤ end
-    pub few : end ≤ rows
-    pub put : Put d at (each f i) e r
+    pub few : end ≤ size
+    pub put : Put d at (each (λ j. words (getD rows j none)) i) e r
     pub long : length e ≡ length d
 
-  pub store-start : (count : ℕ) → end ≡ min count rows → Storing d at 0
+  pub store-start : (count : ℕ) → end ≡ min count size → Storing d at 0
   unfolding each
   store-start count p = record { within = omega arith; few = omega (arith, p); put = put-nothing d at; long = refl }
 
   module _ (e : List ℕ) (r i : ℕ) (g : Storing e r i) where
-    pub store-turn : (m : List ℕ) (q : ℕ) → i < end → length m ≡ length e → Put e r (f i) m q → Storing m q (i + 1)
+    pub store-turn : (m : List ℕ) (q : ℕ) → i < end → length m ≡ length e → Put e r (words (getD rows i none)) m q → Storing m q (i + 1)
     store-turn m q h l p =
-        record { within = omega (arith, h); few = g .few; put = rw each-more (put-then d at (each f i) e r (f i) m q (g .put) p); long = l ∙ g .long }
+        record {
+          within = omega (arith, h);
+          few = g .few;
+          put = rw each-more (put-then d at (each (λ j. words (getD rows j none)) i) e r (words (getD rows i none)) m q (g .put) p);
+          long = l ∙ g .long;
+        }
 
-    pub store-end : (width count : ℕ) (m : List ℕ) (q : ℕ) → end ≡ min count rows → end ≤ i → Put e r (replicate ((rows - end) * width) 0) m q
-        → Put d at (rowsWords f width rows count) m q
+    pub store-end : (width count : ℕ) (m : List ℕ) (q : ℕ) → end ≡ min count size → end ≤ i → Put e r (replicate ((size - end) * width) 0) m q
+        → Put d at (rowsWords words none width size rows count) m q
     unfolding rowsWords
     store-end width count m q p h z =
         let s : i ≡ end = omega (arith, h, g .within) in
-        rw (← p) (put-then d at (each f end) e r (replicate ((rows - end) * width) 0) m q (rw s at (g .put)) z)
+        rw (← p) (put-then d at (each (λ j. words (getD rows j none)) end) e r (replicate ((size - end) * width) 0) m q (rw s at (g .put)) z)
 
 -- ---- collecting
 

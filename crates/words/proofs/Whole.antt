@@ -8,34 +8,47 @@ use lib.Dec.{ltb}
 use lib.ListN.{length, length-append}
 use Rattle.der.specs.Choice.{if_then_else_}
 use Rattle.pkcs12.specs.Numbers.{safeRows, bagRows, attributeRows, noRoom}
+use Rattle.pkcs12.specs.Table.{noSafe, noBag, noAttribute}
 use Rattle.pkcs12.specs.Written.{Outcome, refusal, success}
+use Rattle.pkcs12.specs.declared.SafeRow.{SafeRow}
+use Rattle.pkcs12.specs.declared.BagRow.{BagRow}
 use Rattle.pkcs12.specs.declared.AttributeRow.{AttributeRow}
 use Rattle.pkcs12.specs.declared.Table.{Table}
 use Rattle.pkcs12.specs.declared.Written.{Written}
 use Rattle.pkcs12.specs.declared.Written.the-variants.{Length}
 use Rattle.pkcs12.proofs.Placing.{placed-whole}
 use Rattle.words.specs.Layout.{safeWidth, bagWidth, attributeWidth, tableWords}
-use Rattle.words.specs.Stored.{headWords, safeWordsOf, bagWordsOf, attributeWordsOf, safesWords, bagsWords, attributesWords, attributeWords, wordsOf, stored, storedRow}
+use Rattle.words.specs.Stored.{headWords, safeWords, bagWords, attributeWords, safesWords, bagsWords, attributesWords, wordsOf, stored, storedRow}
 use Rattle.words.specs.Put.{Put}
 use Rattle.words.proofs.Rows.{rows-length}
 
-module _ (t : Table) where
-  pub safes-length : length (safesWords t) ≡ safeRows * safeWidth
-  safes-length = rows-length (safeWordsOf t) safeWidth safeRows (t .«safe_count») (λ i. refl)
+pub safes-length : (rows : List SafeRow) (count : ℕ) → length (safesWords rows count) ≡ safeRows * safeWidth
+safes-length rows count = rows-length safeWords noSafe safeWidth safeRows rows count (λ x. refl)
 
-  pub bags-length : length (bagsWords t) ≡ bagRows * bagWidth
-  bags-length = rows-length (bagWordsOf t) bagWidth bagRows (t .«bag_count») (λ i. refl)
+pub bags-length : (rows : List BagRow) (count : ℕ) → length (bagsWords rows count) ≡ bagRows * bagWidth
+bags-length rows count = rows-length bagWords noBag bagWidth bagRows rows count (λ x. refl)
 
-  pub attributes-length : length (attributesWords t) ≡ attributeRows * attributeWidth
-  attributes-length = rows-length (attributeWordsOf t) attributeWidth attributeRows (t .«attribute_count») (λ i. refl)
+pub attributes-length : (rows : List AttributeRow) (count : ℕ) → length (attributesWords rows count) ≡ attributeRows * attributeWidth
+attributes-length rows count = rows-length attributeWords noAttribute attributeWidth attributeRows rows count (λ x. refl)
 
-  pub words-length : length (wordsOf t) ≡ tableWords
-  unfolding wordsOf
-  words-length =
-      let a = length-append (headWords t) (safesWords t ++ (bagsWords t ++ attributesWords t)) in
-      let b = length-append (safesWords t) (bagsWords t ++ attributesWords t) in
-      let c = length-append (bagsWords t) (attributesWords t) in
-      omega (arith, a, b, c, safes-length, bags-length, attributes-length)
+pub words-length : (t : Table) → length (wordsOf t) ≡ tableWords
+unfolding wordsOf
+words-length t =
+    let x : List ℕ = safesWords (t .safes) (t .«safe_count») in
+    let y : List ℕ = bagsWords (t .bags) (t .«bag_count») in
+    let z : List ℕ = attributesWords (t .attributes) (t .«attribute_count») in
+    let a = length-append (headWords t) (x ++ (y ++ z)) in
+    let b = length-append x (y ++ z) in
+    let c = length-append y z in
+    omega (
+      arith,
+      a,
+      b,
+      c,
+      safes-length (t .safes) (t .«safe_count»),
+      bags-length (t .bags) (t .«bag_count»),
+      attributes-length (t .attributes) (t .«attribute_count»),
+    )
 
 -- the outcomes of storing words x of a known number
 module _ (x : List ℕ) (n : ℕ) (l : length x ≡ n) (room : List ℕ) where
@@ -51,8 +64,8 @@ module _ (x : List ℕ) (n : ℕ) (l : length x ≡ n) (room : List ℕ) where
       enough : o ≡ success x room
       enough = is ∙ rw (le-ltb (length room) n h)
 
-      stored-answer : Length n ≡ o .answer
-      stored-answer = ap {B = Written} Length (sym l) ∙ sym (ap (λ (y : Outcome). y .answer) enough)
+      stored-answer : (k : ℕ) → k ≡ n → Length k ≡ o .answer
+      stored-answer k e = ap {B = Written} Length (e ∙ sym l) ∙ sym (ap (λ (y : Outcome). y .answer) enough)
 
       stored-memory : (e : List ℕ) (r : ℕ) → Put room 0 x e r → e ≡ o .buffer
       stored-memory e r p =
@@ -71,7 +84,7 @@ module _ (t : Table) (room : List ℕ) where
   pub stored-whole : tableWords ≤ length room → stored t room ≡ success (wordsOf t) room
   stored-whole = enough (wordsOf t) tableWords (words-length t) room (stored t room) is-table
 
-  pub table-answer : tableWords ≤ length room → Length tableWords ≡ stored t room .answer
+  pub table-answer : tableWords ≤ length room → (k : ℕ) → k ≡ tableWords → Length k ≡ stored t room .answer
   table-answer = stored-answer (wordsOf t) tableWords (words-length t) room (stored t room) is-table
 
   pub table-memory : tableWords ≤ length room → (e : List ℕ) (r : ℕ) → Put room 0 (wordsOf t) e r → e ≡ stored t room .buffer
@@ -86,7 +99,7 @@ module _ (x : AttributeRow) (room : List ℕ) where
   pub few-for-row : length room < attributeWidth → storedRow x room ≡ refusal noRoom room
   few-for-row = too-few (attributeWords x) attributeWidth refl room (storedRow x room) is-row
 
-  pub row-answer : attributeWidth ≤ length room → Length attributeWidth ≡ storedRow x room .answer
+  pub row-answer : attributeWidth ≤ length room → (k : ℕ) → k ≡ attributeWidth → Length k ≡ storedRow x room .answer
   row-answer = stored-answer (attributeWords x) attributeWidth refl room (storedRow x room) is-row
 
   pub row-memory : attributeWidth ≤ length room → (e : List ℕ) (r : ℕ) → Put room 0 (attributeWords x) e r → e ≡ storedRow x room .buffer

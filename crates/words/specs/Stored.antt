@@ -76,34 +76,29 @@ headWords t =
     countWords (t .elements) (t .«safe_count») (t .«bag_count») (t .«attribute_count») ++ (rangeWords (t .«mac_input») ++ macWords (t .mac))
 
 -- rows of one kind: those that are counted and that there are, and zeros in place of the others
-unfoldable pub rowsWords : (ℕ → List ℕ) → ℕ → ℕ → ℕ → List ℕ
-rowsWords f width rows count = each f (min count rows) ++ replicate ((rows - min count rows) * width) 0
+unfoldable pub rowsWords : {A : Type 0} → (A → List ℕ) → A → ℕ → ℕ → List A → ℕ → List ℕ
+rowsWords words none width size rows count =
+    each (λ i. words (getD rows i none)) (min count size) ++ replicate ((size - min count size) * width) 0
 
-abbrev pub safeWordsOf : Table → ℕ → List ℕ
-safeWordsOf t i = safeWords (getD (t .safes) i noSafe)
+abbrev pub safesWords : List SafeRow → ℕ → List ℕ
+safesWords rows count = rowsWords safeWords noSafe safeWidth safeRows rows count
 
-abbrev pub safesWords : Table → List ℕ
-safesWords t = rowsWords (safeWordsOf t) safeWidth safeRows (t .«safe_count»)
+abbrev pub bagsWords : List BagRow → ℕ → List ℕ
+bagsWords rows count = rowsWords bagWords noBag bagWidth bagRows rows count
 
-abbrev pub bagWordsOf : Table → ℕ → List ℕ
-bagWordsOf t i = bagWords (getD (t .bags) i noBag)
-
-abbrev pub bagsWords : Table → List ℕ
-bagsWords t = rowsWords (bagWordsOf t) bagWidth bagRows (t .«bag_count»)
-
-abbrev pub attributeWordsOf : Table → ℕ → List ℕ
-attributeWordsOf t i = attributeWords (getD (t .attributes) i noAttribute)
-
-abbrev pub attributesWords : Table → List ℕ
-attributesWords t = rowsWords (attributeWordsOf t) attributeWidth attributeRows (t .«attribute_count»)
+abbrev pub attributesWords : List AttributeRow → ℕ → List ℕ
+attributesWords rows count = rowsWords attributeWords noAttribute attributeWidth attributeRows rows count
 
 unfoldable pub wordsOf : Table → List ℕ
-wordsOf t = headWords t ++ (safesWords t ++ (bagsWords t ++ attributesWords t))
+wordsOf t =
+    headWords t
+    ++ (safesWords (t .safes) (t .«safe_count»)
+    ++ (bagsWords (t .bags) (t .«bag_count») ++ attributesWords (t .attributes) (t .«attribute_count»)))
 
 -- the answer, and the memory afterwards
 unfoldable pub stored : Table → List ℕ → Outcome
-stored t room = if ltb (length room) tableWords then refusal noRoom room else success (wordsOf t) room
+stored t memory = if ltb (length memory) tableWords then refusal noRoom memory else success (wordsOf t) memory
 
 -- one attribute row by itself
 unfoldable pub storedRow : AttributeRow → List ℕ → Outcome
-storedRow r room = if ltb (length room) attributeWidth then refusal noRoom room else success (attributeWords r) room
+storedRow r memory = if ltb (length memory) attributeWidth then refusal noRoom memory else success (attributeWords r) memory

@@ -5,7 +5,6 @@ ghost use Rattle.pkcs12.specs.Numbers.{safeRows, bagRows, attributeRows};
 ghost use Rattle.pkcs12.specs.Table.{noSafe, noBag, noAttribute};
 ghost use Rattle.words.specs.Layout.{rangeWidth, partsWidth, safeWidth, bagWidth, attributeWidth, macWidth, tableWords};
 ghost use Rattle.words.specs.Loaded.{wordAt, numberOf, enclosingOf, safeKindOf, bagKindOf, setOf, rangeAt, partsAt, safeAt, bagAt, attributeAt, macAt, safeFrom, bagFrom, attributeFrom, rowsFrom};
-use crate::put;
 use pkcs12::AttributeRow;
 use pkcs12::BagKind;
 use pkcs12::BagRow;
@@ -172,7 +171,7 @@ pub(crate) fn mac(words: &[u32], at: usize) -> Mac
 pub(crate) fn safes(words: &[u32], count: usize) -> [SafeRow; pkcs12::SAFE_ROWS]
     ensures { λ r. ⌜ r ≡ rowsFrom (safeFrom (now (words .entry))) noSafe safeRows count ⌝ }
 {
-    let end = put::fewer(count, pkcs12::SAFE_ROWS);
+    let end = pkcs12::fewer(count, pkcs12::SAFE_ROWS);
     let mut rows = [SafeRow::EMPTY; pkcs12::SAFE_ROWS];
     let mut i: usize = 0;
     while i < end {
@@ -186,7 +185,7 @@ pub(crate) fn safes(words: &[u32], count: usize) -> [SafeRow; pkcs12::SAFE_ROWS]
 pub(crate) fn bags(words: &[u32], count: usize) -> [BagRow; pkcs12::BAG_ROWS]
     ensures { λ r. ⌜ r ≡ rowsFrom (bagFrom (now (words .entry))) noBag bagRows count ⌝ }
 {
-    let end = put::fewer(count, pkcs12::BAG_ROWS);
+    let end = pkcs12::fewer(count, pkcs12::BAG_ROWS);
     let mut rows = [BagRow::EMPTY; pkcs12::BAG_ROWS];
     let mut i: usize = 0;
     while i < end {
@@ -200,7 +199,7 @@ pub(crate) fn bags(words: &[u32], count: usize) -> [BagRow; pkcs12::BAG_ROWS]
 pub(crate) fn attributes(words: &[u32], count: usize) -> [AttributeRow; pkcs12::ATTRIBUTE_ROWS]
     ensures { λ r. ⌜ r ≡ rowsFrom (attributeFrom (now (words .entry))) noAttribute attributeRows count ⌝ }
 {
-    let end = put::fewer(count, pkcs12::ATTRIBUTE_ROWS);
+    let end = pkcs12::fewer(count, pkcs12::ATTRIBUTE_ROWS);
     let mut rows = [AttributeRow::EMPTY; pkcs12::ATTRIBUTE_ROWS];
     let mut i: usize = 0;
     while i < end {

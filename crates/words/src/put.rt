@@ -2,7 +2,6 @@
 // before anything is stored.
 ghost use mathlib.Core.Path.{_≡_};
 ghost use mathlib.Core.List.{[], _∷_};
-ghost use Prim.Native.Nat.{min};
 ghost use lib.ListN.{replicate};
 ghost use Rattle.words.specs.Stored.{countWord, safeNumber, bagNumber, enclosingNumber, setNumber, rangeWords, partsWords, safeWords, bagWords, attributeWords, macWords, countWords, headWords, safesWords, bagsWords, attributesWords, wordsOf};
 ghost use Rattle.words.specs.Put.{Put};
@@ -17,21 +16,11 @@ use pkcs12::SafeKind;
 use pkcs12::SafeRow;
 use pkcs12::Table;
 
-// The fewer of the two: rows that are counted, rows that there are.
-pub(crate) fn fewer(count: usize, rows: usize) -> usize
-    ensures { λ r. ⌜ r ≡ min count rows ⌝ }
-{
-    if count <= rows {
-        return count;
-    }
-    rows
-}
-
 // A count as a word.
 fn count_word(n: usize) -> u32
     ensures { λ r. ⌜ r ≡ countWord n ⌝ }
 {
-    let fits = fewer(n, crate::GREATEST_WORD);
+    let fits = pkcs12::fewer(n, crate::GREATEST_WORD);
     fits as u32
 }
 
@@ -209,14 +198,14 @@ fn head(out: &mut [u32], at: usize, table: Table) -> usize
     mac(out, fields, table.mac)
 }
 
-fn safes(out: &mut [u32], at: usize, table: Table) -> usize
-    ensures { λ r. ⌜ Put (now (out .entry)) at (safesWords table) (now (out .exit)) r ⌝ }
+fn safes(out: &mut [u32], at: usize, rows: [SafeRow; pkcs12::SAFE_ROWS], count: usize) -> usize
+    ensures { λ r. ⌜ Put (now (out .entry)) at (safesWords rows count) (now (out .exit)) r ⌝ }
 {
-    let end = fewer(table.safe_count, pkcs12::SAFE_ROWS);
+    let end = pkcs12::fewer(count, pkcs12::SAFE_ROWS);
     let mut to = at;
     let mut i: usize = 0;
     while i < end {
-        let row = table.safes[i];
+        let row = rows[i];
         to = safe(out, to, row);
         i = i + 1;
     }
@@ -224,14 +213,14 @@ fn safes(out: &mut [u32], at: usize, table: Table) -> usize
     zeros(out, to, left)
 }
 
-fn bags(out: &mut [u32], at: usize, table: Table) -> usize
-    ensures { λ r. ⌜ Put (now (out .entry)) at (bagsWords table) (now (out .exit)) r ⌝ }
+fn bags(out: &mut [u32], at: usize, rows: [BagRow; pkcs12::BAG_ROWS], count: usize) -> usize
+    ensures { λ r. ⌜ Put (now (out .entry)) at (bagsWords rows count) (now (out .exit)) r ⌝ }
 {
-    let end = fewer(table.bag_count, pkcs12::BAG_ROWS);
+    let end = pkcs12::fewer(count, pkcs12::BAG_ROWS);
     let mut to = at;
     let mut i: usize = 0;
     while i < end {
-        let row = table.bags[i];
+        let row = rows[i];
         to = bag(out, to, row);
         i = i + 1;
     }
@@ -239,14 +228,19 @@ fn bags(out: &mut [u32], at: usize, table: Table) -> usize
     zeros(out, to, left)
 }
 
-fn attributes(out: &mut [u32], at: usize, table: Table) -> usize
-    ensures { λ r. ⌜ Put (now (out .entry)) at (attributesWords table) (now (out .exit)) r ⌝ }
+fn attributes(
+    out: &mut [u32],
+    at: usize,
+    rows: [AttributeRow; pkcs12::ATTRIBUTE_ROWS],
+    count: usize,
+) -> usize
+    ensures { λ r. ⌜ Put (now (out .entry)) at (attributesWords rows count) (now (out .exit)) r ⌝ }
 {
-    let end = fewer(table.attribute_count, pkcs12::ATTRIBUTE_ROWS);
+    let end = pkcs12::fewer(count, pkcs12::ATTRIBUTE_ROWS);
     let mut to = at;
     let mut i: usize = 0;
     while i < end {
-        let row = table.attributes[i];
+        let row = rows[i];
         to = attribute(out, to, row);
         i = i + 1;
     }
@@ -259,7 +253,10 @@ pub(crate) fn all(out: &mut [u32], table: Table) -> usize
     ensures { λ r. ⌜ Put (now (out .entry)) 0 (wordsOf table) (now (out .exit)) r ⌝ }
 {
     let first = head(out, 0, table);
-    let second = safes(out, first, table);
-    let third = bags(out, second, table);
-    attributes(out, third, table)
+    let safe_rows = table.safes;
+    let second = safes(out, first, safe_rows, table.safe_count);
+    let bag_rows = table.bags;
+    let third = bags(out, second, bag_rows, table.bag_count);
+    let attribute_rows = table.attributes;
+    attributes(out, third, attribute_rows, table.attribute_count)
 }

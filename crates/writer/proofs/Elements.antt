@@ -7,7 +7,6 @@ use lib.ListN.{length, drop}
 use Rattle.pkcs12.proofs.Placing.{placed-whole}
 use Rattle.der.specs.Octets.{tlv}
 use Rattle.der.specs.Numbers.{octetStringTag}
-use Rattle.der.proofs.Octets.{octets-some}
 use Rattle.pkcs12.specs.Numbers.{fileBytes, sequenceTag, contextTag, pfxVersion}
 use Rattle.pkcs12.specs.Identifiers.{dataType, encryptedType, identifierOf}
 use Rattle.pkcs12.specs.Syntax.{Sealed, Set, encrypted, Pfx}
@@ -18,7 +17,7 @@ use Rattle.sizes.specs.Bodies.{contentOf, encryptedDataBody, macBody}
 use Rattle.sizes.specs.Picked.{formOf}
 use Rattle.sizes.specs.Sizes.{capped, elementSize, bagSize, contentInfoSize, dataSize, pfxSize}
 use Rattle.sizes.specs.declared.rows.Form.{Form}
-use Rattle.sizes.proofs.Capped.{Near, Sized, near-cases, near-told, near-is, near-then, near-pfx, capped-small, sized-told, sized-element, length-element}
+use Rattle.sizes.proofs.Capped.{Near, Sized, near-cases, near-told, near-is, near-then, near-pfx, capped-small, element-more, sized-told, sized-element, length-element}
 use Rattle.sizes.proofs.Lengths.{bag-body-long, length-bag, info-body-long, length-info, length-data, pfx-body-long, data-type-long, encrypted-type-long}
 use Rattle.writer.specs.Put.{Put, header, bagHead, infoHead, dataHead}
 use Rattle.writer.proofs.Puts.{put-then, put-as, put-element}
@@ -40,10 +39,6 @@ if-small d at x e r f = record { done = λ h. f (h .small) .done h }
 pub near-small : (a b : ℕ) → Near a b → b ≤ fileBytes → a ≡ b
 near-small a b n h = near-cases a b n (λ e. e) (λ u v. absurd (omega (arith, v, h)))
 
-element-above : (n : ℕ) → n + 2 ≤ elementSize n
-unfolding elementSize
-element-above n = omega (arith, octets-some n)
-
 -- a SEQUENCE's header with an identifier and the header of [0] behind it; the SEQUENCE has N bytes, and [0] has c
 head-put : (N n c : ℕ) (id d : List ℕ) (at : ℕ) (m : List ℕ) (p : ℕ) (m2 : List ℕ) (p2 : ℕ) (e : List ℕ) (r : ℕ) → n ≡ capped N → c ≤ N
     → (n ≤ fileBytes → Put d at (header sequenceTag n) m p) → Put m p id m2 p2 → (c ≤ fileBytes → Put m2 p2 (header contextTag c) e r)
@@ -57,17 +52,17 @@ pub bag-head-put : (k : BagKind) (c q n : ℕ) (d : List ℕ) (at : ℕ) (m : Li
     → (n ≤ fileBytes → Put d at (header sequenceTag n) m p) → Put m p (identifier (identifierOf k)) m2 p2 → (c ≤ fileBytes → Put m2 p2 (header contextTag c) e r)
     → bagSize c q ≤ fileBytes → Put d at (bagHead k c q) e r
 unfolding bagHead bagSize
-bag-head-put k c q n d at m p m2 p2 e r s f g h = head-put (13 + (elementSize c + q)) n c (identifier (identifierOf k)) d at m p m2 p2 e r s (omega (arith, element-above c)) f g h
+bag-head-put k c q n d at m p m2 p2 e r s f g h = head-put (13 + (elementSize c + q)) n c (identifier (identifierOf k)) d at m p m2 p2 e r s (omega (arith, element-more c)) f g h
 
 pub info-head-put : (type : List ℕ) (c n : ℕ) (d : List ℕ) (at : ℕ) (m : List ℕ) (p : ℕ) (m2 : List ℕ) (p2 : ℕ) (e : List ℕ) (r : ℕ) → n ≡ capped (contentInfoSize c)
     → (n ≤ fileBytes → Put d at (header sequenceTag n) m p) → Put m p (identifier type) m2 p2 → (c ≤ fileBytes → Put m2 p2 (header contextTag c) e r)
     → contentInfoSize c ≤ fileBytes → Put d at (infoHead type c) e r
 unfolding infoHead contentInfoSize
-info-head-put type c n d at m p m2 p2 e r s f g h = head-put (11 + elementSize c) n c (identifier type) d at m p m2 p2 e r s (omega (arith, element-above c)) f g h
+info-head-put type c n d at m p m2 p2 e r s f g h = head-put (11 + elementSize c) n c (identifier type) d at m p m2 p2 e r s (omega (arith, element-more c)) f g h
 
 info-above : (n : ℕ) → n ≤ contentInfoSize n
 unfolding contentInfoSize
-info-above n = omega (arith, element-above n)
+info-above n = omega (arith, element-more n)
 
 pub data-head-put : (type : List ℕ) (n string content : ℕ) (d : List ℕ) (at : ℕ) (m : List ℕ) (p : ℕ) (m2 : List ℕ) (p2 : ℕ) (e : List ℕ) (r : ℕ)
     → string ≡ capped (elementSize n) → content ≡ capped (elementSize string)
@@ -76,17 +71,17 @@ pub data-head-put : (type : List ℕ) (n string content : ℕ) (d : List ℕ) (a
 unfolding dataHead dataSize
 data-head-put type n string content d at m p m2 p2 e r s c f g h k =
     let a : elementSize (elementSize n) ≤ fileBytes = omega (arith, info-above (elementSize (elementSize n)), k) in
-    let b : elementSize n ≤ fileBytes = omega (arith, element-above (elementSize n), a) in
+    let b : elementSize n ≤ fileBytes = omega (arith, element-more (elementSize n), a) in
     let y : string ≡ elementSize n = s ∙ capped-small (elementSize n) b in
     let z : content ≡ elementSize (elementSize n) = c ∙ ap (λ (x : ℕ). capped (elementSize x)) y ∙ capped-small _ a in
     let F : contentInfoSize (elementSize (elementSize n)) ≤ fileBytes → Put d at (infoHead type (elementSize (elementSize n))) m p = rw z at f in
     let G : elementSize n ≤ fileBytes → Put m p (header octetStringTag (elementSize n)) m2 p2 = rw y at g in
     put-then d at (infoHead type (elementSize (elementSize n))) m p (header octetStringTag (elementSize n) ++ header sequenceTag n) e r (F k)
-    (put-then m p (header octetStringTag (elementSize n)) m2 p2 (header sequenceTag n) e r (G b) (h (omega (arith, element-above n, b))))
+    (put-then m p (header octetStringTag (elementSize n)) m2 p2 (header sequenceTag n) e r (G b) (h (omega (arith, element-more n, b))))
 
 data-above : (n : ℕ) → n ≤ dataSize n
 unfolding dataSize
-data-above n = omega (arith, info-above (elementSize (elementSize n)), element-above (elementSize n), element-above n)
+data-above n = omega (arith, info-above (elementSize (elementSize n)), element-more (elementSize n), element-more n)
 
 -- ---- by the kind of a bag
 
@@ -127,8 +122,8 @@ bag-put k content set c q d at m p m2 p2 e r h s v f g w =
     if-small d at (bagBytes k content set) e r (λ small.
     let l = length-bag k content set h in
     let N : ℕ = 13 + (elementSize (length content) + length (setBytes set)) in
-    let a : N ≤ fileBytes = omega (arith, small, l, element-above N) in
-    let x : c ≡ length content = near-small c (length content) s (omega (arith, a, element-above (length content))) in
+    let a : N ≤ fileBytes = omega (arith, small, l, element-more N) in
+    let x : c ≡ length content = near-small c (length content) s (omega (arith, a, element-more (length content))) in
     let y : q ≡ length (setBytes set) = near-small q (length (setBytes set)) v (omega (arith, a)) in
     let F : bagSize (length content) (length (setBytes set)) ≤ fileBytes → Put d at (bagHead k (length content) (length (setBytes set))) m p = rw (x, y) at f in
     put-as d at (bagHead k (length content) (length (setBytes set)) ++ (content ++ setBytes set)) (bagBytes k content set) e r (sym (bag-parts k content set h))
@@ -153,7 +148,7 @@ pub info-put : (type content : List ℕ) (c : ℕ) (d : List ℕ) (at : ℕ) (m 
 info-put type content c d at m p e r h s f g =
     if-small d at (contentInfo type content) e r (λ small.
     let l = length-info type content h in
-    let a : contentInfoSize (length content) ≤ fileBytes = omega (arith, small, l, element-above (contentInfoSize (length content))) in
+    let a : contentInfoSize (length content) ≤ fileBytes = omega (arith, small, l, element-more (contentInfoSize (length content))) in
     let x : c ≡ length content = near-small c (length content) s (omega (arith, a, info-above (length content))) in
     let F : contentInfoSize (length content) ≤ fileBytes → Put d at (infoHead type (length content)) m p = rw x at f in
     put-as d at (infoHead type (length content) ++ content) (contentInfo type content) e r (sym (info-parts type content h))
@@ -189,7 +184,7 @@ pub data-put : (x : List ℕ) (n : ℕ) (d : List ℕ) (at : ℕ) (m : List ℕ)
     → (dataSize n ≤ fileBytes → Put d at (dataHead dataType n) m p) → Put m p x e r → Put d at (dataBytes x) e r
 data-put x n d at m p e r s f g =
     if-small d at (dataBytes x) e r (λ small.
-    let a : dataSize (length x) ≤ fileBytes = omega (arith, small, length-data x, element-above (dataSize (length x))) in
+    let a : dataSize (length x) ≤ fileBytes = omega (arith, small, length-data x, element-more (dataSize (length x))) in
     let y : n ≡ length x = near-small n (length x) s (omega (arith, a, data-above (length x))) in
     let F : dataSize (length x) ≤ fileBytes → Put d at (dataHead dataType (length x)) m p = rw y at f in
     put-as d at (dataHead dataType (length x) ++ x) (dataBytes x) e r (sym (data-parts x)) (put-then d at (dataHead dataType (length x)) m p x e r (F a) g))

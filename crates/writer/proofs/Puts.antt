@@ -1,5 +1,5 @@
 -- The algebra of writing: bytes behind bytes, an element behind its header, and what the leaves do to the buffer.
-use mathlib.Core.Path.{_≡_, refl, sym, ap, _∙_}
+use mathlib.Core.Path.{_≡_, refl, ap, _∙_}
 use mathlib.Core.List.{List, [], _∷_, _++_}
 use Prim.Native.Nat.{ℕ, suc, _+_, _-_, _/_, _%_, _≤_, _<_}
 use native.Mathlib.Omega.{arith}
@@ -11,7 +11,7 @@ use Rattle.der.proofs.Integers.{one-octet, two-octets, three-octets, four-octet
 use Rattle.pkcs12.specs.Numbers.{fileBytes}
 use Rattle.sizes.proofs.Capped.{Sized, near-cases}
 use Rattle.pkcs12.specs.Placed.{Placed}
-use Rattle.pkcs12.proofs.Placing.{sets-then, placed-nothing, placed-one, placed-length, placed-then}
+use Rattle.pkcs12.proofs.Placing.{sets-then, placed-nothing, placed-length, placed-then}
 use Rattle.writer.specs.Put.{Room, Put, header}
 
 -- nothing is written
@@ -51,9 +51,6 @@ put-element d at t n m p b e r f s g = record { done = go }
 module _ (d : List ℕ) (at b : ℕ) where
   pub byte-past : length d ≤ at → Put d at (b ∷ []) d at
   byte-past h = record { done = λ k. absurd (omega (arith, k .inside, h)) }
-
-  pub byte-put : at < length d → Put d at (b ∷ []) (set d at b) (at + 1)
-  byte-put h = record { done = λ k. placed-one d at b }
 
 module _ (d : List ℕ) (at : ℕ) (x : List ℕ) where
   pub copy-past : length d < at → Put d at x d at
@@ -110,9 +107,6 @@ module _ (d : List ℕ) (at t n : ℕ) (m : List ℕ) (p : ℕ) (f : Put d at (t
       (put-then m2 p2 (n / 256 ∷ []) m3 p3 (n % 256 ∷ []) e r (rw z at g2) g3)))
 
 -- ---- the octets of an INTEGER
-
-pub put-pair : (d : List ℕ) (at a b : ℕ) (m : List ℕ) (p : ℕ) (e : List ℕ) (r : ℕ) → Put d at (a ∷ []) m p → Put m p (b ∷ []) e r → Put d at (a ∷ b ∷ []) e r
-put-pair d at a b m p e r f g = put-then d at (a ∷ []) m p (b ∷ []) e r f g
 
 -- one byte before others
 pub put-before : (d : List ℕ) (at a : ℕ) (x m : List ℕ) (p : ℕ) (e : List ℕ) (r : ℕ) → Put d at (a ∷ []) m p → Put m p x e r → Put d at (a ∷ x) e r

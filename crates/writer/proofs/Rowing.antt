@@ -10,13 +10,12 @@ use lib.Dec.{eqb}
 use lib.ListN.{length, getD}
 use Rattle.der.specs.Octets.{tlv}
 use Rattle.pkcs12.specs.Numbers.{fileBytes, bagRows, attributeRows, sequenceTag, setTag}
-use Rattle.pkcs12.specs.Syntax.{Leaf, none, bag, nest, kindOfLeaf}
-use Rattle.pkcs12.specs.Encode.{sequence, attributeBytes, setBytes, leafBytes, bagBytes, bagsBytes}
+use Rattle.pkcs12.specs.Syntax.{none}
+use Rattle.pkcs12.specs.Encode.{sequence, attributeBytes, setBytes, bagBytes, bagsBytes}
 use Rattle.pkcs12.specs.Checks.{both}
 use Rattle.pkcs12.specs.Values.{sameEnclosing}
-use Rattle.pkcs12.specs.Table.{noAttribute, noBag, contentIn}
+use Rattle.pkcs12.specs.Table.{noAttribute, noBag}
 use Rattle.pkcs12.specs.declared.BagKind.{BagKind}
-use Rattle.pkcs12.specs.declared.BagKind.the-variants.{Nested}
 use Rattle.pkcs12.specs.declared.BagRow.{BagRow}
 use Rattle.pkcs12.specs.declared.Enclosing.{Enclosing}
 use Rattle.pkcs12.specs.declared.Enclosing.the-variants.{Bag}
@@ -27,15 +26,15 @@ use Rattle.sizes.specs.Sizes.{capped, elementSize, bagSize, setBody, setSized, 
 use Rattle.sizes.specs.declared.rows.Owned.{Owned}
 use Rattle.sizes.specs.declared.rows.Taken.{Taken}
 use Rattle.sizes.specs.declared.rows.Form.{Form}
-use Rattle.sizes.proofs.Capped.{sized-told, sized-element}
-use Rattle.sizes.proofs.Loops.{fewer-bound, OwnSeen, OwnAll, own-start, own-ends, own-leaves, own-turn, BagsSeen, BagsAll, bags-start, bags-end, bags-leave, bags-not, bags-turn}
-use Rattle.sizes.proofs.Measures.{form-none, form-nested, form-leaf, leaf-some, nested-some}
-use Rattle.sizes.proofs.Picks.{bag-ahead, bag-empty, bag-leaf, bag-too-deep, bag-nest-less}
+use Rattle.sizes.proofs.Capped.{Sized, sized-told, sized-element}
+use Rattle.sizes.proofs.Loops.{OwnSeen, OwnAll, own-start, own-ends, own-leaves, own-turn, BagsSeen, BagsAll, bags-start, bags-end, bags-leave, bags-not, bags-turn}
+use Rattle.sizes.proofs.Picks.{bag-ahead}
+use Rattle.sizes.proofs.Taken.{owned-body, owned-sized, taken-sized, taken-attribute, leaf-some, BagTaken, bag-is-empty, bag-is-leaf, bag-is-too-deep, bag-is-nest}
 use Rattle.writer.specs.Put.{Put, header, bagHead}
 use Rattle.writer.specs.Rows.{SetPut, RowsPut, leafPart, onePart, bagsPart}
 use Rattle.writer.specs.declared.rows.SetEnd.{SetEnd}
 use Rattle.writer.specs.declared.rows.RowsEnd.{RowsEnd}
-use Rattle.writer.proofs.Puts.{put-nothing, put-as, put-then}
+use Rattle.writer.proofs.Puts.{put-nothing, put-as, put-then, put-element}
 use Rattle.writer.proofs.Elements.{put-sized, bag-put}
 
 -- ---- a set
@@ -56,7 +55,7 @@ module _ (t : Table) (s : List ℕ) (h : Bool) (n from : ℕ) where
 
   pub set-begins : (end : ℕ) (m : List ℕ) (p : ℕ) → end ≡ attributeEnd t → SetPutting t s n from end m p m p from
   set-begins end m p e =
-      record { seen-bytes = []; seen = own-start t s n from; put = put-nothing m p; end-is = e; within = omega (arith, e, fewer-bound (t .«attribute_count») attributeRows); long = refl }
+      record { seen-bytes = []; seen = own-start t s n from; put = put-nothing m p; end-is = e; within = omega (arith, e); long = refl }
 
   module _ (end : ℕ) (m : List ℕ) (p : ℕ) (e : List ℕ) (r next : ℕ) (g : SetPutting t s n from end m p e r next) where
     pub set-more : (f : List ℕ) (q : ℕ) → length f ≡ length e → next < end → attributeValue t s next .bag ≡ n
@@ -91,15 +90,6 @@ module _ (t : Table) (s : List ℕ) (h : Bool) (n from : ℕ) where
 
 -- ---- one bag
 
--- the size of the attributes of a set that was measured, and that of the set
-pub owned-body : (p : SetPicked) (owned : Owned) → owned ≡ setSized p → owned .body ≡ capped (length (setBody (p .set)))
-unfolding setSized
-owned-body p owned e = ap (λ (x : Owned). x .body) e
-
-owned-size : (p : SetPicked) (owned : Owned) → owned ≡ setSized p → owned .size ≡ capped (length (setBytes (p .set)))
-unfolding setSized
-owned-size p owned e = ap (λ (x : Owned). x .size) e
-
 -- what the code learnt of a kind
 pub leaf-form : (f : Form) (k : BagKind) → f ≡ formOf k → f ≡ Form.Leaf → formOf k ≡ Form.Leaf
 leaf-form f k o h = sym o ∙ h
@@ -115,89 +105,64 @@ module _ (t : Table) (s : List ℕ) (row : BagRow) (n from : ℕ) where
       let set : SetPicked = setAt t s (row .«has_set») n from in
       let body : List ℕ = contentOf s (row .kind) (row .parts) in
       record {
-        put = bag-put (row .kind) body (set .set) content (owned .size) d at m p m2 p2 e (r .at) (leaf-some (formOf (row .kind)) (row .kind) refl h)
-            (sized-told content body c) (sized-told (owned .size) (setBytes (set .set)) (owned-size set owned w)) f g (v .put);
+        put = bag-put (row .kind) body (set .set) content (owned .size) d at m p m2 p2 e (r .at) (leaf-some (row .kind) h)
+            (sized-told content body c) (owned-sized set owned w) f g (v .put);
         bag = refl;
         attribute = v .next;
       }
 
+-- a bag that was taken is written, by its content and its set
+taken-put : (o : Option OnePicked) (k : BagKind) (c : List ℕ) (set : SetPicked) (next : ℕ) → BagTaken o k c set next
+    → (n m : ℕ) (d : List ℕ) (at : ℕ) (z : List ℕ) (r : RowsEnd) → Put d at (bagBytes k c (set .set)) z (r .at) → r .bag ≡ next → r .attribute ≡ set .next
+    → RowsPut d at (onePart o n m) z r
+unfolding onePart
+taken-put o k c set next b n m d at z r w p q =
+    rw (b .found) record { put = put-as d at (bagBytes k c (set .set)) _ z (r .at) (sym (b .bytes)) w; bag = p ∙ sym (b .bag); attribute = q ∙ sym (b .attribute) }
+
 module _ (t : Table) (s : List ℕ) (l k n from : ℕ) (row : BagRow) (e : row ≡ getD (t .bags) n noBag) (f : Form) (o : f ≡ formOf (row .kind)) where
-  content-is : bagValueAt t s n .content ≡ contentIn s (row .kind) (row .parts)
-  content-is = ap (λ (r : BagRow). contentIn s (r .kind) (r .parts)) (sym e)
-
-  set-is : (m : ℕ) → setAt t s (bagValueAt t s n .has-set) n m ≡ setAt t s (row .«has_set») n m
-  set-is m = ap (λ (r : BagRow). setAt t s (r .«has_set») n m) (sym e)
-
   pub bag-nothing : (d : List ℕ) (at : ℕ) → f ≡ Form.None → RowsPut d at (onePart (bagAt t s l k n from) n from) d (record { at = at; bag = n; attribute = from })
   unfolding onePart
-  bag-nothing d at h =
-      rw (bag-empty t s l k n from (content-is ∙ form-none s (row .kind) (row .parts) (sym o ∙ h))) record { put = put-nothing d at; bag = refl; attribute = refl }
+  bag-nothing d at h = rw (bag-is-empty t s l k n from row e (sym o ∙ h)) record { put = put-nothing d at; bag = refl; attribute = refl }
 
   pub bag-of-leaf : (d : List ℕ) (at : ℕ) (z : List ℕ) (r : RowsEnd) → f ≡ Form.Leaf → RowsPut d at (leafPart t s row n from) z r
       → RowsPut d at (onePart (bagAt t s l k n from) n from) z r
-  unfolding onePart leafPart bagsBytes
-  bag-of-leaf d at z r h w =
-      let q = form-leaf s (row .kind) (row .parts) (sym o ∙ h) in
-      let set : SetPicked = setAt t s (row .«has_set») n from in
-      let found : bagAt t s l k n from ≡ some (record { front = bag (q .value) (set .set); bag = n + 1; attribute = set .next }) =
-      bag-leaf t s l k n from (q .value) (content-is ∙ q .shows)
-      ∙ ap {B = Option OnePicked} (λ (w : SetPicked). some (record { front = bag (q .value) (w .set); bag = n + 1; attribute = w .next })) (set-is from) in
-      let whole : bagsBytes (bag (q .value) (set .set) none) ≡ bagBytes (row .kind) (contentOf s (row .kind) (row .parts)) (set .set) =
-      append-nil (bagBytes (kindOfLeaf (q .value)) (leafBytes (q .value)) (set .set)) ∙ rw (q .kind, q .bytes) refl in
-      rw (found, whole) w
+  unfolding leafPart
+  bag-of-leaf d at z r h w = taken-put _ _ _ _ _ (bag-is-leaf t s l k n from row e (sym o ∙ h)) n from d at z r (w .put) (w .bag) (w .attribute)
 
   module _ (h : f ≡ Form.Nested) where
     pub bag-deep : (d : List ℕ) (at : ℕ) → l ≡ 0 → RowsPut d at (onePart (bagAt t s l k n from) n from) d (record { at = at; bag = n; attribute = from })
     unfolding onePart
-    bag-deep d at z =
-        rw (bag-too-deep t s l k n from (content-is ∙ form-nested s (row .kind) (row .parts) (sym o ∙ h) .0) z) record { put = put-nothing d at; bag = refl; attribute = refl }
+    bag-deep d at z = rw (bag-is-too-deep t s l k n from row e (sym o ∙ h) z) record { put = put-nothing d at; bag = refl; attribute = refl }
 
-    module _ (inner : Taken) (i : inner ≡ takenSized (bagsAt t s (l - 1) k (Bag n) (n + 1) from)) where
-      inner-attribute : inner .attribute ≡ bagsAt t s (l - 1) k (Bag n) (n + 1) from .attribute
-      unfolding takenSized
-      inner-attribute = ap (λ (x : Taken). x .attribute) i
+    module _ (inner : Taken) (i : inner ≡ takenSized (bagsAt t s (l - 1) k (Bag n) (n + 1) from))
+        (owned : Owned) (w : owned ≡ setSized (setAt t s (row .«has_set») n (inner .attribute)))
+        (m3 : List ℕ) (p3 : ℕ) (m4 : List ℕ) (all : RowsEnd) (a : RowsPut m3 p3 (bagsPart (bagsAt t s (l - 1) k (Bag n) (n + 1) from)) m4 all) where
+      next-is : inner .attribute ≡ all .attribute
+      unfolding bagsPart
+      next-is = taken-attribute (bagsAt t s (l - 1) k (Bag n) (n + 1) from) inner i ∙ sym (a .attribute)
 
-      inner-size : inner .size ≡ capped (length (bagsBytes (bagsAt t s (l - 1) k (Bag n) (n + 1) from .bags)))
-      unfolding takenSized
-      inner-size = ap (λ (x : Taken). x .size) i
+      -- what is asked of the set behind the bags
+      pub nest-body : owned .body ≡ capped (length (setBody (setAt t s (row .«has_set») n (all .attribute) .set)))
+      nest-body = rw next-is at (owned-body (setAt t s (row .«has_set») n (inner .attribute)) owned w)
 
-      module _ (owned : Owned) (w : owned ≡ setSized (setAt t s (row .«has_set») n (inner .attribute)))
-          (m3 : List ℕ) (p3 : ℕ) (m4 : List ℕ) (all : RowsEnd) (a : RowsPut m3 p3 (bagsPart (bagsAt t s (l - 1) k (Bag n) (n + 1) from)) m4 all) where
-        next-is : inner .attribute ≡ all .attribute
-        unfolding bagsPart
-        next-is = inner-attribute ∙ sym (a .attribute)
-
-        -- what is asked of the set behind the bags
-        pub nest-body : owned .body ≡ capped (length (setBody (setAt t s (row .«has_set») n (all .attribute) .set)))
-        nest-body = rw next-is at (owned-body (setAt t s (row .«has_set») n (inner .attribute)) owned w)
-
-        pub nest-put : (content : ℕ) (d : List ℕ) (at : ℕ) (m : List ℕ) (p : ℕ) (z : List ℕ) (r : SetEnd) → (l ≡ 0 → ⊥) → content ≡ capped (elementSize (inner .size))
-            → (bagSize content (owned .size) ≤ fileBytes → Put d at (bagHead (row .kind) content (owned .size)) m p)
-            → (inner .size ≤ fileBytes → Put m p (header sequenceTag (inner .size)) m3 p3) → SetPut m4 (all .at) (setAt t s (row .«has_set») n (all .attribute)) z r
-            → RowsPut d at (onePart (bagAt t s l k n from) n from) z (record { at = r .at; bag = all .bag; attribute = r .next })
-        unfolding onePart bagsPart bagsBytes
-        nest-put content d at m p z r y c u v b =
-            let q = form-nested s (row .kind) (row .parts) (sym o ∙ h) in
-            let picked : Picked = bagsAt t s (l - 1) k (Bag n) (n + 1) from in
-            let set : SetPicked = setAt t s (row .«has_set») n (picked .attribute) in
-            let same : setAt t s (row .«has_set») n (all .attribute) ≡ set = ap (λ (x : ℕ). setAt t s (row .«has_set») n x) (a .attribute) in
-            let own : owned ≡ setSized set = w ∙ ap (λ (x : ℕ). setSized (setAt t s (row .«has_set») n x)) inner-attribute in
-            let body : List ℕ = sequence (bagsBytes (picked .bags)) in
-            let found : bagAt t s l k n from ≡ some (record { front = nest (picked .bags) (set .set); bag = picked .bag; attribute = set .next }) =
-            bag-nest-less t s l k n from (content-is ∙ q .0) y
-            ∙ ap {B = Option OnePicked} (λ (w : SetPicked). some (record { front = nest (picked .bags) (w .set); bag = picked .bag; attribute = w .next })) (set-is (picked .attribute)) in
-            let value : Put m p body m4 (all .at) = put-sized m p sequenceTag (inner .size) m3 p3 (bagsBytes (picked .bags)) m4 (all .at) v inner-size (a .put) in
-            let head : bagSize content (owned .size) ≤ fileBytes → Put d at (bagHead Nested content (owned .size)) m p = rw (q .1) at u in
-            let behind : SetPut m4 (all .at) set z r = rw same at b in
-            let whole : Put d at (bagBytes Nested body (set .set)) z (r .at) =
-            bag-put Nested body (set .set) content (owned .size) d at m p m4 (all .at) z (r .at) nested-some
-            (sized-element content (inner .size) sequenceTag (bagsBytes (picked .bags)) c (sized-told (inner .size) (bagsBytes (picked .bags)) inner-size))
-            (sized-told (owned .size) (setBytes (set .set)) (owned-size set owned own)) head value (behind .put) in
-            rw found record {
-              put = put-as d at (bagBytes Nested body (set .set)) _ z (r .at) (sym (append-nil (bagBytes Nested body (set .set)))) whole;
-              bag = a .bag;
-              attribute = behind .next;
-            }
+      pub nest-put : (content : ℕ) (d : List ℕ) (at : ℕ) (m : List ℕ) (p : ℕ) (z : List ℕ) (r : SetEnd) → (l ≡ 0 → ⊥) → content ≡ capped (elementSize (inner .size))
+          → (bagSize content (owned .size) ≤ fileBytes → Put d at (bagHead (row .kind) content (owned .size)) m p)
+          → (inner .size ≤ fileBytes → Put m p (header sequenceTag (inner .size)) m3 p3) → SetPut m4 (all .at) (setAt t s (row .«has_set») n (all .attribute)) z r
+          → RowsPut d at (onePart (bagAt t s l k n from) n from) z (record { at = r .at; bag = all .bag; attribute = r .next })
+      unfolding bagsPart
+      nest-put content d at m p z r y c u v b =
+          let picked : Picked = bagsAt t s (l - 1) k (Bag n) (n + 1) from in
+          let set : SetPicked = setAt t s (row .«has_set») n (picked .attribute) in
+          let body : List ℕ = bagsBytes (picked .bags) in
+          let inside : Sized (inner .size) body = taken-sized picked inner i in
+          let own : owned ≡ setSized set = rw (taken-attribute picked inner i) at w in
+          let behind : SetPut m4 (all .at) set z r = rw (a .attribute) at b in
+          let found = bag-is-nest t s l k n from row e (sym o ∙ h) y in
+          taken-put _ _ _ _ _ found n from d at z _
+          (bag-put (row .kind) (sequence body) (set .set) content (owned .size) d at m p m4 (all .at) z (r .at) (found .kind)
+          (sized-element content (inner .size) sequenceTag body c inside) (owned-sized set owned own) u
+          (put-element m p sequenceTag (inner .size) m3 p3 body m4 (all .at) v inside (a .put)) (behind .put))
+          (a .bag) (behind .next)
 
 -- ---- bags side by side
 
@@ -223,7 +188,7 @@ one-gave d at (some p) n m z r w = (w .put, w .bag, w .attribute)
 module _ (t : Table) (s : List ℕ) (l k : ℕ) (e : Enclosing) (first from : ℕ) where
   pub bags-begin : (end : ℕ) (m : List ℕ) (p : ℕ) → end ≡ bagEnd t → BagsPutting t s l k e first from end m p m (record { at = p; bag = first; attribute = from })
   bags-begin end m p h =
-      record { seen-bytes = []; seen = bags-start t s l k e first from; put = put-nothing m p; end-is = h; within = omega (arith, h, fewer-bound (t .«bag_count») bagRows); long = refl }
+      record { seen-bytes = []; seen = bags-start t s l k e first from; put = put-nothing m p; end-is = h; within = omega (arith, h); long = refl }
 
   module _ (end : ℕ) (m : List ℕ) (p : ℕ) (z : List ℕ) (r : RowsEnd) (g : BagsPutting t s l k e first from end m p z r) where
     all-put : (y : List ℕ) (x : RowsEnd) → x .bag ≡ r .bag → x .attribute ≡ r .attribute → Put m p (g .seen-bytes) y (x .at)

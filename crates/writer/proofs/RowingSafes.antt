@@ -18,13 +18,13 @@ use Rattle.pkcs12.specs.declared.SafeRow.{SafeRow}
 use Rattle.pkcs12.specs.declared.Enclosing.{Enclosing}
 use Rattle.pkcs12.specs.declared.Table.{Table}
 use Rattle.sizes.specs.Bodies.{macBody}
-use Rattle.sizes.specs.Picked.{safeEnd, bagsAt, SafePicked, safeAt, safesAt}
+use Rattle.sizes.specs.Picked.{safeEnd, Picked, bagsAt, SafePicked, safeAt, safesAt}
 use Rattle.sizes.specs.Sizes.{capped, dataSize, pfxSize, takenSized, safesSized}
 use Rattle.sizes.specs.declared.rows.Taken.{Taken}
 use Rattle.sizes.specs.declared.rows.Safes.{Safes}
 use Rattle.sizes.proofs.Capped.{sized-told}
-use Rattle.sizes.proofs.Loops.{fewer-bound, SafesSeen, SafesAll, safes-start, safes-end, safes-not, safes-turn}
-use Rattle.sizes.proofs.MeasuresSafes.{safe-none, safe-plain, safe-encrypted}
+use Rattle.sizes.proofs.Loops.{SafesSeen, SafesAll, safes-start, safes-end, safes-not, safes-turn}
+use Rattle.sizes.proofs.Taken.{taken-sized, safe-is-empty, safe-is-plain, safe-is-encrypted}
 use Rattle.writer.specs.Put.{Put, header, dataHead}
 use Rattle.writer.specs.Rows.{RowsPut, bagsPart, safePart, isEmptySafe, readingAt}
 use Rattle.writer.specs.declared.rows.RowsEnd.{RowsEnd}
@@ -34,16 +34,16 @@ use Rattle.writer.proofs.Elements.{data-put, file-put}
 module _ (t : Table) (s : List ℕ) (k first from : ℕ) (row : SafeRow) (e : row ≡ getD (t .safes) k noSafe) where
   pub safe-nothing : (d : List ℕ) (at : ℕ) → row .kind ≡ SafeKind.None → RowsPut d at (safePart (safeAt t s k first from) first from) d (record { at = at; bag = first; attribute = from })
   unfolding safePart
-  safe-nothing d at h = rw (safe-none t s k first from row e h) record { put = put-nothing d at; bag = refl; attribute = refl }
+  safe-nothing d at h = rw (safe-is-empty t s k first from row e h) record { put = put-nothing d at; bag = refl; attribute = refl }
 
   pub plain-put : (inner : Taken) (d : List ℕ) (at : ℕ) (m : List ℕ) (p : ℕ) (z : List ℕ) (r : RowsEnd) → row .kind ≡ Plain
       → inner ≡ takenSized (bagsAt t s 7 k Enclosing.None first from) → (dataSize (inner .size) ≤ fileBytes → Put d at (dataHead dataType (inner .size)) m p)
       → RowsPut m p (bagsPart (bagsAt t s 7 k Enclosing.None first from)) z r → RowsPut d at (safePart (safeAt t s k first from) first from) z r
-  unfolding safePart bagsPart takenSized safeBytes
+  unfolding safePart bagsPart safeBytes
   plain-put inner d at m p z r h i f w =
-      let bytes : List ℕ = bagsBytes (bagsAt t s 7 k Enclosing.None first from .bags) in
-      rw (safe-plain t s k first from row e h) record {
-        put = data-put bytes (inner .size) d at m p z (r .at) (sized-told (inner .size) bytes (ap (λ (x : Taken). x .size) i)) f (w .put);
+      let picked : Picked = bagsAt t s 7 k Enclosing.None first from in
+      rw (safe-is-plain t s k first from row e h) record {
+        put = data-put (bagsBytes (picked .bags)) (inner .size) d at m p z (r .at) (taken-sized picked inner i) f (w .put);
         bag = w .bag;
         attribute = w .attribute;
       }
@@ -51,19 +51,19 @@ module _ (t : Table) (s : List ℕ) (k first from : ℕ) (row : SafeRow) (e : ro
   pub encrypted-safe-put : (d : List ℕ) (at : ℕ) (z : List ℕ) (r : ℕ) → row .kind ≡ Encrypted → Put d at (safeBytes (encrypted (sealedIn s (row .parts)))) z r
       → RowsPut d at (safePart (safeAt t s k first from) first from) z (record { at = r; bag = first; attribute = from })
   unfolding safePart
-  encrypted-safe-put d at z r h w = rw (safe-encrypted t s k first from row e h) record { put = w; bag = refl; attribute = refl }
+  encrypted-safe-put d at z r h w = rw (safe-is-encrypted t s k first from row e h) record { put = w; bag = refl; attribute = refl }
 
 -- a row that is a safe, and one that isn't
 module _ (t : Table) (s : List ℕ) (k first from : ℕ) where
   empty-row : (c : SafeKind) → getD (t .safes) k noSafe .kind ≡ c → isEmptySafe c ≡ true → safeAt t s k first from ≡ option.none
-  empty-row SafeKind.None h e = safe-none t s k first from (getD (t .safes) k noSafe) refl h
+  empty-row SafeKind.None h e = safe-is-empty t s k first from (getD (t .safes) k noSafe) refl h
   empty-row Plain h e = cc
   empty-row Encrypted h e = cc
 
   some-row : (c : SafeKind) → getD (t .safes) k noSafe .kind ≡ c → isEmptySafe c ≡ false → (p : SafePicked) × (safeAt t s k first from ≡ some p)
   some-row SafeKind.None h e = (let z : _≡_ {A = ℕ} 0 1 = cc in absurd (omega arith))
-  some-row Plain h e = (_, safe-plain t s k first from (getD (t .safes) k noSafe) refl h)
-  some-row Encrypted h e = (_, safe-encrypted t s k first from (getD (t .safes) k noSafe) refl h)
+  some-row Plain h e = (_, safe-is-plain t s k first from (getD (t .safes) k noSafe) refl h)
+  some-row Encrypted h e = (_, safe-is-encrypted t s k first from (getD (t .safes) k noSafe) refl h)
 
 -- the loop of `safes`, from the place p of the buffer m on
 pub record SafesPutting (t : Table) (s : List ℕ) (end : ℕ) (m : List ℕ) (p : ℕ) (z : List ℕ) (r : RowsEnd) (k : ℕ) : Type 0 where
@@ -83,7 +83,7 @@ safe-gave d at p n m z r w = (w .put, w .bag, w .attribute)
 module _ (t : Table) (s : List ℕ) where
   pub safes-begin : (end : ℕ) (m : List ℕ) (p : ℕ) → end ≡ safeEnd t → SafesPutting t s end m p m (record { at = p; bag = 0; attribute = 0 }) 0
   safes-begin end m p h =
-      record { seen-bytes = []; seen = safes-start t s; put = put-nothing m p; end-is = h; within = omega (arith, h, fewer-bound (t .«safe_count») safeRows); long = refl }
+      record { seen-bytes = []; seen = safes-start t s; put = put-nothing m p; end-is = h; within = omega (arith, h); long = refl }
 
   module _ (end : ℕ) (m : List ℕ) (p : ℕ) (z : List ℕ) (r : RowsEnd) (k : ℕ) (g : SafesPutting t s end m p z r k) where
     all-put : SafesAll t s k (r .bag) (r .attribute) (g .seen-bytes) → Put m p (safesBytes (safesAt t s 0 0 0 .safes)) z (r .at)

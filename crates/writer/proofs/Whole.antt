@@ -10,7 +10,6 @@ use lib.Dec.{eqb}
 use lib.ListN.{length}
 use borrow.Author.Tests.{lt-ltb, le-ltb}
 use Rattle.der.specs.Choice.{if_then_else_}
-use Rattle.der.specs.Element.{fault}
 use Rattle.pkcs12.specs.Numbers.{fileBytes, tooLong, noRoom, notSound}
 use Rattle.pkcs12.specs.Syntax.{Pfx}
 use Rattle.pkcs12.specs.Encode.{encode}
@@ -18,7 +17,6 @@ use Rattle.pkcs12.specs.Checks.{keepsRules}
 use Rattle.pkcs12.specs.Table.{readingOf}
 use Rattle.pkcs12.specs.Written.{writtenAs, fileOf, onFile, Outcome, refusal, success, writeFile}
 use Rattle.pkcs12.specs.declared.Table.{Table}
-use Rattle.pkcs12.specs.declared.Written.{Written}
 use Rattle.pkcs12.specs.declared.Written.the-variants.{Length}
 use Rattle.sizes.specs.Picked.{safesAt}
 use Rattle.sizes.specs.Sizes.{capped}

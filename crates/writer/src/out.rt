@@ -1,6 +1,5 @@
 // Bytes, headers and elements into a lent buffer, at a place; the answer is the place behind them. Where there is no room nothing is promised: the
 // room is tested once, before anything is written.
-ghost use mathlib.Core.Path.{_≡_};
 ghost use mathlib.Core.List.{[], _∷_};
 ghost use Prim.Native.Nat.{_≤_, _/_, _%_};
 ghost use Rattle.der.specs.Octets.{tlv, integerOctets};

@@ -1,10 +1,9 @@
 // Safes, safe contents, bags and their attributes, front to back, by the rows of the table. The sizes of a level are computed before it is written.
 ghost use mathlib.Core.Path.{_≡_};
-ghost use mathlib.Core.List.{[]};
 ghost use Prim.Native.Nat.{_<_};
 ghost use lib.ListN.{length, getD};
 ghost use Rattle.pkcs12.specs.Numbers.{bagRows};
-ghost use Rattle.pkcs12.specs.Encode.{bagsBytes, setBytes, safesBytes, encode};
+ghost use Rattle.pkcs12.specs.Encode.{safesBytes, encode};
 ghost use Rattle.pkcs12.specs.Table.{noSafe, noBag};
 ghost use Rattle.sizes.specs.Picked.{formOf, setAt, bagAt, bagsAt, safeAt, safesAt};
 ghost use Rattle.sizes.specs.Sizes.{capped, setBody};
@@ -13,7 +12,6 @@ ghost use Rattle.writer.specs.Put.{Put};
 ghost use Rattle.writer.specs.Rows.{SetPut, RowsPut, leafPart, onePart, bagsPart, safePart, readingAt, isEmptySafe};
 use crate::out;
 use crate::parts;
-use pkcs12::BagKind;
 use pkcs12::BagRow;
 use pkcs12::Enclosing;
 use pkcs12::SafeKind;
@@ -51,7 +49,7 @@ fn set(
     if !has_set {
         return SetEnd { at, next: from };
     }
-    let end = sizes::rows::fewer(table.attribute_count, pkcs12::ATTRIBUTE_ROWS);
+    let end = pkcs12::fewer(table.attribute_count, pkcs12::ATTRIBUTE_ROWS);
     let mut to = out::header(out, at, pkcs12::SET, body);
     let mut next = from;
     while next < end {
@@ -187,7 +185,7 @@ fn bags(
 ) -> RowsEnd
     ensures { λ r. ⌜ RowsPut (now (out .entry)) at (bagsPart (bagsAt table (now (bytes .entry)) level safe enclosing first from)) (now (out .exit)) r ⌝ }
 {
-    let end = sizes::rows::fewer(table.bag_count, pkcs12::BAG_ROWS);
+    let end = pkcs12::fewer(table.bag_count, pkcs12::BAG_ROWS);
     let mut so_far = RowsEnd {
         at,
         bag: first,
@@ -287,7 +285,7 @@ fn safe(
 fn safes(out: &mut [u8], at: usize, table: Table, bytes: &[u8]) -> usize
     ensures { λ r. ⌜ Put (now (out .entry)) at (safesBytes (safesAt table (now (bytes .entry)) 0 0 0 .safes)) (now (out .exit)) r ⌝ }
 {
-    let end = sizes::rows::fewer(table.safe_count, pkcs12::SAFE_ROWS);
+    let end = pkcs12::fewer(table.safe_count, pkcs12::SAFE_ROWS);
     let mut so_far = RowsEnd {
         at,
         bag: 0,

@@ -22,6 +22,9 @@ enum-known-f c = search needs
 refused-requires-2 : tie.Need-refused-requires-2
 refused-requires-2 c κs = search needs
 
+returns-2 : tie.Need-returns-2
+returns-2 c = read-refused _ (c .before .before .before .before .before .before .if1 .left) _ (c .before .before .before .before .before .over .ensures) _ (c .before .before .before .before .«open» .ensures) _ _ (c .before .before .f .given .1) (c .refused2 .ensures)
+
 enum-known-input : tie.Need-enum-known-input
 enum-known-input c = search needs
 
@@ -37,17 +40,14 @@ enum-known-f-2 c = search needs
 refused-requires-3 : tie.Need-refused-requires-3
 refused-requires-3 c κs = search needs
 
+returns-3 : tie.Need-returns-3
+returns-3 c = close-refused _ (c .before .before .before .before .before .before .before .before .before .before .before .if1 .left) _ (c .before .before .before .before .before .before .before .before .before .before .over .ensures) _ (c .before .before .before .before .before .before .before .before .before .«open» .ensures) _ _ _ _ _ _ _ (c .before .before .before .before .before .before .before .input .given .1) _ (c .before .before .before .before .before .safes .ensures) _ (c .before .before .before .before .close .ensures) _ _ (c .before .before .f2 .given .1) (c .refused3 .ensures)
+
 enum-known-fields : tie.Need-enum-known-fields
 enum-known-fields c = search needs
 
 add-elements : tie.Need-add-elements
 add-elements c = close-fits _ (c .before .before .before .before .before .before .before .before .before .before .before .before .if1 .left) _ (c .before .before .before .before .before .before .before .before .before .before .before .over .ensures) _ (c .before .before .before .before .before .before .before .before .before .before .«open» .ensures) _ _ _ _ _ _ _ (c .before .before .before .before .before .before .before .before .input .given .1) _ (c .before .before .before .before .before .before .safes .ensures) _ (c .before .before .before .before .before .close .ensures) _ _ _ (c .before .before .before .fields .given .1)
-
-returns-2 : tie.Need-returns-2
-returns-2 c = read-refused _ (c .before .before .before .before .before .before .if1 .left) _ (c .before .before .before .before .before .over .ensures) _ (c .before .before .before .before .«open» .ensures) _ _ (c .before .before .f .given .1) (c .refused2 .ensures)
-
-returns-3 : tie.Need-returns-3
-returns-3 c = close-refused _ (c .before .before .before .before .before .before .before .before .before .before .before .if1 .left) _ (c .before .before .before .before .before .before .before .before .before .before .over .ensures) _ (c .before .before .before .before .before .before .before .before .before .«open» .ensures) _ _ _ _ _ _ _ (c .before .before .before .before .before .before .before .input .given .1) _ (c .before .before .before .before .before .safes .ensures) _ (c .before .before .before .before .close .ensures) _ _ (c .before .before .f2 .given .1) (c .refused3 .ensures)
 
 returns-4 : tie.Need-returns-4
 returns-4 c = close-found _ (c .before .before .before .before .before .before .before .before .before .before .before .before .if1 .left) _ (c .before .before .before .before .before .before .before .before .before .before .before .over .ensures) _ (c .before .before .before .before .before .before .before .before .before .before .«open» .ensures) _ _ _ _ _ _ _ (c .before .before .before .before .before .before .before .before .input .given .1) _ (c .before .before .before .before .before .before .safes .ensures) _ (c .before .before .before .before .before .close .ensures) _ _ _ (c .before .before .before .fields .given .1)
@@ -62,13 +62,13 @@ read-spec =
     open-requires
     enum-known-f
     refused-requires-2
+    returns-2
     enum-known-input
     safes-requires
     close-requires
     enum-known-f-2
     refused-requires-3
+    returns-3
     enum-known-fields
     add-elements
-    returns-2
-    returns-3
     returns-4)

@@ -1,5 +1,6 @@
 -- Each part at its place.
-use Rattle.words.specs.Loaded.{tableIn}
+use Rattle.words.proofs.Loading.{table-read}
+use native.Mathlib.Omega.{arith}
 use borrow.Author.Needs.{needs}
 use Rattle.words.proofs.load.Statement.{statement}
 use Rattle.words.proofs.load.Tie as tie
@@ -44,8 +45,7 @@ range-requires : tie.Need-range-requires
 range-requires c κs = search needs
 
 returns : tie.Need-returns
-unfolding tableIn
-returns c = cc
+returns c = table-read _ _ (omega (arith, c .before .before .before .before .before .before .before .before .word .ensures)) (omega (arith, c .before .before .before .before .before .before .before .word2 .ensures)) (omega (arith, c .before .before .before .before .before .before .word3 .ensures)) (omega (arith, c .before .before .before .before .before .word4 .ensures)) (c .before .before .before .before .safes .ensures) (c .before .before .before .bags .ensures) (c .before .before .attributes .ensures) (c .before .mac .ensures) (c .range .ensures)
 
 pub load-spec : {M : Type 1} → statement M
 load-spec =

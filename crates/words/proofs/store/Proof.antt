@@ -19,7 +19,7 @@ same-length : tie.Need-same-length
 same-length c = search needs
 
 returns-2 : tie.Need-returns-2
-returns-2 c = (table-answer (c .before .before .before .before .before .before .args .table) _ (omega (arith, c .before .before .before .before .if1 .left)), table-memory (c .before .before .before .before .before .before .args .table) _ (omega (arith, c .before .before .before .before .if1 .left)) _ _ (c .before .before .all .ensures))
+returns-2 c = (table-answer (c .before .before .before .before .before .before .args .table) _ (omega (arith, c .before .before .before .before .if1 .left)) _ (omega arith), table-memory (c .before .before .before .before .before .before .args .table) _ (omega (arith, c .before .before .before .before .if1 .left)) _ _ (c .before .before .all .ensures))
 
 pub store-spec : {M : Type 1} → statement M
 store-spec = tie.close (tie.spec too-few-requires returns all-requires same-length returns-2)

@@ -19,7 +19,7 @@ same-length : tie.Need-same-length
 same-length c = search needs
 
 returns-2 : tie.Need-returns-2
-returns-2 c = (row-answer (c .before .before .before .before .before .before .args .row) _ (omega (arith, c .before .before .before .before .if1 .left)), row-memory (c .before .before .before .before .before .before .args .row) _ (omega (arith, c .before .before .before .before .if1 .left)) _ _ (c .before .before .attribute .ensures))
+returns-2 c = (row-answer (c .before .before .before .before .before .before .args .row) _ (omega (arith, c .before .before .before .before .if1 .left)) _ (omega arith), row-memory (c .before .before .before .before .before .before .args .row) _ (omega (arith, c .before .before .before .before .if1 .left)) _ _ (c .before .before .attribute .ensures))
 
 pub store-row-spec : {M : Type 1} → statement M
 store-row-spec =

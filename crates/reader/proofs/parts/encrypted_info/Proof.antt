@@ -3,7 +3,7 @@ use borrow.Author.Needs.{needs}
 use Rattle.der.proofs.Choices.{choices, told-true, told-false}
 use Rattle.pkcs12.specs.Identifiers.{dataType}
 use Rattle.pkcs12.specs.Walk.{encryptedInfoAt}
-use Rattle.reader.specs.Steps.{ciphertextAt, encryptedPartsAt}
+use Rattle.reader.specs.Steps.{sealedValueAt, encryptedPartsAt}
 use Rattle.reader.proofs.Rules.{rooms}
 use Rattle.reader.proofs.parts.encrypted_info.Statement.{statement}
 use Rattle.reader.proofs.parts.encrypted_info.Tie as tie
@@ -36,19 +36,19 @@ encrypted-parts-requires : tie.Need-encrypted-parts-requires
 encrypted-parts-requires c κs = search needs
 
 returns : tie.Need-returns
-unfolding encryptedInfoAt encryptedPartsAt ciphertextAt dataType
+unfolding encryptedInfoAt encryptedPartsAt sealedValueAt dataType
 returns c = search (choices, told-true, told-false) depth 14
 
 returns-2 : tie.Need-returns-2
-unfolding encryptedInfoAt encryptedPartsAt ciphertextAt dataType
+unfolding encryptedInfoAt encryptedPartsAt sealedValueAt dataType
 returns-2 c = search (choices, told-true, told-false) depth 14
 
 returns-3 : tie.Need-returns-3
-unfolding encryptedInfoAt encryptedPartsAt ciphertextAt dataType
+unfolding encryptedInfoAt encryptedPartsAt sealedValueAt dataType
 returns-3 c = search (choices, told-true, told-false) depth 14
 
 returns-4 : tie.Need-returns-4
-unfolding encryptedInfoAt encryptedPartsAt ciphertextAt dataType
+unfolding encryptedInfoAt encryptedPartsAt sealedValueAt dataType
 returns-4 c = search (choices, told-true, told-false) depth 14
 
 pub encrypted-info-spec : {M : Type 1} → statement M

@@ -1,8 +1,8 @@
--- Each way out is the definition's, by the tests and answers on the way; places have room in a range.
+-- Each way out is the definition's, by the tests and answers on the way; a count has room for more.
 use borrow.Author.Needs.{needs}
 use Rattle.der.proofs.Choices.{choices}
 use Rattle.reader.specs.Steps.{encryptedPartsAt}
-use Rattle.reader.proofs.Rules.{answers, rooms}
+use Rattle.reader.proofs.Rules.{answers, algorithm-fits}
 use Rattle.reader.proofs.parts.encrypted_parts.Statement.{statement}
 use Rattle.reader.proofs.parts.encrypted_parts.Tie as tie
 
@@ -15,16 +15,23 @@ enum-known-f c = search needs
 enum-known-parts : tie.Need-enum-known-parts
 enum-known-parts c = search needs
 
-ciphertext-requires : tie.Need-ciphertext-requires
-ciphertext-requires c κs = search (needs, rooms)
-
 returns : tie.Need-returns
 unfolding encryptedPartsAt
 returns c = search (choices, answers) depth 14
 
+add-more : tie.Need-add-more
+add-more c = search algorithm-fits
+
+sealed-value-requires : tie.Need-sealed-value-requires
+sealed-value-requires c κs = search needs
+
 returns-2 : tie.Need-returns-2
 unfolding encryptedPartsAt
 returns-2 c = search (choices, answers) depth 14
+
+returns-3 : tie.Need-returns-3
+unfolding encryptedPartsAt
+returns-3 c = search (choices, answers) depth 14
 
 pub encrypted-parts-spec : {M : Type 1} → statement M
 encrypted-parts-spec =
@@ -33,6 +40,8 @@ encrypted-parts-spec =
     algorithm-requires
     enum-known-f
     enum-known-parts
-    ciphertext-requires
     returns
-    returns-2)
+    add-more
+    sealed-value-requires
+    returns-2
+    returns-3)

@@ -1,9 +1,9 @@
--- Each way out is the definition's, by the tests and answers on the way; places have room in a range.
+-- Each way out is the definition's, by the tests and answers on the way; a count has room for more.
 use borrow.Author.Needs.{needs}
 use Rattle.der.proofs.Choices.{choices}
 use Rattle.pkcs12.specs.Walk.{sealedAt}
-use Rattle.reader.specs.Steps.{octetsAt}
-use Rattle.reader.proofs.Rules.{answers, rooms}
+use Rattle.reader.specs.Steps.{sealedValueAt}
+use Rattle.reader.proofs.Rules.{answers, algorithm-fits}
 use Rattle.reader.proofs.parts.sealed.Statement.{statement}
 use Rattle.reader.proofs.parts.sealed.Tie as tie
 
@@ -25,19 +25,22 @@ enum-known-f-2 c = search needs
 enum-known-parts : tie.Need-enum-known-parts
 enum-known-parts c = search needs
 
-octets-requires : tie.Need-octets-requires
-octets-requires c κs = search (needs, rooms)
+add-more : tie.Need-add-more
+add-more c = search algorithm-fits
+
+sealed-value-requires : tie.Need-sealed-value-requires
+sealed-value-requires c κs = search needs
 
 returns : tie.Need-returns
-unfolding sealedAt octetsAt
+unfolding sealedAt sealedValueAt
 returns c = search (choices, answers) depth 14
 
 returns-2 : tie.Need-returns-2
-unfolding sealedAt octetsAt
+unfolding sealedAt sealedValueAt
 returns-2 c = search (choices, answers) depth 14
 
 returns-3 : tie.Need-returns-3
-unfolding sealedAt octetsAt
+unfolding sealedAt sealedValueAt
 returns-3 c = search (choices, answers) depth 14
 
 pub sealed-spec : {M : Type 1} → statement M
@@ -50,7 +53,8 @@ sealed-spec =
     algorithm-requires
     enum-known-f-2
     enum-known-parts
-    octets-requires
+    add-more
+    sealed-value-requires
     returns
     returns-2
     returns-3)

@@ -4,7 +4,6 @@ use native.Mathlib.Omega.{arith}
 use mathlib.Core.Path.{refl}
 use borrow.Author.Needs.{needs}
 use Rattle.sizes.proofs.Measures.{off, on, one-none, one-leaf, one-too-deep, one-nest, BagsGoing, bags-starts, bags-ends, bags-leaves, bags-nots, bags-goes, bags-less}
-use Prim.Native.Nat.{ℕ, _<_}
 use borrow.Fn.Kinds.{In}
 use borrow.Fn.PlainCycle.{Measures, is, falls, and}
 use Rattle.sizes.proofs.rows.bag.Reads as bag
@@ -16,7 +15,7 @@ use Rattle.sizes.proofs.rows.+bag+bags.Lts-bags as bags-lts
 use Rattle.sizes.proofs.content.Reads as content-reads
 use Rattle.sizes.proofs.element.Reads as element-reads
 use Rattle.sizes.proofs.rows.belongs.Reads as belongs-reads
-use Rattle.sizes.proofs.rows.fewer.Reads as fewer-reads
+use Rattle.pkcs12.proofs.fewer.Reads as fewer-reads
 use Rattle.sizes.proofs.rows.form_of.Reads as form-of-reads
 use Rattle.sizes.proofs.rows.joined.Reads as joined-reads
 use Rattle.sizes.proofs.rows.one_bag.Reads as one-bag-reads
@@ -128,7 +127,7 @@ bags-returns : (t : ℕ) → bags-lts.Need-returns (in-bags t) (bags-at t) bags.
 bags-returns t c = bags-leaves _ _ _ _ _ _ _ _ _ (c .before .before .before .before .before .loop .inv) (c .before .before .before .if1 .taken) _ (c .before .belongs .ensures) (off _ (c .if2 .taken))
 
 bags-bag-requires : (t : ℕ) → bags-lts.Need-bag-requires (in-bags t) (bags-at t) bags.Post bags-Inv-loop bags-μ-loop
-bags-bag-requires t c κs = search needs
+bags-bag-requires t c κs = (omega (arith, c .before .before .before .before .before .before .before .before .pre .0), (omega (arith, c .before .before .before .if1 .taken, c .before .before .before .before .before .loop .inv .within), refl))
 
 bags-enum-told : (t : ℕ) → bags-lts.Need-enum-told (in-bags t) (bags-at t) bags.Post bags-Inv-loop bags-μ-loop
 bags-enum-told t c = search needs

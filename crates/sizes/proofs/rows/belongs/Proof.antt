@@ -1,6 +1,6 @@
 -- By the two tests.
 use borrow.Author.Needs.{needs}
-use Rattle.der.proofs.Choices.{choices, told-true, told-false}
+use Rattle.der.proofs.Choices.{choices}
 use Rattle.sizes.proofs.rows.belongs.Statement.{statement}
 use Rattle.sizes.proofs.rows.belongs.Tie as tie
 

@@ -22,7 +22,7 @@ same-length c = search needs
 
 returns : tie.Need-returns
 unfolding wordsOf
-returns c = put-then _ _ _ _ _ _ _ _ (c .before .before .before .before .before .before .before .before .before .before .before .before .before .before .head .ensures) (put-then _ _ _ _ _ _ _ _ (c .before .before .before .before .before .before .before .before .before .before .safes .ensures) (put-then _ _ _ _ _ _ _ _ (c .before .before .before .before .before .before .bags .ensures) (c .before .before .attributes .ensures)))
+returns c = put-then _ _ _ _ _ _ _ _ (c .before .before .before .before .before .before .before .before .before .before .before .before .before .before .before .before .before .head .ensures) (put-then _ _ _ _ _ _ _ _ (c .before .before .before .before .before .before .before .before .before .before .before .before .safes .ensures) (put-then _ _ _ _ _ _ _ _ (c .before .before .before .before .before .before .before .bags .ensures) (c .before .before .attributes .ensures)))
 
 pub all-spec : {M : Type 1} → statement M
 all-spec =

@@ -1,6 +1,7 @@
 -- The loop stores the rows one behind another; zeros fill what is left.
 use Rattle.words.proofs.Rows.{Storing, store-start, store-turn, store-end}
-use Rattle.words.specs.Stored.{attributeWordsOf}
+use Rattle.words.specs.Stored.{attributeWords}
+use Rattle.pkcs12.specs.Table.{noAttribute}
 use Rattle.pkcs12.specs.Numbers.{attributeRows}
 use borrow.Author.Needs.{needs}
 use native.Mathlib.Omega.{arith}
@@ -9,22 +10,22 @@ use Rattle.words.proofs.put.attributes.Statement.{statement}
 use Rattle.words.proofs.put.attributes.Tie as tie
 
 abbrev Inv-loop : tie.InvT-loop
-Inv-loop out₀ at table end to₀ i₀ out to i = Storing (attributeWordsOf table) attributeRows out₀ at end out to i
+Inv-loop out₀ at count rows end to₀ i₀ out to i = Storing attributeWords noAttribute attributeRows rows out₀ at end out to i
 
 abbrev μ-loop : tie.MeasureT-loop
-μ-loop out₀ at table end to₀ i₀ out to i = end - i
+μ-loop out₀ at count rows end to₀ i₀ out to i = end - i
 
 fewer-requires : tie.Need-fewer-requires Inv-loop μ-loop
 fewer-requires c κs = search needs
 
 loop-holds : tie.Need-loop-holds Inv-loop μ-loop
-loop-holds c = store-start _ _ _ _ _ _ (c .fewer .ensures)
+loop-holds c = store-start _ _ _ _ _ _ _ _ (c .fewer .ensures)
 
 mul-row : tie.Need-mul-row Inv-loop μ-loop
 mul-row c = omega (arith, (c .before .loop .inv .few))
 
-element-copy-out-row : tie.Need-element-copy-out-row Inv-loop μ-loop
-element-copy-out-row c = omega (arith, (c .before .loop .inv .few))
+array-copy-out-row : tie.Need-array-copy-out-row Inv-loop μ-loop
+array-copy-out-row c = omega (arith, (c .before .loop .inv .few))
 
 attribute-requires : tie.Need-attribute-requires Inv-loop μ-loop
 attribute-requires c κs = search needs
@@ -36,7 +37,7 @@ loop-less : tie.Need-loop-less Inv-loop μ-loop
 loop-less c = search needs
 
 loop-again : tie.Need-loop-again Inv-loop μ-loop
-loop-again c = store-turn _ _ _ _ _ _ _ _ (c .before .before .before .before .before .before .loop .inv) _ _ (c .before .before .before .before .before .loop-test .taken) (search needs) (c .before .before .attribute .ensures)
+loop-again c = store-turn _ _ _ _ _ _ _ _ _ _ (c .before .before .before .before .before .before .loop .inv) _ _ (c .before .before .before .before .before .loop-test .taken) (search needs) (c .before .before .attribute .ensures)
 
 sub-left : tie.Need-sub-left Inv-loop μ-loop
 sub-left c = omega (arith, (c .before .loop .inv .few))
@@ -51,7 +52,7 @@ same-length : tie.Need-same-length Inv-loop μ-loop
 same-length c = search needs
 
 returns : tie.Need-returns Inv-loop μ-loop
-returns c = store-end _ _ _ _ _ _ _ _ (c .before .before .before .before .before .loop .inv) _ _ _ _ (c .before .before .before .before .before .before .fewer .ensures) (c .before .before .before .before .loop-test .left) (c .before .before .zeros .ensures)
+returns c = store-end _ _ _ _ _ _ _ _ _ _ (c .before .before .before .before .before .loop .inv) _ _ _ _ (c .before .before .before .before .before .before .fewer .ensures) (c .before .before .before .before .loop-test .left) (c .before .before .zeros .ensures)
 
 pub attributes-spec : {M : Type 1} → statement M
 attributes-spec =
@@ -62,7 +63,7 @@ attributes-spec =
     fewer-requires
     loop-holds
     mul-row
-    element-copy-out-row
+    array-copy-out-row
     attribute-requires
     add-i
     loop-less

@@ -1,6 +1,6 @@
 -- A byte is stored where there is room.
 use borrow.Author.Needs.{needs}
-use Rattle.writer.proofs.Puts.{byte-past, byte-put}
+use Rattle.writer.proofs.Puts.{byte-past}
 use Rattle.writer.proofs.out.byte.Statement.{statement}
 use Rattle.writer.proofs.out.byte.Tie as tie
 

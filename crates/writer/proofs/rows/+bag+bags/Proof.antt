@@ -5,7 +5,6 @@ use native.Mathlib.Omega.{arith}
 use borrow.Author.Needs.{needs}
 use Rattle.sizes.proofs.Measures.{off, on}
 use Rattle.writer.proofs.Rowing.{leaf-form, bag-nothing, bag-of-leaf, bag-deep, nest-body, nest-put, BagsPutting, bags-begin, bags-done, bags-other-place, bags-no-bag, bags-one-more}
-use Prim.Native.Nat.{ℕ, _<_}
 use borrow.Fn.Kinds.{In}
 use borrow.Fn.PlainCycle.{Measures, is, falls, and}
 use Rattle.writer.proofs.rows.bag.Reads as bag
@@ -17,7 +16,7 @@ use Rattle.writer.proofs.rows.+bag+bags.Lts-bags as bags-lts
 use Rattle.sizes.proofs.element.Reads as element-reads
 use Rattle.sizes.proofs.rows.bags.Reads as bags-reads
 use Rattle.sizes.proofs.rows.belongs.Reads as belongs-reads
-use Rattle.sizes.proofs.rows.fewer.Reads as fewer-reads
+use Rattle.pkcs12.proofs.fewer.Reads as fewer-reads
 use Rattle.sizes.proofs.rows.form_of.Reads as form-of-reads
 use Rattle.sizes.proofs.rows.set.Reads as rows-set-reads
 use Rattle.writer.proofs.out.header.Reads as header-reads

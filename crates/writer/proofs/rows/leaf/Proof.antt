@@ -1,5 +1,6 @@
 -- The head, the content and the set, one behind another.
-use Rattle.writer.proofs.Rowing.{owned-body, leaf-put}
+use Rattle.sizes.proofs.Taken.{owned-body}
+use Rattle.writer.proofs.Rowing.{leaf-put}
 use borrow.Author.Needs.{needs}
 use Rattle.writer.proofs.rows.leaf.Statement.{statement}
 use Rattle.writer.proofs.rows.leaf.Tie as tie

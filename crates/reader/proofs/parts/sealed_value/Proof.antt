@@ -1,13 +1,13 @@
 -- Each way out is the definition's, by the tests and answers on the way; places have room in a range.
 use borrow.Author.Needs.{needs}
 use Rattle.der.proofs.Choices.{choices}
-use Rattle.reader.specs.Steps.{octetsAt}
+use Rattle.reader.specs.Steps.{sealedValueAt}
 use Rattle.reader.proofs.Rules.{answers, rooms}
-use Rattle.reader.proofs.parts.octets.Statement.{statement}
-use Rattle.reader.proofs.parts.octets.Tie as tie
+use Rattle.reader.proofs.parts.sealed_value.Statement.{statement}
+use Rattle.reader.proofs.parts.sealed_value.Tie as tie
 
-octet-string-requires : tie.Need-octet-string-requires
-octet-string-requires c κs = search needs
+expect-requires : tie.Need-expect-requires
+expect-requires c κs = search needs
 
 enum-known-f : tie.Need-enum-known-f
 enum-known-f c = search needs
@@ -27,33 +27,29 @@ enum-told c = search needs
 range-of-requires : tie.Need-range-of-requires
 range-of-requires c κs = search (needs, rooms)
 
-add-more : tie.Need-add-more
-add-more c = search needs
-
 returns : tie.Need-returns
-unfolding octetsAt
+unfolding sealedValueAt
 returns c = search (choices, answers) depth 14
 
 returns-2 : tie.Need-returns-2
-unfolding octetsAt
+unfolding sealedValueAt
 returns-2 c = search (choices, answers) depth 14
 
 returns-3 : tie.Need-returns-3
-unfolding octetsAt
+unfolding sealedValueAt
 returns-3 c = search (choices, answers) depth 14
 
-pub octets-spec : {M : Type 1} → statement M
-octets-spec =
+pub sealed-value-spec : {M : Type 1} → statement M
+sealed-value-spec =
     tie.close
     (tie.spec
-    octet-string-requires
+    expect-requires
     enum-known-f
     enum-known-body
     finish-requires
     enum-known-f-2
     enum-told
     range-of-requires
-    add-more
     returns
     returns-2
     returns-3)
