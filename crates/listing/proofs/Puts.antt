@@ -3,7 +3,7 @@ use mathlib.Core.Path.{_≡_, refl, _∙_}
 use mathlib.Core.List.{List, [], _∷_, _++_}
 use Prim.Native.Nat.{ℕ, zero, suc, _+_, _-_, _/_, _%_, _≤_, _<_}
 use native.Mathlib.Omega.{arith}
-use lib.ListN.{length, getD, take, set, length-append}
+use lib.ListN.{length, getD, take, length-append}
 use lib.Seq.{set-out, take-suc, take-all}
 use borrow.Author.Tests.{lt-ltb, le-ltb}
 use Rattle.pkcs12.specs.Placed.{Placed}
@@ -34,9 +34,6 @@ module _ (d : List ℕ) (at b : ℕ) where
 
   pub byte-past : length d ≤ at → Put d at (b ∷ []) d (at + 1)
   byte-past h = record { done = λ k. rw (set-out d at b h) at (placed-one d at b) }
-
-  pub byte-put : Put d at (b ∷ []) (set d at b) (at + 1)
-  byte-put = record { done = λ k. placed-one d at b }
 
 -- ---- text
 

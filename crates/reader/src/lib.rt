@@ -38,14 +38,15 @@ fn refused(fault: Fault) -> Reading
 pub fn read(file: &[u8]) -> Reading
     ensures { λ r. ⌜ r ≡ readFile (now (file .entry)) ⌝ }
 {
+    let none: Reading;
     if pkcs12::FILE_BYTES < file.len() {
-        let none = refused(LONG);
+        none = refused(LONG);
         return none;
     }
     let whole = Cursor::over(file);
     match file::open(file, whole) {
         Opened::Refused(f) => {
-            let none = refused(f);
+            none = refused(f);
             return none;
         }
         Opened::Found {
@@ -61,7 +62,7 @@ pub fn read(file: &[u8]) -> Reading
             let answer = all.answer;
             match file::close(file, answer, safes, string, content, mac, rest) {
                 MacAt::Refused(f) => {
-                    let none = refused(f);
+                    none = refused(f);
                     return none;
                 }
                 MacAt::Found {

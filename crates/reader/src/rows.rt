@@ -76,9 +76,10 @@ fn attributes(s: &[u8], number: u16, table: Table, e: Cursor, c: Cursor, n: Curs
     requires { ⌜ Ready (now s) table (c .at) ⌝ }
     ensures { λ r. ⌜ r ≡ progress (bagEndAt (now (s .entry)) number (rowsIn table) e c n) ⌝ }
 {
+    let none: Progress;
     match bags::set_at(s, e, c) {
         Set::Refused(f) => {
-            let none = refused(f);
+            none = refused(f);
             return none;
         }
         Set::None => {
@@ -100,7 +101,7 @@ fn attributes(s: &[u8], number: u16, table: Table, e: Cursor, c: Cursor, n: Curs
                 let full = pkcs12::ATTRIBUTE_ROWS <= row;
                 match bags::attribute(s, full, here) {
                     PartsAt::Refused(f) => {
-                        let none = refused(f);
+                        none = refused(f);
                         return none;
                     }
                     PartsAt::Found {
@@ -118,7 +119,7 @@ fn attributes(s: &[u8], number: u16, table: Table, e: Cursor, c: Cursor, n: Curs
             }
             match next.finish() {
                 Checked::Refused(f) => {
-                    let none = refused(f);
+                    none = refused(f);
                     return none;
                 }
                 Checked::Passed { count: _, next: _ } => {
@@ -278,6 +279,7 @@ pub(crate) fn safes(s: &[u8], m: Cursor, b: Cursor) -> Progress
     requires { ⌜ (length (now s) ≤ fileBytes) × (m .at ≤ fileBytes) × (m .end ≤ fileBytes) ⌝ }
     ensures { λ r. ⌜ r ≡ progress (run (safeAt (now (s .entry))) (startRows m) b) ⌝ }
 {
+    let none: Progress;
     let mut table = start(m);
     let end = b.end;
     let mut at = b.at;
@@ -287,7 +289,7 @@ pub(crate) fn safes(s: &[u8], m: Cursor, b: Cursor) -> Progress
         let full = pkcs12::SAFE_ROWS <= row;
         match safes::safe(s, full, here) {
             Contents::Refused(f) => {
-                let none = refused(f);
+                none = refused(f);
                 return none;
             }
             Contents::Encrypted { parts, count, next } => {
@@ -320,7 +322,7 @@ pub(crate) fn safes(s: &[u8], m: Cursor, b: Cursor) -> Progress
                 let behind = inner.next;
                 match safes::closed(answer, behind, string, content) {
                     Checked::Refused(f) => {
-                        let none = refused(f);
+                        none = refused(f);
                         return none;
                     }
                     Checked::Passed { count: _, next: _ } => {

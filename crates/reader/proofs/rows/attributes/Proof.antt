@@ -64,8 +64,8 @@ add-elements c = turn-fits _ (c .before .before .before .before .before .before 
 attribute-row-requires : tie.Need-attribute-row-requires Inv-loop μ-loop
 attribute-row-requires c κs = search needs
 
-mul-t31 : tie.Need-mul-t31 Inv-loop μ-loop
-mul-t31 c = omega (arith, turn-room _ (c .before .before .before .before .before .before .before .before .before .before .before .before .args .number) _ _ _ (c .before .before .before .before .before .before .before .before .before .before .before .before .args .n) (c .before .before .before .before .before .before .before .before .before .before .before .before .pre) _ (c .before .before .before .before .before .before .before .before .before .before .set-at .ensures) _ _ (c .before .before .before .before .before .before .before .before .body .given .1) _ _ (c .before .before .before .before .before .before .loop .inv) _ _ _ _ (c .before .before .before .before .attribute .ensures) (c .before .before .parts .given .1))
+mul-t29 : tie.Need-mul-t29 Inv-loop μ-loop
+mul-t29 c = omega (arith, turn-room _ (c .before .before .before .before .before .before .before .before .before .before .before .before .args .number) _ _ _ (c .before .before .before .before .before .before .before .before .before .before .before .before .args .n) (c .before .before .before .before .before .before .before .before .before .before .before .before .pre) _ (c .before .before .before .before .before .before .before .before .before .before .set-at .ensures) _ _ (c .before .before .before .before .before .before .before .before .body .given .1) _ _ (c .before .before .before .before .before .before .loop .inv) _ _ _ _ (c .before .before .before .before .attribute .ensures) (c .before .before .parts .given .1))
 
 element-set-from-grown : tie.Need-element-set-from-grown Inv-loop μ-loop
 element-set-from-grown c = turn-room _ (c .before .before .before .before .before .before .before .before .before .before .before .before .args .number) _ _ _ (c .before .before .before .before .before .before .before .before .before .before .before .before .args .n) (c .before .before .before .before .before .before .before .before .before .before .before .before .pre) _ (c .before .before .before .before .before .before .before .before .before .before .set-at .ensures) _ _ (c .before .before .before .before .before .before .before .before .body .given .1) _ _ (c .before .before .before .before .before .before .loop .inv) _ _ _ _ (c .before .before .before .before .attribute .ensures) (c .before .before .parts .given .1)
@@ -119,7 +119,7 @@ attributes-spec =
     enum-known-parts
     add-elements
     attribute-row-requires
-    mul-t31
+    mul-t29
     element-set-from-grown
     add-grown
     loop-less

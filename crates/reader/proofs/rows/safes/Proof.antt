@@ -40,8 +40,8 @@ enum-known-parts c = search needs
 add-elements : tie.Need-add-elements Inv-loop μ-loop
 add-elements c = sealed-fits _ _ _ _ _ (c .before .before .before .before .before .loop .inv) (c .before .before .before .before .loop-test .taken) _ (c .before .before .before .safe .ensures) _ _ _ (c .before .parts .given .1)
 
-mul-t31 : tie.Need-mul-t31 Inv-loop μ-loop
-mul-t31 c = omega (arith, sealed-room _ _ _ _ _ (c .before .before .before .before .before .loop .inv) (c .before .before .before .before .loop-test .taken) _ (c .before .before .before .safe .ensures) _ _ _ (c .before .parts .given .1))
+mul-t30 : tie.Need-mul-t30 Inv-loop μ-loop
+mul-t30 c = omega (arith, sealed-room _ _ _ _ _ (c .before .before .before .before .before .loop .inv) (c .before .before .before .before .loop-test .taken) _ (c .before .before .before .safe .ensures) _ _ _ (c .before .parts .given .1))
 
 element-set-from-table : tie.Need-element-set-from-table Inv-loop μ-loop
 element-set-from-table c = sealed-room _ _ _ _ _ (c .before .before .before .before .before .loop .inv) (c .before .before .before .before .loop-test .taken) _ (c .before .before .before .safe .ensures) _ _ _ (c .before .parts .given .1)
@@ -64,8 +64,8 @@ cast-number c = omega (arith, plain-room _ _ _ _ _ (c .before .before .before .b
 add-elements-2 : tie.Need-add-elements-2 Inv-loop μ-loop
 add-elements-2 c = plain-fits _ _ _ _ _ (c .before .before .before .before .before .loop .inv) (c .before .before .before .before .loop-test .taken) _ (c .before .before .before .safe .ensures) _ _ _ _ (c .before .body .given .1)
 
-mul-t36 : tie.Need-mul-t36 Inv-loop μ-loop
-mul-t36 c = omega (arith, plain-room _ _ _ _ _ (c .before .before .before .before .before .loop .inv) (c .before .before .before .before .loop-test .taken) _ (c .before .before .before .safe .ensures) _ _ _ _ (c .before .body .given .1))
+mul-t35 : tie.Need-mul-t35 Inv-loop μ-loop
+mul-t35 c = omega (arith, plain-room _ _ _ _ _ (c .before .before .before .before .before .loop .inv) (c .before .before .before .before .loop-test .taken) _ (c .before .before .before .safe .ensures) _ _ _ _ (c .before .body .given .1))
 
 element-set-from-table-2 : tie.Need-element-set-from-table-2 Inv-loop μ-loop
 element-set-from-table-2 c = plain-room _ _ _ _ _ (c .before .before .before .before .before .loop .inv) (c .before .before .before .before .loop-test .taken) _ (c .before .before .before .safe .ensures) _ _ _ _ (c .before .body .given .1)
@@ -114,7 +114,7 @@ safes-spec =
     returns
     enum-known-parts
     add-elements
-    mul-t31
+    mul-t30
     element-set-from-table
     add-table
     loop-less
@@ -122,7 +122,7 @@ safes-spec =
     enum-known-body
     cast-number
     add-elements-2
-    mul-t36
+    mul-t35
     element-set-from-table-2
     add-table-2
     safe-contents-requires
