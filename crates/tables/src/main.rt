@@ -1,5 +1,5 @@
 // Runs the writer over the tables of standard input, sound ones and others. Each stands in a frame: its length in four bytes, high first, then
-// the size of the room, the counts, the rows, the MAC fields and the bytes. docs/TESTS.md has the frame's parts and the lines.
+// the size of the buffer (the scope's room), the counts, the rows, the MAC fields and the bytes. docs/TESTS.md has the frame's parts and the lines.
 // A frame that doesn't hold these is answered by the line `cut`, and nothing after it is read.
 ghost use Prim.Native.Nat.{_<_};
 use der::Fault;
@@ -271,25 +271,25 @@ fn table_of(s: &[u8], rows: Rows) -> Table {
     table
 }
 
-// What stands at a place of the room before the writer is called.
+// What stands at a place of the buffer before the writer is called.
 fn pattern(i: usize) -> u8 {
     let low = i % 256;
     ((low * 7 + 3) % 256) as u8
 }
 
-fn fill(room: &mut [u8]) {
+fn fill(out: &mut [u8]) {
     let mut i = 0;
-    while i < room.len() {
-        room[i] = pattern(i);
+    while i < out.len() {
+        out[i] = pattern(i);
         i = i + 1;
     }
 }
 
-// Whether the room is as it was filled, from that place on.
-fn unchanged(room: &[u8], from: usize) -> bool {
+// Whether the buffer is as it was filled, from that place on.
+fn unchanged(out: &[u8], from: usize) -> bool {
     let mut i = from;
-    while i < room.len() {
-        if room[i] != pattern(i) {
+    while i < out.len() {
+        if out[i] != pattern(i) {
             return false;
         }
         i = i + 1;
@@ -297,9 +297,9 @@ fn unchanged(room: &[u8], from: usize) -> bool {
     true
 }
 
-// Says whether the room is as it was filled, and ends the line.
-fn show_rest(room: &[u8], from: usize) {
-    if unchanged(room, from) {
+// Says whether the buffer is as it was filled, and ends the line.
+fn show_rest(out: &[u8], from: usize) {
+    if unchanged(out, from) {
         text(b" as before\n");
     } else {
         text(b" changed\n");
@@ -316,64 +316,64 @@ fn show_bytes(s: &[u8]) {
     text(b"\n");
 }
 
-fn show_file(room: &[u8], n: usize) {
+fn show_file(out: &[u8], n: usize) {
     text(b"length ");
     decimal(n);
     text(b", rest");
-    show_rest(room, n);
-    if n <= room.len() {
-        show_bytes(&room[0..n]);
+    show_rest(out, n);
+    if n <= out.len() {
+        show_bytes(&out[0..n]);
     }
 }
 
-fn show_refusal(room: &[u8], fault: Fault) {
+fn show_refusal(out: &[u8], fault: Fault) {
     text(b"refused ");
     decimal(fault.number as usize);
     text(b" at ");
     decimal(fault.offset);
     text(b", buffer");
-    show_rest(room, 0);
+    show_rest(out, 0);
 }
 
 // One call of the writer, and what came of it.
-fn run(table: Table, bytes: &[u8], room: &mut [u8]) {
-    fill(room);
-    let written = writer::write(table, bytes, room);
+fn run(table: Table, bytes: &[u8], out: &mut [u8]) {
+    fill(out);
+    let written = writer::write(table, bytes, out);
     match written {
-        Written::Length(n) => show_file(room, n),
-        Written::Refused(fault) => show_refusal(room, fault),
+        Written::Length(n) => show_file(out, n),
+        Written::Refused(fault) => show_refusal(out, fault),
     }
 }
 
 // Runs the writer over a frame's table. Answers whether the frame holds one.
-fn table_frame(s: &[u8], room: &mut [u8]) -> bool {
+fn table_frame(s: &[u8], out: &mut [u8]) -> bool {
     let rows = Rows::of(s);
     let start = rows.bytes_at();
     let size = four(s, 0) as usize;
     if s.len() < start {
         return cut();
     }
-    if room.len() < size {
+    if out.len() < size {
         return cut();
     }
     if !rows.fit() {
         return cut();
     }
-    run(table_of(s, rows), &s[start..], &mut room[0..size]);
+    run(table_of(s, rows), &s[start..], &mut out[0..size]);
     true
 }
 
 // Fills the part with a frame and runs it. Answers whether to go on.
-fn body(part: &mut [u8], room: &mut [u8]) -> bool {
+fn body(part: &mut [u8], out: &mut [u8]) -> bool {
     let got = io::read_full(libc::STDIN_FILENO, part);
     if got < part.len() {
         return cut();
     }
-    table_frame(part, room)
+    table_frame(part, out)
 }
 
 // One frame, and whether to go on.
-fn frame(buffer: &mut [u8], room: &mut [u8]) -> bool {
+fn frame(buffer: &mut [u8], out: &mut [u8]) -> bool {
     let mut header = [0u8; LENGTH];
     let got = io::read_full(libc::STDIN_FILENO, &mut header);
     if got == 0 {
@@ -386,19 +386,19 @@ fn frame(buffer: &mut [u8], room: &mut [u8]) -> bool {
     if buffer.len() < n {
         return cut();
     }
-    body(&mut buffer[0..n], room)
+    body(&mut buffer[0..n], out)
 }
 
 // Nothing says that the input ends, so the frames are counted down, from a number that no input has.
-fn frames(buffer: &mut [u8], room: &mut [u8]) {
+fn frames(buffer: &mut [u8], out: &mut [u8]) {
     let mut left = u64::MAX;
-    while left > 0 && frame(buffer, room) {
+    while left > 0 && frame(buffer, out) {
         left = left - 1;
     }
 }
 
 fn main() {
     let mut buffer = io::large_buffer();
-    let mut room = io::large_buffer();
-    frames(&mut buffer, &mut room);
+    let mut out = io::large_buffer();
+    frames(&mut buffer, &mut out);
 }

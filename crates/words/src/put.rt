@@ -83,11 +83,11 @@ fn word(out: &mut [u32], at: usize, w: u32) -> usize
 fn zeros(out: &mut [u32], at: usize, n: usize) -> usize
     ensures { λ r. ⌜ Put (now (out .entry)) at (replicate n 0) (now (out .exit)) r ⌝ }
 {
-    let room = out.len();
-    if room < at {
+    let size = out.len();
+    if size < at {
         return at;
     }
-    let left = room - at;
+    let left = size - at;
     if left < n {
         return at;
     }

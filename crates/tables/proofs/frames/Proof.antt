@@ -6,10 +6,10 @@ use Rattle.tables.proofs.frames.Statement.{statement}
 use Rattle.tables.proofs.frames.Tie as tie
 
 abbrev Inv-loop : tie.InvT-loop
-Inv-loop buffer₀ room₀ left₀ buffer room left = (length buffer ≡ length buffer₀) × (length room ≡ length room₀)
+Inv-loop buffer₀ out₀ left₀ buffer out left = (length buffer ≡ length buffer₀) × (length out ≡ length out₀)
 
 abbrev μ-loop : tie.MeasureT-loop
-μ-loop buffer₀ room₀ left₀ buffer room left = left
+μ-loop buffer₀ out₀ left₀ buffer out left = left
 
 loop-holds : tie.Need-loop-holds Inv-loop μ-loop
 loop-holds c = search needs

@@ -1,4 +1,4 @@
--- Less of the room is left each time.
+-- Less of the out is left each time.
 use Prim.Native.Nat.{_-_}
 use lib.ListN.{length}
 use borrow.Author.Needs.{needs}
@@ -6,10 +6,10 @@ use Rattle.tables.proofs.unchanged.Statement.{statement}
 use Rattle.tables.proofs.unchanged.Tie as tie
 
 abbrev Inv-loop : tie.InvT-loop
-Inv-loop room from i₀ i = Unit {0}
+Inv-loop out from i₀ i = Unit {0}
 
 abbrev μ-loop : tie.MeasureT-loop
-μ-loop room from i₀ i = length room - i
+μ-loop out from i₀ i = length out - i
 
 loop-holds : tie.Need-loop-holds Inv-loop μ-loop
 loop-holds c = search needs

@@ -6,10 +6,10 @@ use Rattle.words.proofs.put.zeros.Statement.{statement}
 use Rattle.words.proofs.put.zeros.Tie as tie
 
 abbrev Inv-loop : tie.InvT-loop
-Inv-loop out₀ at n room left i₀ out i = Clearing out₀ at n out i
+Inv-loop out₀ at n size left i₀ out i = Clearing out₀ at n out i
 
 abbrev μ-loop : tie.MeasureT-loop
-μ-loop out₀ at n room left i₀ out i = n - i
+μ-loop out₀ at n size left i₀ out i = n - i
 
 returns : tie.Need-returns Inv-loop μ-loop
 returns c = search zeros-past
