@@ -24,4 +24,6 @@ pub mod Refusals
 pub mod Corollaries
 pub mod Checked
 pub mod Writing
+pub mod SoundWritten
+pub mod Outcomes
 pub mod Placing

@@ -5,24 +5,25 @@ use mathlib.Core.Logic.{_↔_}
 use mathlib.Core.Path.{_≡_}
 use mathlib.Core.List.{List, [], _++_}
 use mathlib.Core.Option.{some}
-use Prim.Native.Nat.{ℕ, _+_, _*_, _≤_}
+use Prim.Native.Nat.{ℕ, _+_, _*_, _≤_, _<_}
 use lib.ListN.{length, drop}
 use Rattle.der.specs.Span.{Bytes}
 use Rattle.der.specs.Element.{fault}
 use Rattle.der.specs.Tree.{elementsIn}
 use Rattle.der.specs.declared.Fault.{Fault}
-use Rattle.pkcs12.specs.Numbers.{fileBytes, notSound}
+use Rattle.pkcs12.specs.Numbers.{fileBytes}
 use Rattle.pkcs12.specs.Syntax.{Pfx}
 use Rattle.pkcs12.specs.Encode.{encode}
 use Rattle.pkcs12.specs.Valid.{Valid, Opaques}
 use Rattle.pkcs12.specs.Elements.{opaqueCount, elements}
 use Rattle.pkcs12.specs.Values.{Values, rowsOf, treeOf}
-use Rattle.pkcs12.specs.Table.{Rows, tableOf, emptyTable, rowsIn, readingOf}
+use Rattle.pkcs12.specs.Table.{tableOf, emptyTable, rowsIn, readingOf}
 use Rattle.pkcs12.specs.Walk.{readFile}
 use Rattle.pkcs12.specs.Laid.{ElementLaid, PfxLaid}
 use Rattle.pkcs12.specs.Accepted.{IsAccepted, Follows, tableFrom, readingFrom, endToEnd, Each}
 use Rattle.pkcs12.specs.Sound.{Sound}
 use Rattle.pkcs12.specs.Written.{fileOf, success, writeFile}
+use Rattle.pkcs12.specs.Delivered.{Delivered}
 use Rattle.pkcs12.specs.declared.Range.{Range}
 use Rattle.pkcs12.specs.declared.Table.{Table}
 use Rattle.pkcs12.specs.declared.Answer.{Answer}
@@ -36,6 +37,8 @@ use Rattle.pkcs12.proofs.Refusals as refusals
 use Rattle.pkcs12.proofs.Corollaries as corollaries
 use Rattle.pkcs12.proofs.Checked as checked
 use Rattle.pkcs12.proofs.Writing as writing
+use Rattle.pkcs12.proofs.SoundWritten as written
+use Rattle.pkcs12.proofs.Outcomes as outcomes
 
 -- ---- exactly the standard
 
@@ -84,9 +87,28 @@ refused-table-empty = refusals.refused-empty
 pub file-iff-sound : (t : Table) (s : List ℕ) → Bytes s → (f : List ℕ) → fileOf t s ≡ some f ↔ ((o : Sound t s) × (encode (o .reading) ≡ f))
 file-iff-sound = checked.file-iff-sound
 
--- Writing refuses by 11 exactly if the table is not sound.
-pub refused-iff-unsound : (t : Table) (s room : List ℕ) → Bytes s → writeFile t s room .answer ≡ Written.Refused (fault notSound 0) ↔ (Sound t s → ⊥)
-refused-iff-unsound = writing.answers
+-- A sound table is written, if its file has at most 65,535 bytes and is no longer than the buffer: the file stands at
+-- the front of the buffer, is accepted, has the table's reading, and is the only accepted file that does.
+pub sound-is-written : (t : Table) (s buffer : List ℕ) → Bytes s → (o : Sound t s)
+    → length (encode (o .reading)) ≤ 65535 → length (encode (o .reading)) ≤ length buffer
+    → Delivered t s buffer (encode (o .reading)) (o .reading)
+sound-is-written = written.sound-is-written
+
+-- Writing refuses by 11 exactly if the table is not sound; by 9 exactly if it is, and its file has more than 65,535
+-- bytes; by 10 exactly if it is, its file has no more than that, and the buffer is shorter than the file.
+pub refused-iff-unsound : (t : Table) (s buffer : List ℕ) → Bytes s
+    → writeFile t s buffer .answer ≡ Written.Refused (fault 11 0) ↔ (Sound t s → ⊥)
+refused-iff-unsound = outcomes.refused-11-iff
+
+pub refused-9-iff : (t : Table) (s buffer : List ℕ) → Bytes s
+    → writeFile t s buffer .answer ≡ Written.Refused (fault 9 0)
+    ↔ ((o : Sound t s) × (65535 < length (encode (o .reading))))
+refused-9-iff = outcomes.refused-9-iff
+
+pub refused-10-iff : (t : Table) (s buffer : List ℕ) → Bytes s
+    → writeFile t s buffer .answer ≡ Written.Refused (fault 10 0)
+    ↔ ((o : Sound t s) × (length (encode (o .reading)) ≤ 65535) × (length buffer < length (encode (o .reading))))
+refused-10-iff = outcomes.refused-10-iff
 
 -- The file of a sound table, if it isn't too long, is accepted and has the table's reading; and it is the only file with that reading.
 pub written-is-read : (t : Table) (s : List ℕ) → Bytes s → (o : Sound t s) → length (encode (o .reading)) ≤ fileBytes
@@ -97,16 +119,19 @@ pub written-is-only : (t : Table) (s : List ℕ) (o : Sound t s) (g : List ℕ) 
 written-is-only = writing.only-file
 
 -- The same of what `writeFile` leaves in the buffer: an accepted file with the table's reading, and behind it what stood there.
-pub written-buffer : (t : Table) (s room : List ℕ) → Bytes s → (n : ℕ) → writeFile t s room .answer ≡ Length n
-    → (f : List ℕ) × (length f ≡ n) × (writeFile t s room .buffer ≡ f ++ drop n room) × IsAccepted f × (readingFrom f ≡ readingOf t s)
-written-buffer = writing.written-file
+pub written-buffer : (t : Table) (s buffer : List ℕ) → Bytes s → (n : ℕ) → writeFile t s buffer .answer ≡ Length n
+    → (f : List ℕ) × (length f ≡ n) × (writeFile t s buffer .buffer ≡ f ++ drop n buffer)
+    × IsAccepted f × (readingFrom f ≡ readingOf t s)
+written-buffer = outcomes.written-file
 
-pub refused-buffer : (t : Table) (s room : List ℕ) (f : Fault) → writeFile t s room .answer ≡ Written.Refused f → writeFile t s room .buffer ≡ room
-refused-buffer = writing.refused-buffer
+pub refused-buffer : (t : Table) (s buffer : List ℕ) (f : Fault) → writeFile t s buffer .answer ≡ Written.Refused f
+    → writeFile t s buffer .buffer ≡ buffer
+refused-buffer = outcomes.refused-buffer
 
 -- Reading an accepted file and writing its table gives the same file.
-pub read-is-written : (f room : List ℕ) → Bytes f → IsAccepted f → length f ≤ length room → writeFile (tableFrom f) f room ≡ success f room
-read-is-written = writing.rewritten
+pub read-is-written : (f buffer : List ℕ) → Bytes f → IsAccepted f → length f ≤ length buffer
+    → writeFile (tableFrom f) f buffer ≡ success f buffer
+read-is-written = written.rewritten
 
 -- ---- one reading, one file
 

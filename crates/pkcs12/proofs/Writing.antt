@@ -1,24 +1,20 @@
 -- What a sound table is written as: a file of bytes that is accepted and shows the table's reading, and the only one.
 use mathlib.Core.Bool.{true}
-use mathlib.Core.Logic.{_↔_}
 use mathlib.Core.Path.{_≡_, refl, sym, ap, _∙_}
 use mathlib.Core.List.{List, [], _∷_, _++_, map}
-use mathlib.Core.Option.{Option, some}
-use mathlib.Core.Option as option
+use mathlib.Core.Option.{some}
 use Prim.Native.Nat.{ℕ, _+_, _≤_}
 use native.Mathlib.Omega.{arith}
 use lib.Dec.{ltb}
-use lib.ListN.{length, getD, drop, length-append}
-use borrow.Author.Tests.{ltb-true, le-ltb}
-use Rattle.der.specs.Choice.{if_then_else_}
+use lib.ListN.{length, getD, length-append}
+use borrow.Author.Tests.{ltb-true}
 use Rattle.der.specs.Numbers.{octetStringTag, identifierTag, integerTag}
 use Rattle.der.specs.Octets.{tlv, digits, integerOctets}
-use Rattle.der.specs.Element.{fault}
 use Rattle.der.specs.Span.{Bytes}
-use Rattle.der.specs.declared.Fault.{Fault}
 use Rattle.der.proofs.Choices.{never, by-test, by-lt, by-eq}
 use Rattle.der.proofs.Octets.{bytes-append, digits-bytes, tlv-long, tlv-bytes}
-use Rattle.pkcs12.specs.Numbers.{fileBytes, tooLong, noRoom, notSound, sequenceTag, setTag, contextTag, ciphertextTag, encryptedVersion, pfxVersion, defaultIterations}
+use Rattle.pkcs12.specs.Numbers.{fileBytes, sequenceTag, setTag, contextTag, ciphertextTag}
+use Rattle.pkcs12.specs.Numbers.{encryptedVersion, pfxVersion, defaultIterations}
 use Rattle.pkcs12.specs.Identifiers.{dataType, encryptedType, identifierOf}
 use Rattle.pkcs12.specs.Syntax.{Algorithm, Sealed, Attribute, Set, absent, present, Bags, none, bag, nest, Safe, plain, encrypted, MacData, Pfx, kindOfLeaf}
 use Rattle.pkcs12.specs.Encode.{integer, identifier, algorithmBytes, sealedBytes, contentInfo, dataBytes, attributeBytes, attributesBytes, setBytes, leafBytes, bagBytes, bagsBytes, encryptedInfo, safeBytes, safesBytes, iterationsBytes, macBytes, encode}
@@ -28,7 +24,7 @@ use Rattle.pkcs12.specs.Table.{Rows, bytesIn, algorithmIn, sealedIn, con
 use Rattle.pkcs12.specs.Accepted.{IsAccepted, Follows, tableFrom, readingFrom, Each}
 use Rattle.pkcs12.specs.Sound.{Sound}
 use Rattle.pkcs12.specs.Checks.{all}
-use Rattle.pkcs12.specs.Written.{fileOf, onFile, Outcome, refusal, success, writeFile}
+use Rattle.pkcs12.specs.Written.{fileOf}
 use Rattle.pkcs12.specs.declared.Parts.{Parts}
 use Rattle.pkcs12.specs.declared.SafeKind.{SafeKind}
 use Rattle.pkcs12.specs.declared.SafeKind.the-variants.{Plain, Encrypted}
@@ -39,10 +35,8 @@ use Rattle.pkcs12.specs.declared.Enclosing.the-variants.{Bag}
 use Rattle.pkcs12.specs.declared.AttributeRow.{AttributeRow}
 use Rattle.pkcs12.specs.declared.Mac.{Mac}
 use Rattle.pkcs12.specs.declared.Table.{Table}
-use Rattle.pkcs12.specs.declared.Written.{Written}
-use Rattle.pkcs12.specs.declared.Written.the-variants.{Length}
 use Rattle.pkcs12.proofs.Rows.{tree-rows}
-use Rattle.pkcs12.proofs.Checked.{part-bytes, sound-file, file-iff-sound, no-file-iff}
+use Rattle.pkcs12.proofs.Checked.{part-bytes, sound-file}
 use Rattle.pkcs12.proofs.Corollaries.{accepted-follows, accepted-sound, follows-accepted, follows-reading}
 
 -- ---- what is written is of bytes
@@ -277,61 +271,3 @@ pub read-then-written : (f : List ℕ) → Bytes f → IsAccepted f → fileOf (
 read-then-written f b a =
     let o = accepted-sound f b a in
     sound-file (tableFrom f) f b o ∙ ap some (sym (only-file (tableFrom f) f o f b a refl))
-
-pub rewritten : (f room : List ℕ) → Bytes f → IsAccepted f → length f ≤ length room → writeFile (tableFrom f) f room ≡ success f room
-unfolding writeFile
-rewritten f room b a h =
-    rw (read-then-written f b a, le-ltb fileBytes (length f) (accepted-follows f b a .1 .size), le-ltb (length room) (length f) h)
-
--- ---- the answers of writing
-
--- an answer by number: a length is 0, a refusal one more than its number
-abbrev code : Written → ℕ
-code (Length n) = 0
-code (Written.Refused f) = 1 + f .number
-
-module _ (t : Table) (s room : List ℕ) where
-  -- what holds of each outcome holds of the one that writing has
-  by-outcome : (P : Outcome → Type 0)
-      → (fileOf t s ≡ option.none → P (refusal notSound room))
-      → P (refusal tooLong room)
-      → P (refusal noRoom room)
-      → ((f : List ℕ) → fileOf t s ≡ some f → length f ≤ fileBytes → P (success f room))
-      → P (writeFile t s room)
-  unfolding writeFile
-  by-outcome P p q r g = go (fileOf t s) p g
-    where
-      go : (u : Option (List ℕ)) → (u ≡ option.none → P (refusal notSound room)) → ((f : List ℕ) → u ≡ some f → length f ≤ fileBytes → P (success f room))
-          → P (onFile u (refusal notSound room) (λ f. if ltb fileBytes (length f) then refusal tooLong room else if ltb (length room) (length f) then refusal noRoom room else success f room))
-      go option.none h k = h refl
-      go (some f) h k = by-lt P _ _ fileBytes (length f) (λ a. q) (λ a. by-lt P _ _ (length room) (length f) (λ b. r) (λ b. k f refl a))
-
-  -- a length: the file stands at the front of the room, is accepted, and shows the table's reading
-  pub written-file : Bytes s → (n : ℕ) → writeFile t s room .answer ≡ Length n
-      → (f : List ℕ) × (length f ≡ n) × (writeFile t s room .buffer ≡ f ++ drop n room) × IsAccepted f × (readingFrom f ≡ readingOf t s)
-  written-file b n =
-      by-outcome
-      (λ w. w .answer ≡ Length n → (f : List ℕ) × (length f ≡ n) × (w .buffer ≡ f ++ drop n room) × IsAccepted f × (readingFrom f ≡ readingOf t s))
-      (λ h e. absurd (omega (arith, ap code e))) (λ e. absurd (omega (arith, ap code e))) (λ e. absurd (omega (arith, ap code e)))
-      (λ f h k e.
-      let o = file-iff-sound t s b f .0 h in
-      let a = written-is-read t s b (o .0) (rw (o .1) k) in
-      let l : length f ≡ n = cc in
-      (f, l, rw l refl, rw (← (o .1)) (a .0), rw (← (o .1)) (a .1)))
-
-  -- a refusal: the room is as before
-  pub refused-buffer : (fault : Fault) → writeFile t s room .answer ≡ Written.Refused fault → writeFile t s room .buffer ≡ room
-  refused-buffer fault =
-      by-outcome (λ w. w .answer ≡ Written.Refused fault → w .buffer ≡ room) (λ h e. refl) (λ e. refl) (λ e. refl)
-      (λ f h k e. absurd (omega (arith, ap code e)))
-
-  -- refused as not sound exactly if it isn't
-  pub answers : Bytes s → writeFile t s room .answer ≡ Written.Refused (fault notSound 0) ↔ (Sound t s → ⊥)
-  unfolding writeFile
-  answers b = (
-    λ e. no-file-iff t s b .0 (
-        by-outcome (λ w. w .answer ≡ Written.Refused (fault notSound 0) → fileOf t s ≡ option.none) (λ h e. h) (λ e. absurd (omega (arith, ap code e)))
-        (λ e. absurd (omega (arith, ap code e))) (λ f h k e. absurd (omega (arith, ap code e))) e
-        ),
-    λ h. rw (no-file-iff t s b .1 h),
-  )

@@ -14,6 +14,7 @@ pub mod Accepted
 pub mod Sound
 pub mod Checks
 pub mod Written
+pub mod Delivered
 pub mod Placed
 pub mod Bench
 pub mod Telling
