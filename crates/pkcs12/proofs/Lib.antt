@@ -26,4 +26,5 @@ pub mod Checked
 pub mod Writing
 pub mod SoundWritten
 pub mod Outcomes
+pub mod Alike
 pub mod Placing

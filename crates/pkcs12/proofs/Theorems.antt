@@ -24,6 +24,7 @@ use Rattle.pkcs12.specs.Accepted.{IsAccepted, Follows, tableFrom, readin
 use Rattle.pkcs12.specs.Sound.{Sound}
 use Rattle.pkcs12.specs.Written.{fileOf, success, writeFile}
 use Rattle.pkcs12.specs.Delivered.{Delivered}
+use Rattle.pkcs12.specs.Alike.{Alike}
 use Rattle.pkcs12.specs.declared.Range.{Range}
 use Rattle.pkcs12.specs.declared.Table.{Table}
 use Rattle.pkcs12.specs.declared.Answer.{Answer}
@@ -39,6 +40,7 @@ use Rattle.pkcs12.proofs.Checked as checked
 use Rattle.pkcs12.proofs.Writing as writing
 use Rattle.pkcs12.proofs.SoundWritten as written
 use Rattle.pkcs12.proofs.Outcomes as outcomes
+use Rattle.pkcs12.proofs.Alike as alike
 
 -- ---- exactly the standard
 
@@ -133,6 +135,14 @@ pub read-is-written : (f buffer : List ℕ) → Bytes f → IsAccepted f → len
     → writeFile (tableFrom f) f buffer ≡ success f buffer
 read-is-written = written.rewritten
 
+-- Tables that differ only in what the scope says is ignored are sound for the same bytes, and writing does the same
+-- with them.
+pub alike-sound : (t u : Table) → Alike t u → (s : List ℕ) → Sound t s ↔ Sound u s
+alike-sound = alike.alike-sound
+
+pub alike-written : (t u : Table) → Alike t u → (s buffer : List ℕ) → writeFile t s buffer ≡ writeFile u s buffer
+alike-written = alike.alike-written
+
 -- ---- one reading, one file
 
 -- Readings of accepted files are equal exactly when the files are.
@@ -142,6 +152,11 @@ same-reading-iff-same-file f g p q a b = (corollaries.same-reading f g p q a b, 
 -- An attribute's values that are equal bytes are equally many equal elements, one by one.
 pub same-values-same-elements : (x : List ℕ) (o p : Opaques x) → o .as-trees ≡ p .as-trees
 same-values-same-elements = corollaries.same-elements
+
+-- An accepted file at the front of bytes is the only one there.
+pub accepted-front-unique : (f g r q : List ℕ) → Bytes f → Bytes g → IsAccepted f → IsAccepted g → f ++ r ≡ g ++ q
+    → (f ≡ g) × (r ≡ q)
+accepted-front-unique f g r q b c a d = corollaries.front-same f g b c a d r q
 
 -- No accepted file is a proper beginning of another.
 pub no-proper-beginning : (f g r : List ℕ) → Bytes f → Bytes g → IsAccepted f → IsAccepted g → f ++ r ≡ g → r ≡ []

@@ -15,6 +15,7 @@ pub mod Sound
 pub mod Checks
 pub mod Written
 pub mod Delivered
+pub mod Alike
 pub mod Placed
 pub mod Bench
 pub mod Telling
