@@ -1,6 +1,7 @@
 -- What is proved of reading and of writing: `Theorems` states it. Below: the bench set computed, identifiers, rows and readings, what is written is read
 -- (Complete..), what is read was written (Sound..), one file for one reading, and the number of elements.
 pub mod Theorems
+pub mod Numbered
 pub mod Bench
 pub mod Stored
 pub mod Cut

@@ -30,8 +30,10 @@ use Rattle.pkcs12.specs.declared.Table.{Table}
 use Rattle.pkcs12.specs.declared.Answer.{Answer}
 use Rattle.pkcs12.specs.declared.Written.{Written}
 use Rattle.pkcs12.specs.declared.Written.the-variants.{Length}
+use Rattle.pkcs12.specs.Numbered.{NumbersNamed}
 use Rattle.pkcs12.specs.Bench.{Holds, benchCases}
 use Rattle.pkcs12.specs.Telling.{slipCases, numberCases}
+use Rattle.pkcs12.proofs.Numbered as numbered
 use Rattle.pkcs12.proofs.Bench as bench
 use Rattle.pkcs12.proofs.Rows as rows
 use Rattle.pkcs12.proofs.Refusals as refusals
@@ -176,7 +178,11 @@ rows-show-reading x v = rows.rows-tree x (v .safes)
 pub reading-has-rows : (v : Values) (x : Pfx) → treeOf v ≡ some x → rowsOf x ≡ v
 reading-has-rows = rows.tree-rows
 
--- ---- the bench set
+-- ---- the numbers, and the bench set
+
+-- Each name of a refusal, a size, a tag, a number or an identifier is what the scope has for it.
+pub numbers-named : NumbersNamed
+numbers-named = numbered.numbers-named
 
 -- Cases (a) to (j) of the scope, files that tell its tempting slips, and files that tell a wrong number: what reading each gives, with every field of
 -- the table.

@@ -5,7 +5,6 @@ use mathlib.Core.List.{List, [], _∷_, _++_, map}
 use Prim.Native.Nat.{ℕ}
 use lib.ListN.{take, drop, replicate}
 use lib.Seq.{slice}
-use Rattle.der.specs.Numbers.{missing, overrun, lengthForm, content, leftOver}
 use Rattle.der.specs.Element.{fault}
 use Rattle.pkcs12.specs.Table.{range, parts, noParts, safeRow, macFields, tableOf}
 use Rattle.pkcs12.specs.Walk.{refused, readFile}
@@ -33,6 +32,10 @@ case f r = record { file = f; gives = r }
 
 abbrev pub accepted : Table → Reading
 accepted t = record { answer = Accepted; table = t }
+
+-- a refusal by number and place; both are written out in every case
+abbrev pub refusal : ℕ → ℕ → Reading
+refusal n p = refused (fault n p)
 
 -- "M is 47 bytes": 30 2D, 02 01 03; 30 11, 06 09 data, A0 04, 04 02, 30 00; 30 15, 30 10, 30 0B, 06 09 .., 04 01 AA, 04 01 55
 abbrev pub m : List ℕ
@@ -92,12 +95,12 @@ unfoldable pub benchCases : List Case
 benchCases =
     -- (a) M; (b) empty file: 1 at 0; (c) M without its last byte: 1 at 0; (d) M and one byte 00: 6 at 47; (e) M with version 4: 5 at 2
     case m (accepted tableOfM)
-    ∷ case [] (refused (fault missing 0))
-    ∷ case (take 46 m) (refused (fault overrun 0))
-    ∷ case (m ++ (0 ∷ [])) (refused (fault leftOver 47))
-    ∷ case (take 4 m ++ (4 ∷ drop 5 m)) (refused (fault content 2))
+    ∷ case [] (refusal 1 0)
+    ∷ case (take 46 m) (refusal 1 0)
+    ∷ case (m ++ (0 ∷ [])) (refusal 6 47)
+    ∷ case (take 4 m ++ (4 ∷ drop 5 m)) (refusal 5 2)
     -- (f) iterations 1 spelled out: 5 at 47; (g) 2048: accepted, 51 bytes, 14 elements
-    ∷ case (ending 48 24 (2 ∷ 1 ∷ 1 ∷ [])) (refused (fault content 47))
+    ∷ case (ending 48 24 (2 ∷ 1 ∷ 1 ∷ [])) (refusal 5 47)
     ∷ case (ending 49 25 (2 ∷ 2 ∷ 8 ∷ 0 ∷ [])) (accepted (quiet (range 22 24) (digested (range 32 41) (range 41 41) (range 43 44) (range 46 47) 2048) 14))
     -- (h) 66 bytes, 18 elements, MAC input 22..43
     ∷ case oneSafe
@@ -109,9 +112,9 @@ benchCases =
     (accepted (quiet (range 23 25) (digested (range 34 43) (range 43 43) (range 45 46) (range 49 177) 1) 13))
     ∷ case (salted (130 ∷ 1 ∷ 48 ∷ []) (130 ∷ 1 ∷ 22 ∷ []) (130 ∷ 1 ∷ 0 ∷ []) 256)
     (accepted (quiet (range 24 26) (digested (range 36 45) (range 45 45) (range 47 48) (range 52 308) 1) 13))
-    ∷ case (salted (129 ∷ 173 ∷ []) (129 ∷ 148 ∷ []) (129 ∷ 127 ∷ []) 127) (refused (fault lengthForm 46))
-    ∷ case (salted (130 ∷ 1 ∷ 47 ∷ []) (130 ∷ 1 ∷ 21 ∷ []) (130 ∷ 0 ∷ 255 ∷ []) 255) (refused (fault lengthForm 48))
+    ∷ case (salted (129 ∷ 173 ∷ []) (129 ∷ 148 ∷ []) (129 ∷ 127 ∷ []) 127) (refusal 3 46)
+    ∷ case (salted (130 ∷ 1 ∷ 47 ∷ []) (130 ∷ 1 ∷ 21 ∷ []) (130 ∷ 0 ∷ 255 ∷ []) 255) (refusal 3 48)
     -- (j) identifier bodies 80 01 and 2A 86 refused by 5
-    ∷ case (named 128 1) (refused (fault content 30))
-    ∷ case (named 42 134) (refused (fault content 30))
+    ∷ case (named 128 1) (refusal 5 30)
+    ∷ case (named 42 134) (refusal 5 30)
     ∷ []

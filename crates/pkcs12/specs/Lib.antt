@@ -17,5 +17,6 @@ pub mod Written
 pub mod Delivered
 pub mod Alike
 pub mod Placed
+pub mod Numbered
 pub mod Bench
 pub mod Telling

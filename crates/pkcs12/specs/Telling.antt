@@ -5,17 +5,13 @@ use mathlib.Core.List.{List, [], _∷_, _++_}
 use Prim.Native.Nat.{ℕ, zero, suc}
 use lib.ListN.{drop, replicate}
 use lib.Seq.{slice}
-use Rattle.der.specs.Numbers.{overrun}
-use Rattle.der.specs.Element.{fault}
 use Rattle.pkcs12.specs.Table.{range, noRange, parts, noParts, safeRow, bagRow, attributeRow, Rows, tableOf}
-use Rattle.pkcs12.specs.Walk.{refused}
 use Rattle.pkcs12.specs.declared.SafeKind.the-variants.{Plain, Encrypted}
 use Rattle.pkcs12.specs.declared.BagKind.the-variants.{Key, ShroudedKey, Certificate, Crl, Secret, Nested}
 use Rattle.pkcs12.specs.declared.Enclosing.{Enclosing}
 use Rattle.pkcs12.specs.declared.Enclosing.the-variants.{Bag}
-use Rattle.pkcs12.specs.declared.Reading.{Reading}
 use Rattle.der.specs.Octets.{tlv}
-use Rattle.pkcs12.specs.Bench.{Case, case, accepted, quiet, digested, m}
+use Rattle.pkcs12.specs.Bench.{Case, case, accepted, refusal, quiet, digested, m}
 
 -- M with NULL parameters, 05 00
 abbrev nullParameters : List ℕ
@@ -51,7 +47,7 @@ slipCases =
     -- "giving a nested bag's attributes to its enclosing bag"
     ∷ case (nestedKey 30) (accepted (tableOf nestedRows (digested (range 100 109) (range 109 109) (range 111 112) (range 114 115) 1)))
     -- "bounding a nested body by the file instead of its parent"
-    ∷ case (nestedKey 31) (refused (fault overrun 60))
+    ∷ case (nestedKey 31) (refusal 1 60)
     ∷ []
 
 -- ---- parts of files
@@ -111,9 +107,6 @@ nests (suc n) = bag 6 (tlv 48 (nests n))
 -- a key with n empty attributes of type 2A
 abbrev attributed : ℕ → List ℕ
 attributed n = tlv 48 (kind 1 ++ (160 ∷ 2 ∷ 48 ∷ 0 ∷ tlv 49 (times n (48 ∷ 5 ∷ 6 ∷ 1 ∷ 42 ∷ 49 ∷ 0 ∷ []))))
-
-abbrev refusal : ℕ → ℕ → Reading
-refusal n p = refused (fault n p)
 
 -- an encrypted safe and a bag of each kind; only a certificate's value must be an OCTET STRING
 abbrev everyKind : Case
