@@ -25,7 +25,7 @@ pub mod Refusals
 pub mod Corollaries
 pub mod Checked
 pub mod Writing
-pub mod SoundWritten
+pub mod Delivered
 pub mod Outcomes
 pub mod Alike
 pub mod Placing

@@ -23,7 +23,7 @@ use Rattle.pkcs12.specs.declared.Written.{Written}
 use Rattle.pkcs12.specs.declared.Written.the-variants.{Length}
 use Rattle.pkcs12.proofs.Checked.{sound-file, file-iff-sound, no-file-iff}
 use Rattle.pkcs12.proofs.Writing.{written-is-read}
-use Rattle.pkcs12.proofs.SoundWritten.{writes-none, writes-long, writes-short, writes-file}
+use Rattle.pkcs12.proofs.Delivered.{writes-none, writes-long, writes-short, writes-file}
 
 -- an answer by number: a length is 0, a refusal one more than its number
 abbrev code : Written → ℕ

@@ -1,6 +1,8 @@
 -- What is proved of reading a file and of writing one, stated over `readFile`, the definition that the reading call follows, and `writeFile`, that of the writing call. The proofs are elsewhere.
 -- `Bytes f`: each number of the list is below 256. `IsAccepted f`: `readFile f` accepts. `Follows f x`: f is what the valid reading x is written
 -- as, and has at most 65,535 bytes. `readingFrom f`: the reading that the table of f shows of f. `Sound t s`: the table t is sound for the bytes s.
+-- `Delivered t s buffer f x`: writing t over s delivers the file f with the reading x. `Alike t u`: t and u differ
+-- only in what the scope says is ignored.
 use mathlib.Core.Logic.{_↔_}
 use mathlib.Core.Path.{_≡_}
 use mathlib.Core.List.{List, [], _++_}
@@ -40,7 +42,7 @@ use Rattle.pkcs12.proofs.Refusals as refusals
 use Rattle.pkcs12.proofs.Corollaries as corollaries
 use Rattle.pkcs12.proofs.Checked as checked
 use Rattle.pkcs12.proofs.Writing as writing
-use Rattle.pkcs12.proofs.SoundWritten as written
+use Rattle.pkcs12.proofs.Delivered as delivered
 use Rattle.pkcs12.proofs.Outcomes as outcomes
 use Rattle.pkcs12.proofs.Alike as alike
 
@@ -96,7 +98,7 @@ file-iff-sound = checked.file-iff-sound
 pub sound-is-written : (t : Table) (s buffer : List ℕ) → Bytes s → (o : Sound t s)
     → length (encode (o .reading)) ≤ 65535 → length (encode (o .reading)) ≤ length buffer
     → Delivered t s buffer (encode (o .reading)) (o .reading)
-sound-is-written = written.sound-is-written
+sound-is-written = delivered.sound-is-written
 
 -- Writing refuses by 11 exactly if the table is not sound; by 9 exactly if it is, and its file has more than 65,535
 -- bytes; by 10 exactly if it is, its file has no more than that, and the buffer is shorter than the file.
@@ -135,7 +137,7 @@ refused-buffer = outcomes.refused-buffer
 -- Reading an accepted file and writing its table gives the same file.
 pub read-is-written : (f buffer : List ℕ) → Bytes f → IsAccepted f → length f ≤ length buffer
     → writeFile (tableFrom f) f buffer ≡ success f buffer
-read-is-written = written.rewritten
+read-is-written = delivered.rewritten
 
 -- Tables that differ only in what the scope says is ignored are sound for the same bytes, and writing does the same
 -- with them.
