@@ -9,5 +9,7 @@ pub mod Parts
 pub mod Mac
 pub mod Bags
 pub mod File
+pub mod Kept
+pub mod Fronts
 pub mod Refused
 pub mod Theorems

@@ -1,17 +1,25 @@
--- A refusal is where the account stops, and the other way round.
-use mathlib.Core.Path.{_≡_, refl, sym, _∙_}
-use mathlib.Core.List.{List, []}
-use Prim.Native.Nat.{ℕ}
+-- A refusal is where the account stops, and the other way round; and what follows of numbers, places, cut files and bytes after a file.
+use mathlib.Core.Path.{_≡_, refl, sym, ap, _∙_}
+use mathlib.Core.List.{List, [], _∷_, _++_}
+use Prim.Native.Nat.{ℕ, _+_, _≤_, _<_}
 use native.Mathlib.Omega.{arith}
-use lib.ListN.{length}
+use lib.Dec.{ltb}
+use lib.ListN.{length, length-append}
+use borrow.Author.Tests.{lt-ltb, le-ltb}
 use Rattle.der.specs.Element.{fault}
 use Rattle.der.specs.declared.Fault.{Fault}
+use Rattle.der.proofs.Choices.{either}
 use Rattle.pkcs12.specs.Walk.{readFile}
+use Rattle.pkcs12.specs.Accepted.{IsAccepted}
 use Rattle.pkcs12.specs.declared.Answer.{Answer}
 use Rattle.pkcs12.specs.declared.Answer.the-variants.{Accepted}
-use Rattle.refusals.specs.Element.{left, Made, Account, stops, goes}
-use Rattle.refusals.specs.Grammar.{accountOf}
+use Rattle.pkcs12.proofs.SoundFile.{accepted-size}
+use Rattle.refusals.specs.Element.{Left, left, Made, Account, stops, goes, Rule, closed, _before_, served, primitive}
+use Rattle.refusals.specs.Bodies.{version}
+use Rattle.refusals.specs.Grammar.{outer, macData, pfx, noneMade, accountOf}
 use Rattle.refusals.proofs.File.{Agreed, file-agrees}
+use Rattle.refusals.proofs.Kept.{Kept, closed-kept, pfx-keeps}
+use Rattle.refusals.proofs.Fronts.{apart, Whole, whole-of, after-stops, cut-stops}
 
 pub refused-stops : (f : List ℕ) (n p : ℕ) → readFile f .answer ≡ Answer.Refused (fault n p) → accountOf f ≡ stops n p
 refused-stops f n p e = rw e at (file-agrees f)
@@ -22,10 +30,81 @@ stops-at f n p (Answer.Refused r) a q e =
     let u : r .number ≡ n = cc in
     let v : r .offset ≡ p = cc in
     rw (sym u, sym v) refl
-stops-at f n p Accepted a q e =
-    let y : goes (q .0) (left (length f) []) ≡ stops n p = sym (q .1) ∙ e in
-    let z : _≡_ {A = ℕ} 0 1 = cc in
-    absurd (omega arith)
+stops-at f n p Accepted a q e = apart (q .0) (left (length f) []) n p (sym e ∙ q .1)
 
 pub stops-refused : (f : List ℕ) (n p : ℕ) → accountOf f ≡ stops n p → readFile f .answer ≡ Answer.Refused (fault n p)
 stops-refused f n p e = stops-at f n p (readFile f .answer) (accountOf f) (file-agrees f) e
+
+-- ---- numbers and places
+
+-- the account of a file, by its length
+too-long : (f : List ℕ) → 65535 < length f → accountOf f ≡ stops 9 0
+unfolding accountOf
+too-long f h = rw (lt-ltb 65535 (length f) h) refl
+
+not-long : (f : List ℕ) → length f ≤ 65535 → accountOf f ≡ closed (pfx noneMade (left 0 f)) (left (length f) [])
+unfolding accountOf
+not-long f h = rw (le-ltb 65535 (length f) h) refl
+
+file-kept : (f : List ℕ) → Kept (length f) (closed (pfx noneMade (left 0 f)) (left (length f) []))
+file-kept f =
+    closed-kept (0 + length f) (length f) (pfx noneMade (left 0 f)) (left (length f) []) (omega arith) (pfx-keeps .kept noneMade (left 0 f)) (omega arith)
+
+pub refusal-of : (f : List ℕ) (n p : ℕ) → readFile f .answer ≡ Answer.Refused (fault n p) → (1 ≤ n) × (n ≤ 9) × (p ≤ length f)
+refusal-of f n p e =
+    let a = refused-stops f n p e in
+    either 65535 (length f)
+    (λ h.
+    let z : stops n p ≡ stops 9 0 = sym a ∙ too-long f h in
+    let u : n ≡ 9 = cc in
+    let v : p ≡ 0 = cc in
+    (omega arith, omega arith, omega arith))
+    (λ h.
+    let k : Kept (length f) (stops n p) = rw (sym (not-long f h) ∙ a) at (file-kept f) in
+    (k .0, omega (arith, k .1), k .2))
+
+pub long-is-9 : (f : List ℕ) → 65535 < length f → readFile f .answer ≡ Answer.Refused (fault 9 0)
+long-is-9 f h = stops-refused f 9 0 (too-long f h)
+
+pub nine-is-long : (f : List ℕ) (p : ℕ) → readFile f .answer ≡ Answer.Refused (fault 9 p) → (65535 < length f) × (p ≡ 0)
+nine-is-long f p e =
+    let a = refused-stops f 9 p e in
+    either 65535 (length f)
+    (λ h.
+    let z : stops 9 p ≡ stops 9 0 = sym a ∙ too-long f h in
+    let v : p ≡ 0 = cc in
+    (h, v))
+    (λ h.
+    let k : Kept (length f) (stops 9 p) = rw (sym (not-long f h) ∙ a) at (file-kept f) in
+    absurd (omega (arith, k .1)))
+
+-- ---- accepted files, cut or with bytes after them
+
+-- what stands in the SEQUENCE of a file
+rule : Rule
+rule = primitive 0x02 version before outer before served macData
+
+accepted-goes : (f : List ℕ) → IsAccepted f → (made : Made) × (accountOf f ≡ goes made (left (length f) []))
+accepted-goes f e = rw e at (file-agrees f)
+
+accepted-whole : (f : List ℕ) → IsAccepted f → Whole rule noneMade f
+unfolding pfx rule
+accepted-whole f e =
+    let g = accepted-goes f e in
+    whole-of rule noneMade f (left (length f) []) (g .0) (left (length f) []) (sym (not-long f (accepted-size f e)) ∙ g .1)
+
+pub cut-refused : (f g r : List ℕ) → IsAccepted g → f ++ r ≡ g → (r ≡ [] → ⊥) → readFile f .answer ≡ Answer.Refused (fault 1 0)
+unfolding pfx rule
+cut-refused f g [] e q h = absurd (h refl)
+cut-refused f g (b ∷ r) e q h =
+    let w : Whole rule noneMade (f ++ (b ∷ r)) = rw (sym q) at (accepted-whole g e) in
+    stops-refused f 1 0
+    (not-long f (omega (arith, accepted-size g e, ap length q, length-append f (b ∷ r)))
+    ∙ cut-stops rule noneMade f (b ∷ r) (left (length f) []) w (omega arith))
+
+pub after-refused : (f r : List ℕ) → IsAccepted f → (r ≡ [] → ⊥) → length (f ++ r) ≤ 65535 → readFile (f ++ r) .answer ≡ Answer.Refused (fault 6 (length f))
+unfolding pfx rule
+after-refused f [] e h k = absurd (h refl)
+after-refused f (b ∷ r) e h k =
+    stops-refused (f ++ (b ∷ r)) 6 (length f)
+    (not-long (f ++ (b ∷ r)) k ∙ after-stops rule noneMade f b r (left (length (f ++ (b ∷ r))) []) (accepted-whole f e))
