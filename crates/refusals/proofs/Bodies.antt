@@ -18,7 +18,8 @@ use Rattle.refusals.specs.Bodies.{endsLow, partsBegin, isIdentifier, isI
 -- ---- identifiers
 
 -- a choice inside another, either way round
-turned : (p e q : Bool) → (if p then false else (if e then q else false)) ≡ (if e then (if p then false else q) else false)
+turned : (p e q : Bool) → (if p then false else (if e then q else false))
+    ≡ (if e then (if p then false else q) else false)
 turned true true q = refl
 turned true false q = refl
 turned false true q = refl
@@ -31,20 +32,23 @@ turned-last false true = refl
 turned-last false false = refl
 
 -- a part that begins with 80 hex, as one test
-joined : (u v r : Bool) → (if (if u then v else false) then false else r) ≡ (if u then (if v then false else r) else r)
+joined : (u v r : Bool) → (if (if u then v else false) then false else r)
+    ≡ (if u then (if v then false else r) else r)
 joined true true r = refl
 joined true false r = refl
 joined false true r = refl
 joined false false r = refl
 
-parts-same : (last b : ℕ) (x : List ℕ) → parts (ltb last 0x80) (b ∷ x) ≡ (if endsLow (b ∷ x) then partsBegin last (b ∷ x) else false)
+parts-same : (last b : ℕ) (x : List ℕ) → parts (ltb last 0x80) (b ∷ x)
+    ≡ (if endsLow (b ∷ x) then partsBegin last (b ∷ x) else false)
 unfolding parts endsLow partsBegin
 parts-same last b [] =
     let p : Bool = if ltb last 0x80 then eqb b 0x80 else false in
     rw (sym (joined (ltb last 0x80) (eqb b 0x80) true)) (turned-last p (ltb b 0x80))
 parts-same last b (c ∷ x) =
     let p : Bool = if ltb last 0x80 then eqb b 0x80 else false in
-    rw (sym (joined (ltb last 0x80) (eqb b 0x80) (partsBegin b (c ∷ x))), parts-same b c x) (turned p (endsLow (c ∷ x)) (partsBegin b (c ∷ x)))
+    rw (sym (joined (ltb last 0x80) (eqb b 0x80) (partsBegin b (c ∷ x))), parts-same b c x)
+    (turned p (endsLow (c ∷ x)) (partsBegin b (c ∷ x)))
 
 pub identifier-same : (x : List ℕ) → identifierBody x ≡ isIdentifier x
 unfolding identifierBody isIdentifier endsLow
@@ -70,7 +74,13 @@ rule-allowed (a ∷ b ∷ x) r =
 allowed-rule : (x : List ℕ) → isInteger x ≡ true → IntegerRule x
 unfolding isInteger
 allowed-rule [] = λ e. never e
-allowed-rule (a ∷ []) = λ e. record { some = omega arith; four = omega arith; positive = ltb-true a 0x80 e; minimal = λ h. absurd (omega arith) }
+allowed-rule (a ∷ []) = λ e. record {
+  some = omega arith;
+  four = omega arith;
+  positive = ltb-true a 0x80 e;
+  minimal =
+      λ h. absurd (omega arith);
+}
 allowed-rule (a ∷ b ∷ x) =
     by-lt Rule _ _ 2 (length x) (λ h e. never e)
     (λ h.

@@ -19,17 +19,22 @@ use Rattle.pkcs12.specs.Numbers.{fileBytes}
 use Rattle.pkcs12.specs.Identifiers.{sameBytes}
 use Rattle.pkcs12.specs.Identifiers as identifiers
 use Rattle.pkcs12.specs.Table.{Rows, noParts, safeRow}
-use Rattle.pkcs12.specs.Walk.{Walked, Refused, Went, onWalked, run, owner, safeContentsAt, dataAt, plainAt, sealedSafeAt, safeValueAt, safeAt, startRows, safesAt, outerValueAt, outerAt, encryptedAt, macAt, refused, bodyAt, onAnswer, alone, pfxAt, readFile}
+use Rattle.pkcs12.specs.Walk.{Walked, Refused, Went, onWalked, run, owner, safeContentsAt, dataAt, plainAt}
+use Rattle.pkcs12.specs.Walk.{sealedSafeAt, safeValueAt, safeAt, startRows, safesAt, outerValueAt, outerAt}
+use Rattle.pkcs12.specs.Walk.{encryptedAt, macAt, refused, bodyAt, onAnswer, alone, pfxAt, readFile}
 use Rattle.pkcs12.specs.declared.SafeKind.the-variants.{Plain}
 use Rattle.pkcs12.specs.declared.Enclosing.{Enclosing}
 use Rattle.pkcs12.specs.declared.Answer.{Answer}
 use Rattle.pkcs12.specs.declared.Answer.the-variants.{Accepted}
 use Rattle.pkcs12.specs.declared.Reading.{Reading}
-use Rattle.refusals.specs.Element.{Left, left, Made, Account, stops, goes, Rule, closed, allowed, onwards, _before_, frontBody, each, served, constructed}
+use Rattle.refusals.specs.Element.{Left, left, Made, Account, stops, goes, Rule, closed, allowed, onwards}
+use Rattle.refusals.specs.Element.{_before_, frontBody, each, served, constructed}
 use Rattle.refusals.specs.Bodies.{isIdentifier, isInteger, outerType, safeType, version}
-use Rattle.refusals.specs.Grammar.{encryptedData, moreSafes, safeContents, wrapped, safeValue, safe, outer, macData, pfx, noneMade, accountOf}
+use Rattle.refusals.specs.Grammar.{encryptedData, moreSafes, safeContents, wrapped, safeValue, safe, outer}
+use Rattle.refusals.specs.Grammar.{macData, pfx, noneMade, accountOf}
 use Rattle.refusals.proofs.Headers.{Lies}
-use Rattle.refusals.proofs.Links.{here, Past, Stands, link-test, link-expect, link-identifier, link-integer, link-finish, link-served}
+use Rattle.refusals.proofs.Links.{here, Past, Stands, link-test, link-expect, link-identifier, link-integer}
+use Rattle.refusals.proofs.Links.{link-finish, link-served}
 use Rattle.refusals.proofs.Agree.{Agree, Full, full-closed, madeIn, walkedOut, by-parts, by-mac, by-walked}
 use Rattle.refusals.proofs.Parts.{encrypted-agrees}
 use Rattle.refusals.proofs.Mac.{mac-agrees}
@@ -38,7 +43,8 @@ use Rattle.refusals.proofs.Bags.{safe-made, rows-agree, contents-agree}
 -- ---- what is judged of a body that keeps the rule, and of one that doesn't
 
 module _ (x : List ℕ) where
-  outer-type : isIdentifier x ≡ true → outerType x ≡ (if sameBytes x identifiers.dataType then 0 else (if sameBytes x identifiers.signedType then 7 else 5))
+  outer-type : isIdentifier x ≡ true → outerType x ≡ (if sameBytes x identifiers.dataType then 0 else
+      (if sameBytes x identifiers.signedType then 7 else 5))
   unfolding outerType identifiers.dataType identifiers.signedType
   outer-type e = rw e refl
 
@@ -47,7 +53,8 @@ module _ (x : List ℕ) where
   no-outer e = rw e refl
 
   safe-type : isIdentifier x ≡ true
-      → safeType x ≡ (if sameBytes x identifiers.dataType then 0 else (if sameBytes x identifiers.encryptedType then 0 else (if sameBytes x identifiers.envelopedType then 7 else 5)))
+      → safeType x ≡ (if sameBytes x identifiers.dataType then 0 else
+      (if sameBytes x identifiers.encryptedType then 0 else (if sameBytes x identifiers.envelopedType then 7 else 5)))
   unfolding safeType identifiers.dataType identifiers.encryptedType identifiers.envelopedType
   safe-type e = rw e refl
 
@@ -82,41 +89,50 @@ module _ (s : List ℕ) where
       (λ v e d.
       link-expect s Good Refused (λ a. closed a (here s e)) (λ f. refl) v (d .body) made 0x04 _ _ _
       (λ o f g.
-      by-walked s Good Refused (λ a. closed (closed a (here s f)) (here s e)) (λ f. refl) (Past s o) _ (inner o) _ (one o (g .body))
+      by-walked s Good Refused (λ a. closed (closed a (here s f)) (here s e)) (λ f. refl) (Past s o) _ (inner o) _
+      (one o (g .body))
       (λ st n p.
       link-finish s Good Refused (λ a. closed a (here s e)) (λ f. refl) n (p .lies) (madeIn st) (here s f) _
-      (λ z. link-finish s Good Refused (λ a. a) (λ f. refl) f (g .past .lies) (madeIn st) (here s e) _ (λ y. (refl, d .past))))))
+      (λ z. link-finish s Good Refused (λ a. a) (λ f. refl) f (g .past .lies) (madeIn st) (here s e) _
+      (λ y. (refl, d .past))))))
     where
       Good : Walked → Account → Type 0
       Good x a = Agree s (Past s c) (walkedOut x) a
 
-  plain-agrees : (st : Rows) (c : Cursor) → Lies s c → Agree s (Past s c) (walkedOut (plainAt s st c)) (wrapped (safeContents 8) (moreSafes (madeIn st)) (here s c))
+  plain-agrees : (st : Rows) (c : Cursor) → Lies s c → Agree s (Past s c) (walkedOut (plainAt s st c))
+      (wrapped (safeContents 8) (moreSafes (madeIn st)) (here s c))
   unfolding plainAt
   plain-agrees st c h =
-      data-agrees (safeContentsAt 8 s (owner (length (st .safes)) Enclosing.None) _) (safeContents 8) (moreSafes (madeIn st))
+      data-agrees (safeContentsAt 8 s (owner (length (st .safes)) Enclosing.None) _) (safeContents 8)
+      (moreSafes (madeIn st))
       (λ o k. rw (sym (safe-made st (safeRow Plain noParts) 4)) (contents-agree s 8 _ _ o k)) c h
 
   sealed-safe-agrees : (st : Rows) (c : Cursor) → Lies s c
-      → Agree s (Past s c) (walkedOut (sealedSafeAt s st c)) (constructed 0xA0 encryptedData (moreSafes (madeIn st)) (here s c))
+      → Agree s (Past s c) (walkedOut (sealedSafeAt s st c))
+      (constructed 0xA0 encryptedData (moreSafes (madeIn st)) (here s c))
   unfolding sealedSafeAt
   sealed-safe-agrees st c h =
       link-expect s Good Refused (λ a. a) (λ f. refl) c h (moreSafes (madeIn st)) 0xA0 _ _ _
       (λ v e d.
-      by-parts s Good Refused (λ a. closed a (here s e)) (λ f. refl) (Past s v) (moreSafes (madeIn st)) _ (encryptedAt s v) _ (encrypted-agrees s (moreSafes (madeIn st)) v (d .body))
+      by-parts s Good Refused (λ a. closed a (here s e)) (λ f. refl) (Past s v) (moreSafes (madeIn st)) _
+      (encryptedAt s v) _ (encrypted-agrees s (moreSafes (madeIn st)) v (d .body))
       (λ p k f q.
-      link-finish s Good Refused (λ a. a) (λ f. refl) f (q .lies) (moreSafes (madeIn st)) (here s e) _ (λ z. (rw (safe-made st _ _) refl, d .past))))
+      link-finish s Good Refused (λ a. a) (λ f. refl) f (q .lies) (moreSafes (madeIn st)) (here s e) _
+      (λ z. (rw (safe-made st _ _) refl, d .past))))
     where
       Good : Walked → Account → Type 0
       Good x a = Agree s (Past s c) (walkedOut x) a
 
-  safe-agrees : (st : Rows) (c : Cursor) → Lies s c → Agree s (Past s c) (walkedOut (safeAt s st c)) (safe (madeIn st) (here s c))
+  safe-agrees : (st : Rows) (c : Cursor) → Lies s c → Agree s (Past s c) (walkedOut (safeAt s st c))
+      (safe (madeIn st) (here s c))
   unfolding safeAt safe safeValueAt
   safe-agrees st c h =
       link-expect s Good Refused (λ a. a) (λ f. refl) c h (madeIn st) 0x30 _ _ _
       (λ b n d.
       link-test Good (λ x. x) (λ a. a) (leb 16 (length (st .safes))) _ _ _ _ (λ u. refl)
       (λ u.
-      link-identifier s Good Refused (λ a. closed (onwards a (safeValue (frontBody (bytesOf s b)))) (here s n)) (λ f. refl) b (d .body) (moreSafes (madeIn st)) safeType no-safe _
+      link-identifier s Good Refused (λ a. closed (onwards a (safeValue (frontBody (bytesOf s b)))) (here s n))
+      (λ f. refl) b (d .body) (moreSafes (madeIn st)) safeType no-safe _
       (λ i m e v.
       rw (e .front, safe-type (bytesOf s i) v) (by-type b n (d .past) (bytesOf s i) m (e .past .lies)))))
     where
@@ -129,27 +145,33 @@ module _ (s : List ℕ) where
       due : List ℕ → Cursor → Cursor → Cursor → ℕ → Account
       due x b m n k = closed (onwards (allowed k (b .at) (moreSafes (madeIn st)) (here s m)) (safeValue x)) (here s n)
 
-      then-ends : (n : Cursor) → Past s c n → (m : Cursor) (x : Walked) (a : Account) → Agree s (Past s m) (walkedOut x) a
+      then-ends : (n : Cursor) → Past s c n → (m : Cursor) (x : Walked) (a : Account)
+          → Agree s (Past s m) (walkedOut x) a
           → Good (onWalked x Refused (ends n)) (closed a (here s n))
       then-ends n past m x a q =
           by-walked s Good Refused (λ a. closed a (here s n)) (λ f. refl) (Past s m) (ends n) x a q
-          (λ st′ e p. link-finish s Good Refused (λ a. a) (λ f. refl) e (p .lies) (madeIn st′) (here s n) _ (λ z. (refl, past)))
+          (λ st′ e p. link-finish s Good Refused (λ a. a) (λ f. refl) e (p .lies) (madeIn st′) (here s n) _
+          (λ z. (refl, past)))
 
       by-type : (b n : Cursor) → Past s c n → (x : List ℕ) (m : Cursor) → Lies s m
           → Good (onWalked (safeValueAt s x (b .at) st m) Refused (ends n))
-          (due x b m n (if sameBytes x identifiers.dataType then 0 else (if sameBytes x identifiers.encryptedType then 0 else (if sameBytes x identifiers.envelopedType then 7 else 5))))
+          (due x b m n (if sameBytes x identifiers.dataType then 0 else
+          (if sameBytes x identifiers.encryptedType then 0 else
+          (if sameBytes x identifiers.envelopedType then 7 else 5))))
       by-type b n past x m lies =
           link-test Good F (due x b m n) (sameBytes x identifiers.dataType) _ _ _ _
           (λ u. rw (plain-value x u) (then-ends n past m (plainAt s st m) _ (plain-agrees st m lies)))
           (λ u.
           link-test Good F (due x b m n) (sameBytes x identifiers.encryptedType) _ _ _ _
           (λ v. rw (sealed-value x u) (then-ends n past m (sealedSafeAt s st m) _ (sealed-safe-agrees st m lies)))
-          (λ v. link-test Good F (due x b m n) (sameBytes x identifiers.envelopedType) _ _ _ _ (λ w. refl) (λ w. refl)))
+          (λ v. link-test Good F (due x b m n) (sameBytes x identifiers.envelopedType) _ _ _ _ (λ w. refl)
+          (λ w. refl)))
         where
           F : Walked → Walked
           F y = onWalked y Refused (ends n)
 
-  safes-agree : (c : Cursor) → Lies s c → Agree s (Past s c) (walkedOut (safesAt s c)) (constructed 0x30 (each safe) noneMade (here s c))
+  safes-agree : (c : Cursor) → Lies s c → Agree s (Past s c) (walkedOut (safesAt s c))
+      (constructed 0x30 (each safe) noneMade (here s c))
   unfolding safesAt
   safes-agree c h =
       link-expect s Good Refused (λ a. a) (λ f. refl) c h noneMade 0x30 _ _ _
@@ -161,20 +183,24 @@ module _ (s : List ℕ) where
       Good : Walked → Account → Type 0
       Good x a = Agree s (Past s c) (walkedOut x) a
 
-  pub outer-agrees : (c : Cursor) → Lies s c → Agree s (Past s c) (walkedOut (outerAt s c)) (outer noneMade (here s c))
+  pub outer-agrees : (c : Cursor) → Lies s c → Agree s (Past s c) (walkedOut (outerAt s c))
+      (outer noneMade (here s c))
   unfolding outerAt outer outerValueAt
   outer-agrees c h =
       link-expect s Good Refused (λ a. a) (λ f. refl) c h noneMade 0x30 _ _ _
       (λ b n d.
-      link-identifier s Good Refused (λ a. closed (onwards a (wrapped (constructed 0x30 (each safe)))) (here s n)) (λ f. refl) b (d .body) noneMade outerType no-outer _
+      link-identifier s Good Refused (λ a. closed (onwards a (wrapped (constructed 0x30 (each safe)))) (here s n))
+      (λ f. refl) b (d .body) noneMade outerType no-outer _
       (λ i m e v.
       rw (outer-type (bytesOf s i) v)
       (link-test Good (F n) (due b m n) (sameBytes (bytesOf s i) identifiers.dataType) _ _ _ _
       (λ u.
       by-walked s Good Refused (λ a. closed a (here s n)) (λ f. refl) (Past s m) _ (dataAt (safesAt s) s m) _
       (data-agrees (safesAt s) (constructed 0x30 (each safe)) noneMade safes-agree m (e .past .lies))
-      (λ st g p. link-finish s Good Refused (λ a. a) (λ f. refl) g (p .lies) (madeIn st) (here s n) _ (λ z. (refl, d .past))))
-      (λ u. link-test Good (F n) (due b m n) (sameBytes (bytesOf s i) identifiers.signedType) _ _ _ _ (λ w. refl) (λ w. refl)))))
+      (λ st g p. link-finish s Good Refused (λ a. a) (λ f. refl) g (p .lies) (madeIn st) (here s n) _
+      (λ z. (refl, d .past))))
+      (λ u. link-test Good (F n) (due b m n) (sameBytes (bytesOf s i) identifiers.signedType) _ _ _ _ (λ w. refl)
+      (λ w. refl)))))
     where
       Good : Walked → Account → Type 0
       Good x a = Agree s (Past s c) (walkedOut x) a
@@ -183,7 +209,8 @@ module _ (s : List ℕ) where
       F n y = onWalked y Refused (λ st e. onChecked (finishAt e) Refused (λ z g. Went st n))
 
       due : Cursor → Cursor → Cursor → ℕ → Account
-      due b m n k = closed (onwards (allowed k (b .at) noneMade (here s m)) (wrapped (constructed 0x30 (each safe)))) (here s n)
+      due b m n k = closed (onwards (allowed k (b .at) noneMade (here s m)) (wrapped (constructed 0x30 (each safe))))
+          (here s n)
 
   -- ---- the file
 
@@ -197,17 +224,21 @@ module _ (s : List ℕ) where
 
   -- the parts of a PFX behind its version, the end of its body, and the end of the file
   body-agrees : (c : Cursor) → Lies s c → (n : Cursor) → Lies s n
-      → Agreed (alone n (bodyAt s c) .answer) (closed (closed ((outer before served macData) noneMade (here s c)) (here s n)) over)
+      → Agreed (alone n (bodyAt s c) .answer) (closed (closed ((outer before served macData) noneMade (here s c))
+      (here s n)) over)
   unfolding bodyAt
   body-agrees c h n k =
-      by-walked s Good refused (λ a. closed (onwards a (served macData)) (here s n)) (λ f. refl) (Past s c) _ (outerAt s c) _ (outer-agrees c h)
+      by-walked s Good refused (λ a. closed (onwards a (served macData)) (here s n)) (λ f. refl) (Past s c) _
+      (outerAt s c) _ (outer-agrees c h)
       (λ st e p.
       link-served s Good refused (λ a. closed a (here s n)) (λ f. refl) e (p .lies) (madeIn st) macData _
       (λ l.
-      by-mac s Good refused (λ a. closed a (here s n)) (λ f. refl) (Past s e) (madeIn st) _ (macAt s e) _ (mac-agrees s (madeIn st) e (p .lies))
+      by-mac s Good refused (λ a. closed a (here s n)) (λ f. refl) (Past s e) (madeIn st) _ (macAt s e) _
+      (mac-agrees s (madeIn st) e (p .lies))
       (λ x j f q.
       link-finish s Good refused (λ a. a) (λ f. refl) f (q .lies) (madeIn st) (here s n) _
-      (λ z. link-finish s (λ r a. Agreed (r .answer) a) refused (λ a. a) (λ f. refl) n k (madeIn st) over _ (λ y. (madeIn st, refl))))))
+      (λ z. link-finish s (λ r a. Agreed (r .answer) a) refused (λ a. a) (λ f. refl) n k (madeIn st) over _
+      (λ y. (madeIn st, refl))))))
     where
       Good : Reading → Account → Type 0
       Good r a = Agreed (alone n r .answer) (closed a over)
@@ -217,10 +248,12 @@ module _ (s : List ℕ) where
   pfx-agrees c h =
       link-expect s Good refused (λ a. closed a over) (λ f. refl) c h noneMade 0x30 _ _ _
       (λ b n d.
-      link-integer s Good refused (λ a. closed (closed (onwards a (outer before served macData)) (here s n)) over) (λ f. refl) b (d .body) noneMade version no-version _
+      link-integer s Good refused (λ a. closed (closed (onwards a (outer before served macData)) (here s n)) over)
+      (λ f. refl) b (d .body) noneMade version no-version _
       (λ i m e v.
       rw (version-is (bytesOf s i) v)
-      (link-test Good (λ x. x) (λ k. closed (closed (onwards (allowed k (b .at) noneMade (here s m)) (outer before served macData)) (here s n)) over)
+      (link-test Good (λ x. x) (λ k. closed (closed (onwards (allowed k (b .at) noneMade (here s m))
+      (outer before served macData)) (here s n)) over)
       (eqb (number (bytesOf s i)) 3) _ _ _ _
       (λ u. body-agrees m (e .past .lies) n (d .past .lies))
       (λ u. refl))))

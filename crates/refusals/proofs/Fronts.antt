@@ -1,4 +1,5 @@
--- Headers of a list that is longer or shorter, and what the account then comes to: a file that is cut, and one with bytes after it.
+-- Headers of a list that is longer or shorter, and what the account then comes to: a file that is cut, and one with
+-- bytes after it.
 use mathlib.Core.Bool.{Bool, true, false}
 use mathlib.Core.Path.{_≡_, refl, sym, ap, _∙_}
 use mathlib.Core.List.{List, [], _∷_, _++_}
@@ -10,7 +11,9 @@ use lib.Seq.{take-append-le, drop-append-le}
 use borrow.Author.Tests.{lt-ltb, le-ltb, eqb-true}
 use Rattle.der.specs.Choice.{if_then_else_}
 use Rattle.der.proofs.Choices.{by-test, by-lt}
-use Rattle.refusals.specs.Element.{Left, left, Made, Account, stops, goes, Rule, Header, wrong, right, onHeader, fitting, after81, after82, sized, header, whereNone, closed, Content, walked, inside, element, is, never, constructed}
+use Rattle.refusals.specs.Element.{Left, left, Made, Account, stops, goes, Rule, Header, wrong, right, onHeader}
+use Rattle.refusals.specs.Element.{fitting, after81, after82, sized, header, whereNone, closed, Content, walked}
+use Rattle.refusals.specs.Element.{inside, element, is, never, constructed}
 use Rattle.refusals.proofs.Kept.{OfHeader, header-of}
 
 -- ---- a header in a longer list
@@ -22,17 +25,20 @@ Longer r (right t k size x) h = h ≡ right t k size (x ++ r)
 fitting-longer : (r : List ℕ) (t k size : ℕ) (x : List ℕ) → Longer r (fitting t k size x) (fitting t k size (x ++ r))
 unfolding fitting
 fitting-longer r t k size x =
-    by-lt (λ y. Longer r y (if ltb (length (x ++ r)) size then wrong 1 else right t k size (x ++ r))) _ _ (length x) size (λ h. tt)
+    by-lt (λ y. Longer r y (if ltb (length (x ++ r)) size then wrong 1 else right t k size (x ++ r))) _ _ (length x)
+    size (λ h. tt)
     (λ h. rw (le-ltb (length (x ++ r)) size (omega (arith, length-append x r))) refl)
 
-longer-test : (r : List ℕ) (u : Bool) (a b c d : Header) → Longer r a c → Longer r b d → Longer r (if u then a else b) (if u then c else d)
+longer-test : (r : List ℕ) (u : Bool) (a b c d : Header) → Longer r a c → Longer r b d
+    → Longer r (if u then a else b) (if u then c else d)
 longer-test r true a b c d p q = p
 longer-test r false a b c d p q = q
 
 pub header-longer : (f r : List ℕ) → Longer r (header f) (header (f ++ r))
 unfolding header sized after81 after82
 header-longer [] r = tt
-header-longer (t ∷ []) r = longer-test r (eqb t 0) (wrong 2) _ _ _ tt (longer-test r (eqb (t % 0x20) 0x1F) (wrong 2) (wrong 1) (wrong 2) _ tt tt)
+header-longer (t ∷ []) r = longer-test r (eqb t 0) (wrong 2) _ _ _ tt
+    (longer-test r (eqb (t % 0x20) 0x1F) (wrong 2) (wrong 1) (wrong 2) _ tt tt)
 header-longer (t ∷ n ∷ x) r =
     longer-test r (eqb t 0) (wrong 2) _ (wrong 2) _ tt
     (longer-test r (eqb (t % 0x20) 0x1F) (wrong 2) _ (wrong 2) _ tt
@@ -56,13 +62,15 @@ abbrev Cut : List ℕ → Header → Header → Type 0
 Cut f h (wrong n) = Unit {0}
 Cut f h (right t k size x) = length f < k + size → h ≡ wrong 1
 
-fitting-cut : (f : List ℕ) (t k size : ℕ) (x r : List ℕ) → length f ≡ k + length x → Cut f (fitting t k size x) (fitting t k size (x ++ r))
+fitting-cut : (f : List ℕ) (t k size : ℕ) (x r : List ℕ) → length f ≡ k + length x
+    → Cut f (fitting t k size x) (fitting t k size (x ++ r))
 unfolding fitting
 fitting-cut f t k size x r e =
     by-lt (Cut f (if ltb (length x) size then wrong 1 else right t k size x)) _ _ (length (x ++ r)) size (λ h. tt)
     (λ h l. rw (lt-ltb (length x) size (omega arith)) refl)
 
-cut-test : (f : List ℕ) (u : Bool) (a b c d : Header) → Cut f a c → Cut f b d → Cut f (if u then a else b) (if u then c else d)
+cut-test : (f : List ℕ) (u : Bool) (a b c d : Header) → Cut f a c → Cut f b d
+    → Cut f (if u then a else b) (if u then c else d)
 cut-test f true a b c d p q = p
 cut-test f false a b c d p q = q
 
@@ -86,12 +94,14 @@ header-cut (t ∷ n ∷ x) r =
   where
     one : (y : List ℕ) → Cut (t ∷ n ∷ y) (after81 t y) (after81 t (y ++ r))
     one [] = cut-short (t ∷ n ∷ []) (after81 t r)
-    one (a ∷ y) = cut-test (t ∷ n ∷ a ∷ y) (ltb a 0x80) (wrong 3) _ (wrong 3) _ tt (fitting-cut (t ∷ n ∷ a ∷ y) t 3 a y r (omega arith))
+    one (a ∷ y) = cut-test (t ∷ n ∷ a ∷ y) (ltb a 0x80) (wrong 3) _ (wrong 3) _ tt
+        (fitting-cut (t ∷ n ∷ a ∷ y) t 3 a y r (omega arith))
 
     two : (y : List ℕ) → Cut (t ∷ n ∷ y) (after82 t y) (after82 t (y ++ r))
     two [] = cut-short (t ∷ n ∷ []) (after82 t r)
     two (a ∷ []) = cut-short (t ∷ n ∷ a ∷ []) (after82 t (a ∷ r))
-    two (a ∷ b ∷ y) = cut-test (t ∷ n ∷ a ∷ b ∷ y) (eqb a 0) (wrong 3) _ (wrong 3) _ tt (fitting-cut (t ∷ n ∷ a ∷ b ∷ y) t 4 (a * 0x100 + b) y r (omega arith))
+    two (a ∷ b ∷ y) = cut-test (t ∷ n ∷ a ∷ b ∷ y) (eqb a 0) (wrong 3) _ (wrong 3) _ tt
+        (fitting-cut (t ∷ n ∷ a ∷ b ∷ y) t 4 (a * 0x100 + b) y r (omega arith))
 
 -- ---- one element that is a whole file
 
@@ -100,7 +110,8 @@ pub apart : {A : Type 0} (m : Made) (l : Left) (n p : ℕ) → stops n p ≡ goe
 apart m l n p e = let z : _≡_ {A = ℕ} 0 1 = cc in absurd (omega arith)
 
 -- a body that comes to its end does so whatever follows it
-closed-any : (a : Account) (after : Left) (m : Made) (l : Left) → closed a after ≡ goes m l → (l ≡ after) × ((other : Left) → closed a other ≡ goes m other)
+closed-any : (a : Account) (after : Left) (m : Made) (l : Left) → closed a after ≡ goes m l → (l ≡ after)
+    × ((other : Left) → closed a other ≡ goes m other)
 closed-any (stops n p) after m l e = apart m l n p e
 closed-any (goes k b) after m l e = go (b .bytes) e
   where
@@ -120,7 +131,8 @@ pub record Whole (rule : Rule) (made : Made) (f : List ℕ) : Type 0 where
   pub over : drop size rest ≡ []
   pub body : (other : Left) → closed (rule made (left (0 + head) (take size rest))) other ≡ goes last other
 
-none-of : (x : List ℕ) (k m : Made) (p : ℕ) (after l : Left) → whereNone x (goes k after) (stops 6 p) ≡ goes m l → x ≡ []
+none-of : (x : List ℕ) (k m : Made) (p : ℕ) (after l : Left) → whereNone x (goes k after) (stops 6 p) ≡ goes m l → x
+    ≡ []
 none-of [] k m p after l e = refl
 none-of (b ∷ x) k m p after l e = apart m l 6 p e
 
@@ -137,7 +149,8 @@ whole-of rule made f after m l = go (header f) refl (header-of f)
     ends h size x e p q (stops n k) i c = apart m l n k c
     ends h size x e p q (goes n b) i c =
         let j = closed-any (rule made (left (0 + h) (take size x))) (left (0 + h + size) (drop size x)) n b i in
-        let y : drop size x ≡ [] = ap (λ (z : Left). z .bytes) (sym (j .0)) ∙ none-of (b .bytes) n m (b .place) after l c in
+        let y : drop size x ≡ [] = ap (λ (z : Left). z .bytes) (sym (j .0))
+        ∙ none-of (b .bytes) n m (b .place) after l c in
         record {
           head = h;
           size = size;
@@ -150,11 +163,13 @@ whole-of rule made f after m l = go (header f) refl (header-of f)
         }
 
     go : (x : Header) → header f ≡ x → OfHeader f x
-        → closed (onHeader x (λ n. stops n 0) (λ t h size y. if is 0x30 t then inner h size y else stops 4 0)) after ≡ goes m l → Whole rule made f
+        → closed (onHeader x (λ n. stops n 0) (λ t h size y. if is 0x30 t then inner h size y else stops 4 0)) after
+        ≡ goes m l → Whole rule made f
     go (wrong n) e q c = apart m l n 0 c
     go (right t h size y) e q c = tagged (eqb t 0x30) (λ z. eqb-true t 0x30 z) c
       where
-        tagged : (u : Bool) → (u ≡ true → t ≡ 0x30) → closed (if u then inner h size y else stops 4 0) after ≡ goes m l → Whole rule made f
+        tagged : (u : Bool) → (u ≡ true → t ≡ 0x30) → closed (if u then inner h size y else stops 4 0) after
+            ≡ goes m l → Whole rule made f
         tagged true z k = ends h size y (rw (z refl) at e) (q .0) (q .1) (inner h size y) refl k
         tagged false z k = apart m l 4 0 k
 
@@ -163,9 +178,11 @@ pub after-stops : (rule : Rule) (made : Made) (f : List ℕ) (b : ℕ) (r : List
     → closed (constructed 0x30 rule made (left 0 (f ++ (b ∷ r)))) after ≡ stops 6 (length f)
 unfolding element
 after-stops rule made f b r after w =
-    let q : header (f ++ (b ∷ r)) ≡ right 0x30 (w .head) (w .size) (w .rest ++ (b ∷ r)) = rw (w .is-header) at (header-longer f (b ∷ r)) in
+    let q : header (f ++ (b ∷ r)) ≡ right 0x30 (w .head) (w .size) (w .rest ++ (b ∷ r)) = rw (w .is-header) at
+    (header-longer f (b ∷ r)) in
     let o : OfHeader f (right 0x30 (w .head) (w .size) (w .rest)) = rw (w .is-header) at (header-of f) in
-    let x : take (w .size) (w .rest ++ (b ∷ r)) ≡ take (w .size) (w .rest) = take-append-le (w .size) (w .rest) (b ∷ r) (o .1) in
+    let x : take (w .size) (w .rest ++ (b ∷ r)) ≡ take (w .size) (w .rest) = take-append-le (w .size) (w .rest)
+    (b ∷ r) (o .1) in
     let y : drop (w .size) (w .rest ++ (b ∷ r)) ≡ b ∷ r =
     drop-append-le (w .size) (w .rest) (b ∷ r) (o .1) ∙ ap (λ (z : List ℕ). z ++ (b ∷ r)) (w .over) in
     let e : 0 + w .head + w .size ≡ length f = omega (arith, w .long) in

@@ -1,5 +1,6 @@
--- Wherever the account stops, the number is 1 to 8 and the place lies within what was left; where it goes on, it goes to the same end. Proved of the one rule for
--- elements and of each way to put rules together, then of the grammar.
+-- Wherever the account stops, the number is 1 to 8 and the place lies within what was left; where it goes on, it
+-- goes to the same end. Proved of the one rule for elements and of each way to put rules together, then of the
+-- grammar.
 use mathlib.Core.Bool.{Bool, true, false}
 use mathlib.Core.Path.{_≡_, refl}
 use mathlib.Core.List.{List, [], _∷_}
@@ -12,9 +13,16 @@ use Rattle.der.specs.Choice.{if_then_else_}
 use Rattle.der.specs.Octets.{number}
 use Rattle.der.proofs.Choices.{by-test, by-lt}
 use Rattle.pkcs12.specs.Identifiers.{sameBytes}
-use Rattle.refusals.specs.Element.{Left, left, Made, Account, stops, goes, Rule, Header, wrong, right, onHeader, fitting, after81, after82, sized, header, whereNone, closed, Content, walked, judged, allowed, inside, element, onwards, _before_, eachOf, each, ifAny, served, firstIs, ifTag, is, any, constructed, primitive, naming, frontBody, anything, opaque}
-use Rattle.refusals.specs.Bodies.{pkcs7, bagId, isIdentifier, isInteger, anyType, outerType, safeType, dataType, bagType, version, encryptedVersion, iterations}
-use Rattle.refusals.specs.Grammar.{algorithm, sealed, valueTag, typed, encryptedInfo, encryptedData, row, attribute, bagValue, bag, safeContents, wrapped, safeValue, safe, outer, macData, pfx}
+use Rattle.refusals.specs.Element.{Left, left, Made, Account, stops, goes, Rule, Header, wrong, right, onHeader}
+use Rattle.refusals.specs.Element.{fitting, after81, after82, sized, header, whereNone, closed, Content, walked}
+use Rattle.refusals.specs.Element.{judged, allowed, inside, element, onwards, _before_, eachOf, each, ifAny}
+use Rattle.refusals.specs.Element.{served, firstIs, ifTag, is, any, constructed, primitive, naming, frontBody}
+use Rattle.refusals.specs.Element.{anything, opaque}
+use Rattle.refusals.specs.Bodies.{pkcs7, bagId, isIdentifier, isInteger, anyType, outerType, safeType, dataType}
+use Rattle.refusals.specs.Bodies.{bagType, version, encryptedVersion, iterations}
+use Rattle.refusals.specs.Grammar.{algorithm, sealed, valueTag, typed, encryptedInfo, encryptedData, row}
+use Rattle.refusals.specs.Grammar.{attribute, bagValue, bag, safeContents, wrapped, safeValue, safe, outer}
+use Rattle.refusals.specs.Grammar.{macData, pfx}
 
 -- ---- the header
 
@@ -32,7 +40,8 @@ unfolding header sized after81 after82
 header-of [] = (omega arith, omega arith)
 header-of (t ∷ []) =
     by-test (OfHeader (t ∷ [])) _ _ (eqb t 0) (λ e. (omega arith, omega arith))
-    (λ e. by-test (OfHeader (t ∷ [])) _ _ (eqb (t % 0x20) 0x1F) (λ f. (omega arith, omega arith)) (λ f. (omega arith, omega arith)))
+    (λ e. by-test (OfHeader (t ∷ [])) _ _ (eqb (t % 0x20) 0x1F) (λ f. (omega arith, omega arith))
+    (λ f. (omega arith, omega arith)))
 header-of (t ∷ n ∷ x) =
     by-test Good _ _ (eqb t 0) (λ e. (omega arith, omega arith))
     (λ e. by-test Good _ _ (eqb (t % 0x20) 0x1F) (λ f. (omega arith, omega arith))
@@ -46,7 +55,8 @@ header-of (t ∷ n ∷ x) =
     one : (y : List ℕ) → OfHeader (t ∷ n ∷ y) (after81 t y)
     one [] = (omega arith, omega arith)
     one (a ∷ y) =
-        by-test (OfHeader (t ∷ n ∷ a ∷ y)) _ _ (ltb a 0x80) (λ g. (omega arith, omega arith)) (λ g. fitting-of (t ∷ n ∷ a ∷ y) t 3 a y (omega arith))
+        by-test (OfHeader (t ∷ n ∷ a ∷ y)) _ _ (ltb a 0x80) (λ g. (omega arith, omega arith))
+        (λ g. fitting-of (t ∷ n ∷ a ∷ y) t 3 a y (omega arith))
 
     two : (y : List ℕ) → OfHeader (t ∷ n ∷ y) (after82 t y)
     two [] = (omega arith, omega arith)
@@ -73,25 +83,33 @@ abbrev KeepsIn : Content → Type 0
 KeepsIn (walked rule) = Keeps rule
 KeepsIn (judged judge) = Judges judge
 
-none-or : {A : Type 0} (P : A → Type 0) (x : List ℕ) (none some : A) → (x ≡ [] → P none) → (0 < length x → P some) → P (whereNone x none some)
+none-or : {A : Type 0} (P : A → Type 0) (x : List ℕ) (none some : A) → (x ≡ [] → P none) → (0 < length x → P some)
+    → P (whereNone x none some)
 none-or P [] none some f g = f refl
 none-or P (b ∷ x) none some f g = g (omega arith)
 
-pub closed-kept : (m e : ℕ) (a : Account) (after : Left) → m ≤ e → Kept m a → after .place + length (after .bytes) ≡ e → Kept e (closed a after)
+pub closed-kept : (m e : ℕ) (a : Account) (after : Left) → m ≤ e → Kept m a → after .place + length (after .bytes) ≡ e
+    → Kept e (closed a after)
 closed-kept m e (stops n p) after h k q = (k .0, k .1, omega (arith, k .2))
 closed-kept m e (goes made l) after h k q =
-    none-or (Kept e) (l .bytes) (goes made after) (stops 6 (l .place)) (λ z. q) (λ z. (omega arith, omega arith, omega arith))
+    none-or (Kept e) (l .bytes) (goes made after) (stops 6 (l .place)) (λ z. q)
+    (λ z. (omega arith, omega arith, omega arith))
 
-allowed-kept : (n place e : ℕ) (made : Made) (after : Left) → n ≤ 8 → place ≤ e → after .place + length (after .bytes) ≡ e → Kept e (allowed n place made after)
+allowed-kept : (n place e : ℕ) (made : Made) (after : Left) → n ≤ 8 → place ≤ e → after .place + length (after .bytes)
+    ≡ e → Kept e (allowed n place made after)
 allowed-kept zero place e made after h k q = q
 allowed-kept (suc n) place e made after h k q = (omega arith, h, k)
 
-inside-kept : (content : Content) → KeepsIn content → (place e : ℕ) (made : Made) (body after : Left) → place ≤ e → body .place + length (body .bytes) ≤ e
+inside-kept : (content : Content) → KeepsIn content → (place e : ℕ) (made : Made) (body after : Left) → place ≤ e
+    → body .place + length (body .bytes) ≤ e
     → after .place + length (after .bytes) ≡ e → Kept e (inside content place made body after)
-inside-kept (walked rule) k place e made body after h i q = closed-kept (body .place + length (body .bytes)) e (rule made body) after i (k .kept made body) q
-inside-kept (judged judge) k place e made body after h i q = allowed-kept (judge (body .bytes)) place e made after (k .bound (body .bytes)) h q
+inside-kept (walked rule) k place e made body after h i q = closed-kept (body .place + length (body .bytes)) e
+    (rule made body) after i (k .kept made body) q
+inside-kept (judged judge) k place e made body after h i q = allowed-kept (judge (body .bytes)) place e made after
+    (k .bound (body .bytes)) h q
 
-pub element-keeps : (due : ℕ → Bool) (full : Made → Bool) (content : ℕ → Content) → ((t : ℕ) → KeepsIn (content t)) → Keeps (element due full content)
+pub element-keeps : (due : ℕ → Bool) (full : Made → Bool) (content : ℕ → Content) → ((t : ℕ) → KeepsIn (content t))
+    → Keeps (element due full content)
 unfolding element
 element-keeps due full content k = record { kept = λ made l. go made l (header (l .bytes)) (header-of (l .bytes)) }
   where
@@ -99,7 +117,8 @@ element-keeps due full content k = record { kept = λ made l. go made l (header 
         → Kept (l .place + length (l .bytes)) (onHeader x (λ n. stops n (l .place)) (λ t h size y.
         if due t then
         if full made then stops 8 (l .place) else
-        inside (content t) (l .place) made (left (l .place + h) (take size y)) (left (l .place + h + size) (drop size y)) else
+        inside (content t) (l .place) made (left (l .place + h) (take size y))
+        (left (l .place + h + size) (drop size y)) else
         stops 4 (l .place)))
     go made l (wrong n) q = (q .0, omega (arith, q .1), omega arith)
     go made l (right t h size y) q =
@@ -132,15 +151,24 @@ each-keeps : (rule : Rule) → Keeps rule → Keeps (each rule)
 each-keeps rule k = record { kept = λ made l. each-kept (length (l .bytes)) rule k .kept made l }
 
 any-keeps : (rule : Rule) → Keeps rule → Keeps (ifAny rule)
-any-keeps rule k = record { kept = λ made l. none-or (Kept (l .place + length (l .bytes))) (l .bytes) _ _ (λ z. refl) (λ z. k .kept made l) }
+any-keeps rule k = record {
+  kept = λ made l. none-or (Kept (l .place + length (l .bytes))) (l .bytes) _ _ (λ z. refl)
+      (λ z. k .kept made l);
+}
 
 served-keeps : (rule : Rule) → Keeps rule → Keeps (served rule)
 served-keeps rule k =
-    record { kept = λ made l. none-or (Kept (l .place + length (l .bytes))) (l .bytes) _ _ (λ z. (omega arith, omega arith, omega arith)) (λ z. k .kept made l) }
+    record {
+      kept = λ made l. none-or (Kept (l .place + length (l .bytes))) (l .bytes) _ _
+          (λ z. (omega arith, omega arith, omega arith)) (λ z. k .kept made l);
+    }
 
 tag-keeps : (t : ℕ) (rule : Rule) → Keeps rule → Keeps (ifTag t rule)
 tag-keeps t rule k =
-    record { kept = λ made l. by-test (Kept (l .place + length (l .bytes))) _ _ (firstIs t (l .bytes)) (λ e. k .kept made l) (λ e. refl) }
+    record {
+      kept = λ made l. by-test (Kept (l .place + length (l .bytes))) _ _ (firstIs t (l .bytes))
+          (λ e. k .kept made l) (λ e. refl);
+    }
 
 constructed-keeps : (tag : ℕ) (rule : Rule) → Keeps rule → Keeps (constructed tag rule)
 constructed-keeps tag rule k = element-keeps _ _ _ (λ t. k)
@@ -148,11 +176,13 @@ constructed-keeps tag rule k = element-keeps _ _ _ (λ t. k)
 primitive-keeps : (tag : ℕ) (judge : List ℕ → ℕ) → Judges judge → Keeps (primitive tag judge)
 primitive-keeps tag judge k = element-keeps _ _ _ (λ t. k)
 
-naming-keeps : (tag : ℕ) (judge : List ℕ → ℕ) (next : List ℕ → Rule) → Judges judge → ((x : List ℕ) → Keeps (next x)) → Keeps (naming tag judge next)
+naming-keeps : (tag : ℕ) (judge : List ℕ → ℕ) (next : List ℕ → Rule) → Judges judge → ((x : List ℕ) → Keeps (next x))
+    → Keeps (naming tag judge next)
 naming-keeps tag judge next j k =
     record {
       kept = λ made l.
-          onwards-kept _ (primitive tag judge made l) (next (frontBody (l .bytes))) (primitive-keeps tag judge j .kept made l) (k (frontBody (l .bytes)));
+          onwards-kept _ (primitive tag judge made l) (next (frontBody (l .bytes)))
+          (primitive-keeps tag judge j .kept made l) (k (frontBody (l .bytes)));
     }
 
 row-keeps : (full : Made → Bool) (counted : Made → Made) (rule : Rule) → Keeps rule → Keeps (row full counted rule)
@@ -177,13 +207,17 @@ judges-any = record { bound = λ x. either-judges (isIdentifier x) 0 5 (omega ar
 
 judges-data : Judges dataType
 unfolding dataType
-judges-data = record { bound = λ x. either-judges (isIdentifier x) _ 5 (either-judges (sameBytes x (pkcs7 0x01)) 0 5 (omega arith) (omega arith)) (omega arith) }
+judges-data = record {
+  bound = λ x. either-judges (isIdentifier x) _ 5
+      (either-judges (sameBytes x (pkcs7 0x01)) 0 5 (omega arith) (omega arith)) (omega arith);
+}
 
 judges-outer : Judges outerType
 unfolding outerType
 judges-outer = record {
   bound = λ x. either-judges (isIdentifier x) _ 5
-      (either-judges (sameBytes x (pkcs7 0x01)) 0 _ (omega arith) (either-judges (sameBytes x (pkcs7 0x02)) 7 5 (omega arith) (omega arith))) (omega arith);
+      (either-judges (sameBytes x (pkcs7 0x01)) 0 _ (omega arith)
+      (either-judges (sameBytes x (pkcs7 0x02)) 7 5 (omega arith) (omega arith))) (omega arith);
 }
 
 judges-safe : Judges safeType
@@ -191,7 +225,8 @@ unfolding safeType
 judges-safe = record {
   bound = λ x. either-judges (isIdentifier x) _ 5
       (either-judges (sameBytes x (pkcs7 0x01)) 0 _ (omega arith)
-      (either-judges (sameBytes x (pkcs7 0x06)) 0 _ (omega arith) (either-judges (sameBytes x (pkcs7 0x03)) 7 5 (omega arith) (omega arith)))) (omega arith);
+      (either-judges (sameBytes x (pkcs7 0x06)) 0 _ (omega arith)
+      (either-judges (sameBytes x (pkcs7 0x03)) 7 5 (omega arith) (omega arith)))) (omega arith);
 }
 
 judges-bag : Judges bagType
@@ -208,18 +243,25 @@ judges-bag = record {
 
 judges-version : Judges version
 unfolding version
-judges-version = record { bound = λ x. either-judges (isInteger x) _ 5 (either-judges (eqb (number x) 3) 0 5 (omega arith) (omega arith)) (omega arith) }
+judges-version = record {
+  bound = λ x. either-judges (isInteger x) _ 5
+      (either-judges (eqb (number x) 3) 0 5 (omega arith) (omega arith)) (omega arith);
+}
 
 judges-encrypted : Judges encryptedVersion
 unfolding encryptedVersion
 judges-encrypted = record {
   bound = λ x. either-judges (isInteger x) _ 5
-      (either-judges (eqb (number x) 2) 7 _ (omega arith) (either-judges (eqb (number x) 0) 0 5 (omega arith) (omega arith))) (omega arith);
+      (either-judges (eqb (number x) 2) 7 _ (omega arith)
+      (either-judges (eqb (number x) 0) 0 5 (omega arith) (omega arith))) (omega arith);
 }
 
 judges-iterations : Judges iterations
 unfolding iterations
-judges-iterations = record { bound = λ x. either-judges (isInteger x) _ 5 (either-judges (leb 2 (number x)) 0 5 (omega arith) (omega arith)) (omega arith) }
+judges-iterations = record {
+  bound = λ x. either-judges (isInteger x) _ 5
+      (either-judges (leb 2 (number x)) 0 5 (omega arith) (omega arith)) (omega arith);
+}
 
 -- ---- the grammar
 
@@ -228,19 +270,23 @@ unfolding opaque
 opaque-keeps zero due = element-keeps _ _ _ (λ t. judges-anything)
 opaque-keeps (suc n) due =
     element-keeps _ _ _
-    (λ t. by-test KeepsIn (judged anything) (walked (each (opaque any n))) (eqb (t / 0x20 % 2) 0) (λ e. judges-anything) (λ e. each-keeps _ (opaque-keeps n any)))
+    (λ t. by-test KeepsIn (judged anything) (walked (each (opaque any n))) (eqb (t / 0x20 % 2) 0)
+    (λ e. judges-anything) (λ e. each-keeps _ (opaque-keeps n any)))
 
 algorithm-keeps : Keeps algorithm
 unfolding algorithm
-algorithm-keeps = constructed-keeps 0x30 _ (before-keeps _ _ (primitive-keeps 0x06 anyType judges-any) (any-keeps _ (opaque-keeps 16 any)))
+algorithm-keeps = constructed-keeps 0x30 _ (before-keeps _ _ (primitive-keeps 0x06 anyType judges-any)
+    (any-keeps _ (opaque-keeps 16 any)))
 
 sealed-keeps : Keeps sealed
 unfolding sealed
-sealed-keeps = constructed-keeps 0x30 _ (before-keeps _ _ algorithm-keeps (primitive-keeps 0x04 anything judges-anything))
+sealed-keeps = constructed-keeps 0x30 _ (before-keeps _ _ algorithm-keeps
+    (primitive-keeps 0x04 anything judges-anything))
 
 typed-keeps : (u : Bool) → Keeps (typed u)
 unfolding typed
-typed-keeps u = constructed-keeps 0x30 _ (naming-keeps 0x06 anyType _ judges-any (λ x. constructed-keeps 0xA0 _ (opaque-keeps 16 (valueTag u x))))
+typed-keeps u = constructed-keeps 0x30 _ (naming-keeps 0x06 anyType _ judges-any
+    (λ x. constructed-keeps 0xA0 _ (opaque-keeps 16 (valueTag u x))))
 
 info-keeps : Keeps encryptedInfo
 unfolding encryptedInfo
@@ -251,12 +297,14 @@ info-keeps =
 
 encrypted-keeps : Keeps encryptedData
 unfolding encryptedData
-encrypted-keeps = constructed-keeps 0x30 _ (before-keeps _ _ (primitive-keeps 0x02 encryptedVersion judges-encrypted) info-keeps)
+encrypted-keeps = constructed-keeps 0x30 _ (before-keeps _ _ (primitive-keeps 0x02 encryptedVersion judges-encrypted)
+    info-keeps)
 
 attribute-keeps : Keeps attribute
 unfolding attribute
 attribute-keeps =
-    row-keeps _ _ _ (before-keeps _ _ (primitive-keeps 0x06 anyType judges-any) (constructed-keeps 0x31 _ (each-keeps _ (opaque-keeps 16 any))))
+    row-keeps _ _ _ (before-keeps _ _ (primitive-keeps 0x06 anyType judges-any)
+    (constructed-keeps 0x31 _ (each-keeps _ (opaque-keeps 16 any))))
 
 value-keeps : (inner : Rule) → Keeps inner → (x : List ℕ) → Keeps (bagValue inner x)
 unfolding bagValue
@@ -264,7 +312,8 @@ value-keeps inner k x =
     chosen-keeps (sameBytes x (bagId 0x01)) _ _ (opaque-keeps 16 (is 0x30))
     (chosen-keeps (sameBytes x (bagId 0x02)) _ _ sealed-keeps
     (chosen-keeps (sameBytes x (bagId 0x03)) _ _ (typed-keeps true)
-    (chosen-keeps (sameBytes x (bagId 0x04)) _ _ (typed-keeps false) (chosen-keeps (sameBytes x (bagId 0x05)) _ _ (typed-keeps false) k))))
+    (chosen-keeps (sameBytes x (bagId 0x04)) _ _ (typed-keeps false)
+    (chosen-keeps (sameBytes x (bagId 0x05)) _ _ (typed-keeps false) k))))
 
 bag-keeps : (inner : Rule) → Keeps inner → Keeps (bag inner)
 unfolding bag
@@ -275,7 +324,8 @@ bag-keeps inner k =
 
 contents-keep : (n : ℕ) → Keeps (safeContents n)
 unfolding safeContents
-contents-keep zero = element-keeps _ _ _ (λ t. each-keeps _ (bag-keeps _ (record { kept = λ made l. (omega arith, omega arith, omega arith) })))
+contents-keep zero = element-keeps _ _ _ (λ t. each-keeps _
+    (bag-keeps _ (record { kept = λ made l. (omega arith, omega arith, omega arith) })))
 contents-keep (suc n) = constructed-keeps 0x30 _ (each-keeps _ (bag-keeps _ (contents-keep n)))
 
 safe-keeps : Keeps safe
@@ -284,7 +334,8 @@ safe-keeps =
     row-keeps _ _ _
     (naming-keeps 0x06 safeType safeValue judges-safe
     (λ x.
-    chosen-keeps (sameBytes x (pkcs7 0x01)) _ _ (constructed-keeps 0xA0 _ (constructed-keeps 0x04 _ (contents-keep 8))) (constructed-keeps 0xA0 _ encrypted-keeps)))
+    chosen-keeps (sameBytes x (pkcs7 0x01)) _ _ (constructed-keeps 0xA0 _
+    (constructed-keeps 0x04 _ (contents-keep 8))) (constructed-keeps 0xA0 _ encrypted-keeps)))
 
 outer-keeps : Keeps outer
 unfolding outer
@@ -298,10 +349,12 @@ unfolding macData
 mac-keeps =
     constructed-keeps 0x30 _
     (before-keeps _ _ sealed-keeps
-    (before-keeps _ _ (primitive-keeps 0x04 anything judges-anything) (tag-keeps 0x02 _ (primitive-keeps 0x02 iterations judges-iterations))))
+    (before-keeps _ _ (primitive-keeps 0x04 anything judges-anything)
+    (tag-keeps 0x02 _ (primitive-keeps 0x02 iterations judges-iterations))))
 
 pub pfx-keeps : Keeps pfx
 unfolding pfx
 pfx-keeps =
     constructed-keeps 0x30 _
-    (before-keeps _ _ (primitive-keeps 0x02 version judges-version) (before-keeps _ _ outer-keeps (served-keeps _ mac-keeps)))
+    (before-keeps _ _ (primitive-keeps 0x02 version judges-version)
+    (before-keeps _ _ outer-keeps (served-keeps _ mac-keeps)))

@@ -12,7 +12,8 @@ use Rattle.refusals.specs.Element.{Made, Account, goes, Rule, onwards, e
 use Rattle.refusals.proofs.Headers.{some-chosen, none-chosen}
 use Rattle.refusals.proofs.Links.{here}
 
-module _ (s : List ℕ) {A S : Type 0} (on : A → (S → ℕ → A) → A) (done : S → ℕ → A) (step : S → ℕ → A) (end : ℕ) (inside : end ≤ length s)
+module _ (s : List ℕ) {A S : Type 0} (on : A → (S → ℕ → A) → A) (done : S → ℕ → A) (step : S → ℕ → A) (end : ℕ)
+    (inside : end ≤ length s)
     (rule : Rule) (madeOf : S → Made) (P : A → Account → Type 0) (K : Account → Account)
     (ends : (st : S) → P (done st end) (K (goes (madeOf st) (here s (cursor end end)))))
     (steps : (st : S) (at : ℕ) → at < end → (k : S → ℕ → A) (r : Rule)
@@ -27,8 +28,17 @@ module _ (s : List ℕ) {A S : Type 0} (on : A → (S → ℕ → A) → A) (don
   link-many (suc f) st at h k =
       either at end
       (λ l.
-      rw (many-more on done step end f st at l, some-chosen s at end (goes (madeOf st) (here s (cursor at end))) _ l inside)
+      rw (
+        many-more on done step end f st at l,
+        some-chosen s at end (goes (madeOf st) (here s (cursor at end))) _ l
+            inside,
+      )
       (steps st at l _ (eachOf f rule) (λ st′ at′ m n. link-many f st′ at′ n (omega arith))))
       (λ l.
       let e : at ≡ end = omega arith in
-      rw (many-end on done step end (suc f) st at l, none-chosen s at end (goes (madeOf st) (here s (cursor at end))) (onwards (rule (madeOf st) (here s (cursor at end))) (eachOf f rule)) l, e) (ends st))
+      rw (
+        many-end on done step end (suc f) st at l,
+        none-chosen s at end (goes (madeOf st) (here s (cursor at end)))
+            (onwards (rule (madeOf st) (here s (cursor at end))) (eachOf f rule)) l,
+        e,
+      ) (ends st))

@@ -1,4 +1,5 @@
--- A refusal is where the account stops, and the other way round; and what follows of numbers, places, cut files and bytes after a file.
+-- A refusal is where the account stops, and the other way round; and what follows of numbers, places, cut files and
+-- bytes after a file.
 use mathlib.Core.Path.{_≡_, refl, sym, ap, _∙_}
 use mathlib.Core.List.{List, [], _∷_, _++_}
 use Prim.Native.Nat.{ℕ, _+_, _≤_, _<_}
@@ -14,7 +15,8 @@ use Rattle.pkcs12.specs.Accepted.{IsAccepted}
 use Rattle.pkcs12.specs.declared.Answer.{Answer}
 use Rattle.pkcs12.specs.declared.Answer.the-variants.{Accepted}
 use Rattle.pkcs12.proofs.SoundFile.{accepted-size}
-use Rattle.refusals.specs.Element.{Left, left, Made, Account, stops, goes, Rule, closed, _before_, served, primitive}
+use Rattle.refusals.specs.Element.{Left, left, Made, Account, stops, goes, Rule, closed, _before_, served}
+use Rattle.refusals.specs.Element.{primitive}
 use Rattle.refusals.specs.Bodies.{version}
 use Rattle.refusals.specs.Grammar.{outer, macData, pfx, noneMade, accountOf}
 use Rattle.refusals.proofs.File.{Agreed, file-agrees}
@@ -24,7 +26,8 @@ use Rattle.refusals.proofs.Fronts.{apart, Whole, whole-of, after-stops,
 pub refused-stops : (f : List ℕ) (n p : ℕ) → readFile f .answer ≡ Answer.Refused (fault n p) → accountOf f ≡ stops n p
 refused-stops f n p e = rw e at (file-agrees f)
 
-stops-at : (f : List ℕ) (n p : ℕ) (x : Answer) (a : Account) → Agreed f x a → a ≡ stops n p → x ≡ Answer.Refused (fault n p)
+stops-at : (f : List ℕ) (n p : ℕ) (x : Answer) (a : Account) → Agreed f x a → a ≡ stops n p → x
+    ≡ Answer.Refused (fault n p)
 stops-at f n p (Answer.Refused r) a q e =
     let z : stops (r .number) (r .offset) ≡ stops n p = sym q ∙ e in
     let u : r .number ≡ n = cc in
@@ -48,9 +51,11 @@ not-long f h = rw (le-ltb 65535 (length f) h) refl
 
 file-kept : (f : List ℕ) → Kept (length f) (closed (pfx noneMade (left 0 f)) (left (length f) []))
 file-kept f =
-    closed-kept (0 + length f) (length f) (pfx noneMade (left 0 f)) (left (length f) []) (omega arith) (pfx-keeps .kept noneMade (left 0 f)) (omega arith)
+    closed-kept (0 + length f) (length f) (pfx noneMade (left 0 f)) (left (length f) []) (omega arith)
+    (pfx-keeps .kept noneMade (left 0 f)) (omega arith)
 
-pub refusal-of : (f : List ℕ) (n p : ℕ) → readFile f .answer ≡ Answer.Refused (fault n p) → (1 ≤ n) × (n ≤ 9) × (p ≤ length f)
+pub refusal-of : (f : List ℕ) (n p : ℕ) → readFile f .answer ≡ Answer.Refused (fault n p) → (1 ≤ n) × (n ≤ 9)
+    × (p ≤ length f)
 refusal-of f n p e =
     let a = refused-stops f n p e in
     either 65535 (length f)
@@ -66,7 +71,8 @@ refusal-of f n p e =
 pub long-is-9 : (f : List ℕ) → 65535 < length f → readFile f .answer ≡ Answer.Refused (fault 9 0)
 long-is-9 f h = stops-refused f 9 0 (too-long f h)
 
-pub nine-is-long : (f : List ℕ) (p : ℕ) → readFile f .answer ≡ Answer.Refused (fault 9 p) → (65535 < length f) × (p ≡ 0)
+pub nine-is-long : (f : List ℕ) (p : ℕ) → readFile f .answer ≡ Answer.Refused (fault 9 p) → (65535 < length f)
+    × (p ≡ 0)
 nine-is-long f p e =
     let a = refused-stops f 9 p e in
     either 65535 (length f)
@@ -91,9 +97,11 @@ accepted-whole : (f : List ℕ) → IsAccepted f → Whole rule noneMade f
 unfolding pfx rule
 accepted-whole f e =
     let g = accepted-goes f e in
-    whole-of rule noneMade f (left (length f) []) (g .0) (left (length f) []) (sym (not-long f (accepted-size f e)) ∙ g .1)
+    whole-of rule noneMade f (left (length f) []) (g .0) (left (length f) [])
+    (sym (not-long f (accepted-size f e)) ∙ g .1)
 
-pub cut-refused : (f g r : List ℕ) → IsAccepted g → f ++ r ≡ g → (r ≡ [] → ⊥) → readFile f .answer ≡ Answer.Refused (fault 1 0)
+pub cut-refused : (f g r : List ℕ) → IsAccepted g → f ++ r ≡ g → (r ≡ [] → ⊥) → readFile f .answer
+    ≡ Answer.Refused (fault 1 0)
 unfolding pfx rule
 cut-refused f g [] e q h = absurd (h refl)
 cut-refused f g (b ∷ r) e q h =
@@ -102,9 +110,11 @@ cut-refused f g (b ∷ r) e q h =
     (not-long f (omega (arith, accepted-size g e, ap length q, length-append f (b ∷ r)))
     ∙ cut-stops rule noneMade f (b ∷ r) (left (length f) []) w (omega arith))
 
-pub after-refused : (f r : List ℕ) → IsAccepted f → (r ≡ [] → ⊥) → length (f ++ r) ≤ 65535 → readFile (f ++ r) .answer ≡ Answer.Refused (fault 6 (length f))
+pub after-refused : (f r : List ℕ) → IsAccepted f → (r ≡ [] → ⊥) → length (f ++ r) ≤ 65535 → readFile (f ++ r) .answer
+    ≡ Answer.Refused (fault 6 (length f))
 unfolding pfx rule
 after-refused f [] e h k = absurd (h refl)
 after-refused f (b ∷ r) e h k =
     stops-refused (f ++ (b ∷ r)) 6 (length f)
-    (not-long (f ++ (b ∷ r)) k ∙ after-stops rule noneMade f b r (left (length (f ++ (b ∷ r))) []) (accepted-whole f e))
+    (not-long (f ++ (b ∷ r)) k ∙ after-stops rule noneMade f b r (left (length (f ++ (b ∷ r))) [])
+    (accepted-whole f e))

@@ -1,5 +1,5 @@
--- What is proved of refusals. `readFile` is the walk that the reading call follows; `accountOf` is the account of byte lists, which shares no definition with it.
--- No theorem here requires that the numbers of a list are bytes.
+-- What is proved of refusals. `readFile` is the walk that the reading call follows; `accountOf` is the account of
+-- byte lists, which shares no definition with it. No theorem here requires that the numbers of a list are bytes.
 use mathlib.Core.Logic.{_↔_}
 use mathlib.Core.Path.{_≡_}
 use mathlib.Core.List.{List, [], _++_}
@@ -25,13 +25,17 @@ pub refusal-place : (f : List ℕ) (n p : ℕ) → readFile f .answer ≡ Answer
 refusal-place f n p e = refused.refusal-of f n p e .2
 
 -- The number is 9 if and only if the file has more than 65,535 bytes, and then the place is 0.
-pub refused-9-iff : (f : List ℕ) (p : ℕ) → readFile f .answer ≡ Answer.Refused (fault 9 p) ↔ (65535 < length f) × (p ≡ 0)
+pub refused-9-iff : (f : List ℕ) (p : ℕ) → readFile f .answer ≡ Answer.Refused (fault 9 p) ↔ (65535 < length f)
+    × (p ≡ 0)
 refused-9-iff f p = (refused.nine-is-long f p, λ h. rw (h .1) (refused.long-is-9 f (h .0)))
 
 -- Every proper beginning f of an accepted file g is refused by 1 at 0.
-pub beginning-refused : (f g r : List ℕ) → IsAccepted g → f ++ r ≡ g → (r ≡ [] → ⊥) → readFile f .answer ≡ Answer.Refused (fault 1 0)
+pub beginning-refused : (f g r : List ℕ) → IsAccepted g → f ++ r ≡ g → (r ≡ [] → ⊥) → readFile f .answer
+    ≡ Answer.Refused (fault 1 0)
 beginning-refused = refused.cut-refused
 
--- An accepted file f with at least one byte after it is refused by 6 at its length, if the whole has at most 65,535 bytes.
-pub bytes-after-refused : (f r : List ℕ) → IsAccepted f → (r ≡ [] → ⊥) → length (f ++ r) ≤ 65535 → readFile (f ++ r) .answer ≡ Answer.Refused (fault 6 (length f))
+-- An accepted file f with at least one byte after it is refused by 6 at its length, if the whole has at most 65,535
+-- bytes.
+pub bytes-after-refused : (f r : List ℕ) → IsAccepted f → (r ≡ [] → ⊥) → length (f ++ r) ≤ 65535
+    → readFile (f ++ r) .answer ≡ Answer.Refused (fault 6 (length f))
 bytes-after-refused = refused.after-refused

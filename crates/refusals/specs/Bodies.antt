@@ -1,4 +1,5 @@
--- Which bodies are allowed where, each by a number: 0, or that of the refusal ("One element", "The file from outside in", 5 and 7).
+-- Which bodies are allowed where, each by a number: 0, or that of the refusal ("One element", "The file from
+-- outside in", 5 and 7).
 use mathlib.Core.Bool.{Bool, true, false}
 use mathlib.Core.List.{List, [], _∷_}
 use Prim.Native.Nat.{ℕ, _*_}

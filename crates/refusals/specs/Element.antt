@@ -1,4 +1,5 @@
--- One rule for every element, on byte lists ("One element", "Numbers given back"). What is left of a parent is a list of bytes and the offset of the first of them.
+-- One rule for every element, on byte lists ("One element", "Numbers given back"). What is left of a parent is a
+-- list of bytes and the offset of the first of them.
 use mathlib.Core.Bool.{Bool, true, false}
 use mathlib.Core.List.{List, [], _∷_}
 use Prim.Native.Nat.{ℕ, zero, suc, _+_, _*_, _/_, _%_}
@@ -54,7 +55,8 @@ after82 t [] = wrong 1
 after82 t (a ∷ []) = wrong 1
 after82 t (a ∷ b ∷ x) = if eqb a 0 then wrong 3 else fitting t 4 (a * 0x100 + b) x
 
--- "Length: 00..7F; 81 with 80..FF; 82 with 0100..FFFF. Any other form is refused (3)"; "a first length byte 80, or 83 and above, is 3 at once"
+-- "Length: 00..7F; 81 with 80..FF; 82 with 0100..FFFF. Any other form is refused (3)"; "a first length byte 80, or
+-- 83 and above, is 3 at once"
 unfoldable pub sized : ℕ → List ℕ → Header
 sized t [] = wrong 1
 sized t (n ∷ x) =
@@ -63,7 +65,8 @@ sized t (n ∷ x) =
     if eqb n 0x82 then after82 t x else
     wrong 3
 
--- "an element is due and its parent has no byte left" (1); "Tag: 00 and any byte whose low five bits are all ones are refused (2)."
+-- "an element is due and its parent has no byte left" (1); "Tag: 00 and any byte whose low five bits are all ones
+-- are refused (2)."
 unfoldable pub header : List ℕ → Header
 header [] = wrong 1
 header (t ∷ x) =
@@ -96,8 +99,8 @@ abbrev pub inside : Content → ℕ → Made → Left → Left → Account
 inside (walked rule) place made body after = closed (rule made body) after
 inside (judged judge) place made body after = allowed (judge (body .bytes)) place made after
 
--- "At each element: tag form, length form, body within parent, tag due, row or level room, then content." The place is that of the tag, which is the
--- parent's end where no byte is left.
+-- "At each element: tag form, length form, body within parent, tag due, row or level room, then content." The place
+-- is that of the tag, which is the parent's end where no byte is left.
 unfoldable pub element : (ℕ → Bool) → (Made → Bool) → (ℕ → Content) → Rule
 element due full content made l =
     onHeader (header (l .bytes))
@@ -105,7 +108,8 @@ element due full content made l =
     (λ t h size x.
     if due t then
     if full made then stops 8 (l .place) else
-    inside (content t) (l .place) made (left (l .place + h) (take size x)) (left (l .place + h + size) (drop size x)) else
+    inside (content t) (l .place) made (left (l .place + h) (take size x)) (left (l .place + h + size) (drop size x))
+    else
     stops 4 (l .place))
 
 -- the body of the element in front
@@ -173,8 +177,10 @@ naming tag judge next made l = onwards (primitive tag judge made l) (next (front
 abbrev pub anything : List ℕ → ℕ
 anything body = 0
 
--- "An opaque element is checked through to the bottom, 16 levels at most: where tag bit 20 (hex) is set its body is zero or more complete elements,
--- otherwise the body isn't looked at."; "an element of level 17 is refused (8)": with n levels left
+-- "An opaque element is checked through to the bottom, 16 levels at most: where tag bit 20 (hex) is set its body is
+-- zero or more complete elements, otherwise the body isn't looked at."; "an element of level 17 is refused (8)":
+-- with n levels left
 unfoldable pub opaque : (ℕ → Bool) → ℕ → Rule
 opaque due zero = element due always (λ t. judged anything)
-opaque due (suc n) = element due never (λ t. if eqb (t / 0x20 % 2) 0 then judged anything else walked (each (opaque any n)))
+opaque due (suc n) = element due never (λ t. if eqb (t / 0x20 % 2) 0 then judged anything else walked
+    (each (opaque any n)))

@@ -1,4 +1,5 @@
--- The grammar of a file, said with the one rule for elements ("The file from outside in"), and the account of a file.
+-- The grammar of a file, said with the one rule for elements ("The file from outside in"), and the account of a
+-- file.
 use mathlib.Core.Bool.{Bool, true, false}
 use mathlib.Core.List.{List, []}
 use Prim.Native.Nat.{ℕ, zero, suc}
@@ -6,8 +7,11 @@ use lib.Dec.{leb, ltb}
 use lib.ListN.{length}
 use Rattle.der.specs.Choice.{if_then_else_}
 use Rattle.pkcs12.specs.Identifiers.{sameBytes}
-use Rattle.refusals.specs.Element.{left, Made, Account, stops, Rule, closed, walked, element, _before_, each, ifAny, served, ifTag, is, any, never, always, constructed, primitive, naming, anything, opaque}
-use Rattle.refusals.specs.Bodies.{pkcs7, bagId, x509, anyType, outerType, safeType, dataType, bagType, version, encryptedVersion, iterations}
+use Rattle.refusals.specs.Element.{left, Made, Account, stops, Rule, closed, walked, element, _before_, each}
+use Rattle.refusals.specs.Element.{ifAny, served, ifTag, is, any, never, always, constructed, primitive, naming}
+use Rattle.refusals.specs.Element.{anything, opaque}
+use Rattle.refusals.specs.Bodies.{pkcs7, bagId, x509, anyType, outerType, safeType, dataType, bagType, version}
+use Rattle.refusals.specs.Bodies.{encryptedVersion, iterations}
 
 -- ---- parts that make no row
 
@@ -19,7 +23,8 @@ algorithm = constructed 0x30 (primitive 0x06 anyType before ifAny (opaque any 16
 unfoldable pub sealed : Rule
 sealed = constructed 0x30 (algorithm before primitive 0x04 anything)
 
--- "SEQUENCE of an identifier and A0 with one opaque element. For 03 with x509Certificate that element is an OCTET STRING."
+-- "SEQUENCE of an identifier and A0 with one opaque element. For 03 with x509Certificate that element is an OCTET
+-- STRING."
 abbrev pub valueTag : Bool → List ℕ → ℕ → Bool
 valueTag is-certificate type = if is-certificate then (if sameBytes type x509 then is 0x04 else any) else any
 
@@ -35,7 +40,8 @@ encryptedInfo = constructed 0x30 (primitive 0x06 dataType before algorithm befor
 unfoldable pub encryptedData : Rule
 encryptedData = constructed 0x30 (primitive 0x02 encryptedVersion before encryptedInfo)
 
--- ---- parts that make rows: "One table holds 16 safe rows, 64 bag rows and 128 attribute rows"; "a row too many" is 8
+-- ---- parts that make rows: "One table holds 16 safe rows, 64 bag rows and 128 attribute rows"; "a row too many" is
+-- 8
 
 -- a SEQUENCE that makes a row, which is counted when it is met
 abbrev pub row : (Made → Bool) → (Made → Made) → Rule → Rule
@@ -52,7 +58,8 @@ moreAttributes m = record { safes = m .safes; bags = m .bags; attributes = suc (
 
 -- "Attribute: SEQUENCE of an identifier and SET of zero or more opaque elements."
 unfoldable pub attribute : Rule
-attribute = row (λ m. leb 128 (m .attributes)) moreAttributes (primitive 0x06 anyType before constructed 0x31 (each (opaque any 16)))
+attribute = row (λ m. leb 128 (m .attributes)) moreAttributes
+    (primitive 0x06 anyType before constructed 0x31 (each (opaque any 16)))
 
 -- what a bag holds, by its identifier; `inner` is the rule of a SafeContents one level down
 unfoldable pub bagValue : Rule → List ℕ → Rule
@@ -68,7 +75,8 @@ bagValue inner id =
 unfoldable pub bag : Rule → Rule
 bag inner =
     row (λ m. leb 64 (m .bags)) moreBags
-    (naming 0x06 bagType (λ id. constructed 0xA0 (bagValue inner id)) before ifTag 0x31 (constructed 0x31 (each attribute)))
+    (naming 0x06 bagType (λ id. constructed 0xA0 (bagValue inner id)) before ifTag 0x31
+    (constructed 0x31 (each attribute)))
 
 -- "SafeContents: SEQUENCE of zero or more SafeBag.", with n levels left; "safe contents of level 9" are 8
 unfoldable pub safeContents : ℕ → Rule
@@ -102,7 +110,8 @@ pfx = constructed 0x30 (primitive 0x02 version before outer before served macDat
 abbrev pub noneMade : Made
 noneMade = record { safes = 0; bags = 0; attributes = 0 }
 
--- "Reading checks 9 first, then walks front to back, entering each body when it is met."; "one PFX, with no byte after it"
+-- "Reading checks 9 first, then walks front to back, entering each body when it is met."; "one PFX, with no byte
+-- after it"
 unfoldable pub accountOf : List ℕ → Account
 accountOf f =
     if ltb 65535 (length f) then stops 9 0 else
