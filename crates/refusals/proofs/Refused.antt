@@ -38,6 +38,16 @@ stops-at f n p Accepted a q e = apart (q .0) (left (length f) []) n p (sym e ∙
 pub stops-refused : (f : List ℕ) (n p : ℕ) → accountOf f ≡ stops n p → readFile f .answer ≡ Answer.Refused (fault n p)
 stops-refused f n p e = stops-at f n p (readFile f .answer) (accountOf f) (file-agrees f) e
 
+pub accepted-goes : (f : List ℕ) → IsAccepted f → (made : Made) × (accountOf f ≡ goes made (left (length f) []))
+accepted-goes f e = rw e at (file-agrees f)
+
+goes-at : (f : List ℕ) (m : Made) (l : Left) (x : Answer) (a : Account) → Agreed f x a → a ≡ goes m l → x ≡ Accepted
+goes-at f m l (Answer.Refused r) a q e = apart m l (r .number) (r .offset) (sym q ∙ e)
+goes-at f m l Accepted a q e = refl
+
+pub goes-accepted : (f : List ℕ) (m : Made) (l : Left) → accountOf f ≡ goes m l → IsAccepted f
+goes-accepted f m l e = goes-at f m l (readFile f .answer) (accountOf f) (file-agrees f) e
+
 -- ---- numbers and places
 
 -- the account of a file, by its length
@@ -89,9 +99,6 @@ nine-is-long f p e =
 -- what stands in the SEQUENCE of a file
 rule : Rule
 rule = primitive 0x02 version before outer before served macData
-
-accepted-goes : (f : List ℕ) → IsAccepted f → (made : Made) × (accountOf f ≡ goes made (left (length f) []))
-accepted-goes f e = rw e at (file-agrees f)
 
 accepted-whole : (f : List ℕ) → IsAccepted f → Whole rule noneMade f
 unfolding pfx rule

@@ -9,13 +9,17 @@ use Rattle.der.specs.Element.{fault}
 use Rattle.pkcs12.specs.Walk.{readFile}
 use Rattle.pkcs12.specs.Accepted.{IsAccepted}
 use Rattle.pkcs12.specs.declared.Answer.{Answer}
-use Rattle.refusals.specs.Element.{stops}
+use Rattle.refusals.specs.Element.{left, Made, stops, goes}
 use Rattle.refusals.specs.Grammar.{accountOf}
 use Rattle.refusals.proofs.Refused as refused
 
 -- A file is refused by n at p if and only if the account stops with n at p.
 pub refused-iff : (f : List ℕ) (n p : ℕ) → readFile f .answer ≡ Answer.Refused (fault n p) ↔ accountOf f ≡ stops n p
 refused-iff f n p = (refused.refused-stops f n p, refused.stops-refused f n p)
+
+-- A file is accepted if and only if the account goes on to the end of the file.
+pub accepted-iff : (f : List ℕ) → IsAccepted f ↔ ((made : Made) × (accountOf f ≡ goes made (left (length f) [])))
+accepted-iff f = (refused.accepted-goes f, λ p. refused.goes-accepted f (p .0) (left (length f) []) (p .1))
 
 -- The number of a refusal is 1 to 9, and its place is at most the file's length.
 pub refusal-number : (f : List ℕ) (n p : ℕ) → readFile f .answer ≡ Answer.Refused (fault n p) → (1 ≤ n) × (n ≤ 9)
