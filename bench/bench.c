@@ -102,7 +102,7 @@ static int agree(const uint8_t *file, size_t n)
     size_t offset;
     uint8_t number;
 
-    memset(&table, 0, sizeof table); /* a refusal leaves it so, and the walker's is all 0 then */
+    memset(&table, 0xEE, sizeof table); /* p12_read writes every word: 0 for a refused file, as the walker does */
     number = p12_read(file, n, p12_words(&table), P12_TABLE_WORDS, &offset);
     walk(file, n, &walked, &fault);
     as_library(&walked, &other);

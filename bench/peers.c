@@ -36,7 +36,6 @@ static void find_key(void)
 
 int prepare(const uint8_t *file, size_t n)
 {
-    memset(&table, 0, sizeof table);
     memset(&subjects, 0, sizeof subjects);
     if (!call_read(file, n))
         return 0;

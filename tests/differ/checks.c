@@ -14,9 +14,13 @@ void check(int kept, const char *what)
 
 void check_nothing(void)
 {
+    uint32_t *words = painted(sizeof(struct p12_table));
     size_t a = 1, b = 1;
 
-    check(p12_read(NULL, 0, NULL, 0, &a) == P12_CUT && a == 0, "no file: read");
+    check(p12_read(NULL, 0, NULL, 0, &a) == P12_NO_ROOM && a == 0, "no file and no words: read");
+    a = 1;
+    check(p12_read(NULL, 0, words, P12_TABLE_WORDS, &a) == P12_CUT && a == 0, "no file: read");
+    release(words, sizeof(struct p12_table));
     check(p12_list(NULL, 0, NULL, 0, &a) == P12_NO_ROOM && a == 0, "no file: list");
     check(p12_element(NULL, 0, 0, 0, 0, &a, &b) == 0 && a == 0 && b == 0, "no bytes: element");
     a = b = 1;
@@ -29,26 +33,28 @@ void check_nothing(void)
 
 /* Reading. */
 
-static void check_fewer_words(const uint8_t *file, size_t length, unsigned number, size_t offset, size_t count)
+/* 10, whatever the file. */
+static void check_fewer_words(const struct lent *lent, size_t count)
 {
     uint32_t *fewer = painted(count * WORD);
     size_t at = 1;
-    unsigned due = number == P12_OK ? P12_NO_ROOM : number;
 
-    check(p12_read(file, length, fewer, count, &at) == due && at == offset, "read into fewer words: number or offset");
+    check(p12_read(lent->file, lent->length, fewer, count, &at) == P12_NO_ROOM && at == 0,
+        "read into fewer words: number or offset");
     check(as_before(fewer, 0, count * WORD), "read into fewer words: they changed");
     release(fewer, count * WORD);
 }
 
-void check_other_words(const uint8_t *file, size_t length, unsigned number, size_t offset, const uint32_t *words)
+void check_other_words(const struct lent *lent, unsigned number, size_t offset)
 {
     size_t size = sizeof(struct p12_table), at = 1;
     uint32_t *more = painted(size + MORE * WORD);
 
-    check_fewer_words(file, length, number, offset, 0);
-    check_fewer_words(file, length, number, offset, P12_TABLE_WORDS - 1);
-    check(p12_read(file, length, more, P12_TABLE_WORDS + MORE, &at) == number && at == offset, "read into more words: number or offset");
-    check(memcmp(more, words, size) == 0, "read into more words: another table");
+    check_fewer_words(lent, 0);
+    check_fewer_words(lent, P12_TABLE_WORDS - 1);
+    check(p12_read(lent->file, lent->length, more, P12_TABLE_WORDS + MORE, &at) == number && at == offset,
+        "read into more words: number or offset");
+    check(memcmp(more, lent->words, size) == 0, "read into more words: another table");
     check(as_before(more, size, size + MORE * WORD), "read into more words: those behind changed");
     release(more, size + MORE * WORD);
 }

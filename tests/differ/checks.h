@@ -1,5 +1,5 @@
-/* Checks of what p12.h promises beside the answers: room that is too short or too large, words that are ignored, tables that aren't sound. Each
-   prints a line `fault: ..` where something isn't as it should be. */
+/* Checks of what p12.h promises beside the answers: memory that is too short or longer than it has to be, words that are
+   ignored, tables that aren't sound. Each prints a line `fault: ..` where something isn't as it should be. */
 #ifndef CHECKS_H
 #define CHECKS_H
 
@@ -18,7 +18,7 @@ void check(int kept, const char *what);
 void check_nothing(void);
 
 /* Reading into fewer words and into more, after a reading that gave this number, offset and these words. */
-void check_other_words(const uint8_t *file, size_t length, unsigned number, size_t offset, const uint32_t *words);
+void check_other_words(const struct lent *lent, unsigned number, size_t offset);
 
 /* Listing into exact room, and into a byte less, after a listing that gave this text. */
 void check_listing(const uint8_t *file, size_t length, const uint8_t *text, size_t written);
@@ -28,6 +28,9 @@ void check_attribute(const struct lent *lent, size_t bag, size_t i, unsigned num
 
 /* Elements that aren't there, and ranges that aren't values. */
 void check_no_element(const struct lent *lent, struct p12_range values, size_t count);
+
+/* Each call that takes a table, on words over the bytes of `lent` that are no sound table. */
+void check_unsound(const struct lent *lent, const uint32_t *words, size_t count);
 
 /* Writing the table, and tables made of it that mean the same or aren't sound. Whether the file was written and read again. */
 int check_table(const struct lent *lent, const struct p12_table *table);

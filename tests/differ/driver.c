@@ -6,8 +6,9 @@
    read: NUMBER at OFFSET
    mac input: NUMBER, A..B
    list: NUMBER, N bytes                        and the listing
-   words: ..                                    accepted files only, from here on: the table; 5*0 is the word 0 five times
-   bag B attribute I: NUMBER, bag B, A..B, A..B, elements N: A..B ..    of many elements the first and the last 32
+   words: ..                                    the table; 5*0 is the word 0 five times
+   bag B attribute I: NUMBER, bag B, A..B, A..B, elements N: A..B ..    accepted files only, from here on; of many
+                                                elements the first and the last 32
    bag B attribute I: 255, again 255            behind the last one
    bag B certificate: NUMBER, bag B             for every bag; the last two lines also for the bag behind the last one
    written and read again                       the file of the table is this file, and has the same table
@@ -111,7 +112,6 @@ static void show_table(const struct lent *lent)
     struct p12_table table;
 
     memcpy(&table, lent->words, sizeof table);
-    show_words(lent->words, P12_TABLE_WORDS);
     for (size_t bag = 0; bag <= table.bag_count && bag <= P12_BAG_ROWS; bag++)
         show_bag(lent, bag);
     if (check_table(lent, &table))
@@ -121,20 +121,19 @@ static void show_table(const struct lent *lent)
 static void show_file(const uint8_t *file, size_t length)
 {
     uint32_t *words = painted(sizeof(struct p12_table));
+    struct lent lent = { file, length, words };
     size_t offset = 1;
     unsigned number = p12_read(file, length, words, P12_TABLE_WORDS, &offset);
 
     printf("read: %u at %zu\n", number, offset);
     show_mac_input(file, length);
     show_listing(file, length);
-    check_other_words(file, length, number, offset, words);
-    if (number == P12_OK) {
-        struct lent lent = { file, length, words };
-
+    show_words(words, P12_TABLE_WORDS);
+    check_other_words(&lent, number, offset);
+    if (number == P12_OK)
         show_table(&lent);
-    } else {
-        check(as_before(words, 0, sizeof(struct p12_table)), "refused reading: the words changed");
-    }
+    else
+        check_unsound(&lent, words, P12_TABLE_WORDS);
     release(words, sizeof(struct p12_table));
 }
 

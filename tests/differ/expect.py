@@ -13,6 +13,7 @@ from p12_writer import BAG_KINDS, SAFE_KINDS
 
 SHOWN = 32      # of many elements the first and the last so many
 DONE, NO_ROW = 255, 12
+TABLE_WORDS = 1407
 WRITTEN = "written and read again\n"
 
 
@@ -26,7 +27,9 @@ def padded(rows, size, count):
 
 
 def words(result):
-    """Every word of the table, in the order of struct p12_table."""
+    """Every word of the table, in the order of struct p12_table; for a refused file 1,407 zeros."""
+    if isinstance(result, p12_reader.Refusal):
+        return [0] * TABLE_WORDS
     table = p12_writer.of_reading(result)
     mac = table.mac
     safes = [[SAFE_KINDS.index(row.kind), *parts(row)] for row in table.safes]
@@ -74,7 +77,7 @@ def bag_lines(data, result, bag):
 
 
 def accepted_lines(data, result):
-    lines = [words_line(result)]
+    lines = []
     for bag in range(len(result.bags) + 1):
         lines += bag_lines(data, result, bag)
     return lines + [WRITTEN]
@@ -88,5 +91,5 @@ def record(number, data):
     lines = ["= %d, %d bytes\n" % (number, len(data)),
              "read: %d at %d\n" % (answer, place),
              "mac input: %d, %d..%d\n" % (answer, *((0, 0) if refused else result.mac_input)),
-             "list: 0, %d bytes\n" % len(listing), listing]
+             "list: 0, %d bytes\n" % len(listing), listing, words_line(result)]
     return "".join(lines + ([] if refused else accepted_lines(data, result))), result

@@ -120,19 +120,6 @@ static void check_ignored(const struct lent *lent, const uint8_t *roles)
     release(words, count * WORD);
 }
 
-/* Words that aren't there count as 0. */
-static void check_fewer(const struct lent *lent)
-{
-    size_t count = P12_TABLE_WORDS;
-    uint32_t *words;
-
-    while (count && lent->words[count - 1] == 0)
-        count--;
-    words = copied(lent->words, count * WORD);
-    check(is_written(lent, words, count, lent->file, lent->length, 0), "write with fewer words");
-    release(words, count * WORD);
-}
-
 /* The same parts at other places. */
 static void check_shifted(const struct lent *lent, const uint8_t *roles)
 {
@@ -209,23 +196,32 @@ static uint32_t unsound_word(enum role role, uint32_t word, size_t length, uint3
     return word + more[choice % (role == NAME ? 3 : 2)];
 }
 
-static void check_unsound(const struct lent *lent, const uint32_t *words)
+void check_unsound(const struct lent *lent, const uint32_t *words, size_t count)
 {
     uint8_t *out = painted(lent->length);
     uint32_t *row = painted(sizeof(struct p12_attribute));
     size_t written = 1, bag = 1;
 
-    check(p12_write(words, P12_TABLE_WORDS, lent->file, lent->length, out, lent->length, &written) == P12_NOT_SOUND && written == 0,
+    check(p12_write(words, count, lent->file, lent->length, out, lent->length, &written) == P12_NOT_SOUND && written == 0,
         "write of a table that isn't sound: number or length");
     check(as_before(out, 0, lent->length), "write of a table that isn't sound: the room changed");
     for (size_t i = 0; i <= P12_BAG_ROWS; i += P12_BAG_ROWS)
-        check(p12_attribute(words, P12_TABLE_WORDS, lent->file, lent->length, i, 0, row, P12_ATTRIBUTE_WORDS) == P12_NOT_SOUND,
+        check(p12_attribute(words, count, lent->file, lent->length, i, 0, row, P12_ATTRIBUTE_WORDS) == P12_NOT_SOUND,
             "attribute of a table that isn't sound");
     check(as_before(row, 0, sizeof(struct p12_attribute)), "attribute of a table that isn't sound: the row changed");
-    check(p12_certificate_for(words, P12_TABLE_WORDS, lent->file, lent->length, 0, &bag) == P12_NOT_SOUND && bag == 0,
+    check(p12_certificate_for(words, count, lent->file, lent->length, 0, &bag) == P12_NOT_SOUND && bag == 0,
         "certificate of a table that isn't sound");
     release(out, lent->length);
     release(row, sizeof(struct p12_attribute));
+}
+
+/* A sound table cut short; the word that is missing is 0 in most files. */
+static void check_fewer(const struct lent *lent, size_t count)
+{
+    uint32_t *words = copied(lent->words, count * WORD);
+
+    check_unsound(lent, words, count);
+    release(words, count * WORD);
 }
 
 /* A few words of the table, each made unsound by itself. */
@@ -239,7 +235,7 @@ static void check_unsound_words(const struct lent *lent, const uint8_t *roles)
         if (roles[i] == IGNORED || roles[i] == FLAG)
             continue;
         words[i] = unsound_word(roles[i], lent->words[i], lent->length, dice(&state));
-        check_unsound(lent, words);
+        check_unsound(lent, words, P12_TABLE_WORDS);
         words[i] = lent->words[i];
         done++;
     }
@@ -253,7 +249,7 @@ static void check_no_set(const struct lent *lent, const struct p12_table *table)
 
     if (table->attribute_count) {
         words[PLACE(bags[table->attributes[0].bag].has_set)] = 0;
-        check_unsound(lent, words);
+        check_unsound(lent, words, P12_TABLE_WORDS);
     }
     release(words, sizeof(struct p12_table));
 }
@@ -267,7 +263,8 @@ int check_table(const struct lent *lent, const struct p12_table *table)
     find_roles(table, roles);
     check_room(lent);
     check_ignored(lent, roles);
-    check_fewer(lent);
+    check_fewer(lent, 0);
+    check_fewer(lent, P12_TABLE_WORDS - 1);
     check_shifted(lent, roles);
     check_unsound_words(lent, roles);
     check_no_set(lent, table);

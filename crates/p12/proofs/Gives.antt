@@ -1,16 +1,19 @@
 -- The ways out of the calls: what the functions below gave is what the call gives.
 use mathlib.Core.Path.{_≡_, refl, sym, ap, _∙_}
-use mathlib.Core.List.{List}
+use mathlib.Core.Bool.{Bool, true, false}
+use mathlib.Core.List.{List, _++_}
 use Prim.Native.Nat.{ℕ}
-use lib.ListN.{length}
+use borrow.Author.Tests.{ltb-false}
+use lib.Dec.{ltb}
+use lib.ListN.{length, drop}
 use Rattle.der.specs.declared.Fault.{Fault}
+use Rattle.der.proofs.Choices.{told-true, told-false}
+use Rattle.pkcs12.specs.Numbers.{noRoom, notSound}
 use Rattle.pkcs12.specs.Walk.{readFile}
 use Rattle.pkcs12.specs.Written.{Outcome, lengthOf, writeFile}
 use Rattle.pkcs12.specs.declared.Range.{Range}
 use Rattle.pkcs12.specs.declared.AttributeRow.{AttributeRow}
 use Rattle.pkcs12.specs.declared.Table.{Table}
-use Rattle.pkcs12.specs.declared.Answer.{Answer}
-use Rattle.pkcs12.specs.declared.Answer.the-variants.{Accepted}
 use Rattle.pkcs12.specs.declared.Reading.{Reading}
 use Rattle.pkcs12.specs.declared.Written.{Written}
 use Rattle.attributes.specs.Reader.{openingOf, itemAfter}
@@ -18,12 +21,15 @@ use Rattle.attributes.specs.Elements.{elementRanges, countedOf}
 use Rattle.attributes.specs.declared.Counted.{Counted}
 use Rattle.attributes.specs.declared.Item.{Item}
 use Rattle.attributes.specs.declared.Item.the-variants.{Ready, Done}
+use Rattle.pairing.specs.Pairs.{refusedBy}
 use Rattle.pairing.specs.declared.Paired.{Paired}
 use Rattle.identities.specs.Identities.{certificateFor}
-use Rattle.words.specs.Stored.{stored, storedRow}
+use Rattle.words.specs.Layout.{tableWords}
+use Rattle.words.specs.Stored.{wordsOf, stored, storedRow}
 use Rattle.words.specs.Loaded.{tableIn}
+use Rattle.words.proofs.Whole.{words-length, stored-whole}
 use Rattle.listing.specs.Listed.{listed}
-use Rattle.p12.specs.Calls.{done, readNumber, writtenNumber, Called, called, wrote, put, readAs, readCall, writeCall, itemAs, attributeCall, certificateCall, listCall}
+use Rattle.p12.specs.Calls.{done, readNumber, readOffset, writtenNumber, Called, called, wrote, put, readCall, onTable, writeCall, itemAs, attributeCall, certificateCall, listCall}
 
 -- what a call gives is this
 abbrev pub Gives : Called → ℕ → List ℕ → ℕ → Type 0
@@ -42,26 +48,33 @@ module _ (o : Outcome) (w : Written) (z : List ℕ) (p : w ≡ o .answer) (q : z
 
 -- ---- reading
 
+-- u: whether the memory is too short for a table, as it was tested
+module _ (f room : List ℕ) (u : Bool) (h : u ≡ ltb (length room) tableWords) where
+  pub read-short : u ≡ true → Gives (readCall f room) noRoom room 0
+  unfolding readCall
+  read-short q = gives-all _ noRoom room 0 (told-true _ u _ _ _ h q refl)
+
+  module _ (q : u ≡ false) where
+    -- the memory with a table at its front
+    front-is : (t : Table) → stored t room .buffer ≡ wordsOf t ++ drop tableWords room
+    front-is t =
+        ap (λ (o : Outcome). o .buffer) (stored-whole t room (ltb-false _ _ (sym h ∙ q)))
+        ∙ ap (λ (n : ℕ). wordsOf t ++ drop n room) (words-length t)
+
+    -- what reading gave, and its table that was stored
+    pub read-stored : (rd : Reading) → rd ≡ readFile f → (n : ℕ) → n ≡ readNumber (rd .answer)
+        → (z : List ℕ) → z ≡ stored (rd .table) room .buffer → (k : ℕ) → k ≡ readOffset (rd .answer)
+        → Gives (readCall f room) n z k
+    unfolding readCall
+    read-stored rd e n r z p k l =
+        gives-all _ n z k (told-false _ u _ _ _ h q (rw (r, p, front-is (rd .table), l) (ap told e)))
+      where
+        told : Reading → Called
+        told x = called (readNumber (x .answer)) (wordsOf (x .table) ++ drop tableWords room) (readOffset (x .answer))
+
+-- ---- listing
+
 module _ (f room : List ℕ) (rd : Reading) (e : rd ≡ readFile f) where
-  -- an accepted file, and what storing its table gave
-  pub read-stored : rd .answer ≡ Accepted → (w : Written) (z : List ℕ) → w ≡ stored (rd .table) room .answer → z ≡ stored (rd .table) room .buffer
-      → (n : ℕ) → n ≡ writtenNumber w → Gives (readCall f room) n z 0
-  unfolding readCall
-  read-stored a w z p q n r =
-      gives-all _ n z 0
-      (put-is (stored (rd .table) room) w z p q n r
-      ∙ ap (λ (x : Answer). readAs x (rd .table) room) (sym a)
-      ∙ ap (λ (x : Reading). readAs (x .answer) (x .table) room) e)
-
-  pub read-refused : (x : Fault) → rd .answer ≡ Answer.Refused x → Gives (readCall f room) (x .number) room (x .offset)
-  unfolding readCall
-  read-refused x a =
-      gives-all _ (x .number) room (x .offset)
-      (ap (λ (y : Answer). readAs y (rd .table) room) (sym a)
-      ∙ ap (λ (y : Reading). readAs (y .answer) (y .table) room) e)
-
-  -- ---- listing
-
   pub list-wrote : (w : Written) (z : List ℕ) → w ≡ listed (length f) rd room .answer → z ≡ listed (length f) rd room .buffer
       → (n : ℕ) → n ≡ writtenNumber w → (k : ℕ) → k ≡ lengthOf w → Gives (listCall f room) n z k
   unfolding listCall
@@ -70,41 +83,69 @@ module _ (f room : List ℕ) (rd : Reading) (e : rd ≡ readFile f) where
 
 -- ---- calls that load a table
 
-module _ (words s : List ℕ) (t : Table) (e : t ≡ tableIn words) where
-  pub write-wrote : (room : List ℕ) (w : Written) (z : List ℕ) → w ≡ writeFile t s room .answer → z ≡ writeFile t s room .buffer
-      → (n : ℕ) → n ≡ writtenNumber w → (k : ℕ) → k ≡ lengthOf w → Gives (writeCall words s room) n z k
-  unfolding writeCall
-  write-wrote room w z p q n r k l =
-      gives-all _ n z k (wrote-is (writeFile t s room) w z p q n r k l ∙ ap (λ (x : Table). wrote (writeFile x s room)) e)
+-- u: whether the words are too few for a table, as it was tested
+module _ (words s : List ℕ) (u : Bool) (h : u ≡ ltb (length words) tableWords) where
+  -- too few
+  module _ (q : u ≡ true) where
+    pub write-short : (room : List ℕ) → Gives (writeCall words s room) notSound room 0
+    unfolding writeCall
+    write-short room = gives-all _ notSound room 0 (told-true _ u _ _ _ h q refl)
 
-  pub certificate-of : (key : ℕ) (x : Paired) → x ≡ certificateFor t s key → x ≡ certificateCall words s key
-  unfolding certificateCall
-  certificate-of key x p = p ∙ ap (λ (y : Table). certificateFor y s key) e
+    pub certificate-short : (key : ℕ) → refusedBy notSound ≡ certificateCall words s key
+    unfolding certificateCall
+    certificate-short key = told-true _ u _ _ _ h q refl
 
-  module _ (bag i : ℕ) (room : List ℕ) (x : Item) (p : x ≡ itemAfter i (openingOf t s bag)) where
-    call-is : itemAs x room ≡ attributeCall words s bag i room
+    pub attribute-short : (bag i : ℕ) (room : List ℕ)
+        → (notSound ≡ attributeCall words s bag i room .number) × (room ≡ attributeCall words s bag i room .memory)
     unfolding attributeCall
-    call-is = ap (λ (y : Item). itemAs y room) (p ∙ ap (λ (y : Table). itemAfter i (openingOf y s bag)) e)
+    attribute-short bag i room =
+        let g = gives-all (attributeCall words s bag i room) notSound room 0 (told-true _ u _ _ _ h q refl) in
+        (g .0, g .1 .0)
 
-    -- the number and the row that a call leaves
-    abbrev pub Left : ℕ → List ℕ → Type 0
-    Left n z = (n ≡ attributeCall words s bag i room .number) × (z ≡ attributeCall words s bag i room .memory)
+  -- a table, as it was loaded
+  module _ (q : u ≡ false) (t : Table) (e : t ≡ tableIn words) where
+    table-is : {A : Type 0} (none : A) (good : Table → A) → good t ≡ onTable words none good
+    table-is none good = told-false _ u _ _ _ h q (ap good e)
 
-    leaves : (y : Item) → x ≡ y → (n : ℕ) (z : List ℕ) (v : ℕ) → called n z v ≡ itemAs y room → Left n z
-    leaves y a n z v q = let g = gives-all _ n z v (q ∙ ap (λ (u : Item). itemAs u room) (sym a) ∙ call-is) in (g .0, g .1 .0)
+    pub write-wrote : (room : List ℕ) (w : Written) (z : List ℕ)
+        → w ≡ writeFile t s room .answer → z ≡ writeFile t s room .buffer
+        → (n : ℕ) → n ≡ writtenNumber w → (k : ℕ) → k ≡ lengthOf w → Gives (writeCall words s room) n z k
+    unfolding writeCall
+    write-wrote room w z p q n r k l =
+        let e = table-is _ (λ (x : Table). wrote (writeFile x s room)) in
+        gives-all _ n z k (wrote-is (writeFile t s room) w z p q n r k l ∙ e)
 
-    pub attribute-stored : (r : AttributeRow) → x ≡ Item.Attribute r → (w : Written) (z : List ℕ) → w ≡ storedRow r room .answer → z ≡ storedRow r room .buffer
-        → (n : ℕ) → n ≡ writtenNumber w → Left n z
-    attribute-stored r a w z q l n k = leaves (Item.Attribute r) a n z 0 (put-is (storedRow r room) w z q l n k)
+    pub certificate-of : (key : ℕ) (x : Paired) → x ≡ certificateFor t s key → x ≡ certificateCall words s key
+    unfolding certificateCall
+    certificate-of key x p = p ∙ table-is _ (λ (y : Table). certificateFor y s key)
 
-    pub attribute-ready : x ≡ Ready → Left done room
-    attribute-ready a = leaves Ready a done room 0 refl
+    module _ (bag i : ℕ) (room : List ℕ) (x : Item) (p : x ≡ itemAfter i (openingOf t s bag)) where
+      call-is : itemAs x room ≡ attributeCall words s bag i room
+      unfolding attributeCall
+      call-is =
+          ap (λ (y : Item). itemAs y room) p
+          ∙ table-is _ (λ (y : Table). itemAs (itemAfter i (openingOf y s bag)) room)
 
-    pub attribute-done : x ≡ Done → Left done room
-    attribute-done a = leaves Done a done room 0 refl
+      -- the number and the row that a call leaves
+      abbrev pub Left : ℕ → List ℕ → Type 0
+      Left n z = (n ≡ attributeCall words s bag i room .number) × (z ≡ attributeCall words s bag i room .memory)
 
-    pub attribute-refused : (f : Fault) → x ≡ Item.Refused f → Left (f .number) room
-    attribute-refused f a = leaves (Item.Refused f) a (f .number) room 0 refl
+      leaves : (y : Item) → x ≡ y → (n : ℕ) (z : List ℕ) (v : ℕ) → called n z v ≡ itemAs y room → Left n z
+      leaves y a n z v q =
+          let g = gives-all _ n z v (q ∙ ap (λ (u : Item). itemAs u room) (sym a) ∙ call-is) in (g .0, g .1 .0)
+
+      pub attribute-stored : (r : AttributeRow) → x ≡ Item.Attribute r → (w : Written) (z : List ℕ)
+          → w ≡ storedRow r room .answer → z ≡ storedRow r room .buffer → (n : ℕ) → n ≡ writtenNumber w → Left n z
+      attribute-stored r a w z q l n k = leaves (Item.Attribute r) a n z 0 (put-is (storedRow r room) w z q l n k)
+
+      pub attribute-ready : x ≡ Ready → Left done room
+      attribute-ready a = leaves Ready a done room 0 refl
+
+      pub attribute-done : x ≡ Done → Left done room
+      attribute-done a = leaves Done a done room 0 refl
+
+      pub attribute-refused : (f : Fault) → x ≡ Item.Refused f → Left (f .number) room
+      attribute-refused f a = leaves (Item.Refused f) a (f .number) room 0 refl
 
 -- ---- ranges
 

@@ -1,7 +1,11 @@
 -- What the calls for C give, in terms of the definitions of the crates below. A call's number is 0 or that of the refusal.
-use mathlib.Core.List.{List}
+use mathlib.Core.Path.{_≡_}
+use mathlib.Core.List.{List, _++_}
 use Prim.Native.Nat.{ℕ}
-use lib.ListN.{length}
+use lib.Dec.{ltb}
+use lib.ListN.{length, drop}
+use Rattle.der.specs.Choice.{if_then_else_}
+use Rattle.pkcs12.specs.Numbers.{noRoom, notSound}
 use Rattle.pkcs12.specs.Walk.{readFile}
 use Rattle.pkcs12.specs.Written.{Outcome, lengthOf, writeFile}
 use Rattle.pkcs12.specs.declared.Table.{Table}
@@ -12,10 +16,12 @@ use Rattle.pkcs12.specs.declared.Written.the-variants.{Length}
 use Rattle.attributes.specs.Reader.{openingOf, itemAfter}
 use Rattle.attributes.specs.declared.Item.{Item}
 use Rattle.attributes.specs.declared.Item.the-variants.{Ready, Done}
+use Rattle.pairing.specs.Pairs.{refusedBy}
 use Rattle.pairing.specs.declared.Paired.{Paired}
 use Rattle.pairing.specs.declared.Paired.the-variants.{Certificate}
 use Rattle.identities.specs.Identities.{certificateFor}
-use Rattle.words.specs.Stored.{stored, storedRow}
+use Rattle.words.specs.Layout.{tableWords}
+use Rattle.words.specs.Stored.{wordsOf, storedRow}
 use Rattle.words.specs.Loaded.{tableIn}
 use Rattle.listing.specs.Listed.{listed}
 
@@ -30,6 +36,11 @@ done = 255
 abbrev pub readNumber : Answer → ℕ
 readNumber Accepted = ok
 readNumber (Answer.Refused f) = f .number
+
+-- the offset of a refusal, 0 where there is none
+abbrev pub readOffset : Answer → ℕ
+readOffset Accepted = 0
+readOffset (Answer.Refused f) = f .offset
 
 abbrev pub writtenNumber : Written → ℕ
 writtenNumber (Length n) = ok
@@ -61,19 +72,24 @@ wrote o = called (writtenNumber (o .answer)) (o .buffer) (lengthOf (o .answer))
 abbrev pub put : Outcome → Called
 put o = called (writtenNumber (o .answer)) (o .buffer) 0
 
--- `p12_read`: the table of an accepted file as words; the offset of a refusal
-abbrev pub readAs : Answer → Table → List ℕ → Called
-readAs Accepted t buffer = put (stored t buffer)
-readAs (Answer.Refused f) t buffer = called (f .number) buffer (f .offset)
-
+-- `p12_read`: 10 where the memory has fewer words than a table, whatever the file. Else the memory begins with the
+-- words of the reading's table, and those behind them are as before; so for every file, since "A refused reading has
+-- an empty table".
 unfoldable pub readCall : List ℕ → List ℕ → Called
-readCall f buffer = readAs (readFile f .answer) (readFile f .table) buffer
+readCall f memory =
+    if ltb (length memory) tableWords then called noRoom memory 0 else
+    called (readNumber (readFile f .answer)) (wordsOf (readFile f .table) ++ drop tableWords memory)
+    (readOffset (readFile f .answer))
 
--- `p12_write`: the file of the table that words stand for
+-- what is due of the table that words stand for; memory with fewer words than a table holds none
+abbrev pub onTable : {A : Type 0} → List ℕ → A → (Table → A) → A
+onTable words none good = if ltb (length words) tableWords then none else good (tableIn words)
+
+-- `p12_write`: the file of the table that words stand for; 11 for fewer words
 unfoldable pub writeCall : List ℕ → List ℕ → List ℕ → Called
-writeCall words s buffer = wrote (writeFile (tableIn words) s buffer)
+writeCall words s buffer = onTable words (called notSound buffer 0) (λ t. wrote (writeFile t s buffer))
 
--- `p12_attribute`: attribute i of a bag as words
+-- `p12_attribute`: attribute i of a bag as words; 11 for fewer words
 abbrev pub itemAs : Item → List ℕ → Called
 itemAs (Item.Attribute r) buffer = put (storedRow r buffer)
 itemAs Ready buffer = called done buffer 0
@@ -81,11 +97,18 @@ itemAs Done buffer = called done buffer 0
 itemAs (Item.Refused f) buffer = called (f .number) buffer 0
 
 unfoldable pub attributeCall : List ℕ → List ℕ → ℕ → ℕ → List ℕ → Called
-attributeCall words s bag i buffer = itemAs (itemAfter i (openingOf (tableIn words) s bag)) buffer
+attributeCall words s bag i buffer =
+    onTable words (called notSound buffer 0) (λ t. itemAs (itemAfter i (openingOf t s bag)) buffer)
 
--- `p12_certificate_for`
+-- `p12_certificate_for`; 11 for fewer words
 unfoldable pub certificateCall : List ℕ → List ℕ → ℕ → Paired
-certificateCall words s key = certificateFor (tableIn words) s key
+certificateCall words s key = onTable words (refusedBy notSound) (λ t. certificateFor t s key)
+
+-- what two theorems are stated over: each of these three is 11, and leaves what it would write to
+pub record Is11 (words s : List ℕ) : Type 0 where
+  pub write : (buffer : List ℕ) → writeCall words s buffer ≡ called notSound buffer 0
+  pub attribute : (bag i : ℕ) (buffer : List ℕ) → attributeCall words s bag i buffer ≡ called notSound buffer 0
+  pub certificate : (key : ℕ) → certificateCall words s key ≡ refusedBy notSound
 
 -- `p12_list`: the listing of what reading gives
 unfoldable pub listCall : List ℕ → List ℕ → Called

@@ -1,13 +1,17 @@
 // The calls for programs in C; include/p12.h says in C's words what each does. A slice is a pointer and a length there.
 ghost use mathlib.Core.Path.{_≡_};
+ghost use lib.Dec.{ltb};
 ghost use Rattle.pkcs12.specs.Walk.{readFile};
 ghost use Rattle.pkcs12.specs.Written.{lengthOf};
 ghost use Rattle.attributes.specs.Elements.{elementRanges, countedOf};
+ghost use Rattle.words.specs.Layout.{tableWords};
+ghost use Rattle.words.specs.Stored.{stored};
 ghost use Rattle.words.specs.Loaded.{rangeOf};
-ghost use Rattle.p12.specs.Calls.{readNumber, writtenNumber, pairedNumber, pairedRow, readCall, writeCall, attributeCall, certificateCall, listCall};
+ghost use Rattle.p12.specs.Calls.{readNumber, readOffset, writtenNumber, pairedNumber, pairedRow, readCall, writeCall, attributeCall, certificateCall, listCall};
 use attributes::Item;
 use pairing::Paired;
 use pkcs12::Answer;
+use pkcs12::Reading;
 use pkcs12::Written;
 
 // The number of an answer that is no refusal.
@@ -22,6 +26,16 @@ fn read_number(answer: Answer) -> u8
     match answer {
         Answer::Accepted => OK,
         Answer::Refused(f) => f.number,
+    }
+}
+
+// The offset of a refusal, 0 where there is none.
+fn read_offset(answer: Answer) -> usize
+    ensures { λ r. ⌜ r ≡ readOffset answer ⌝ }
+{
+    match answer {
+        Answer::Accepted => 0,
+        Answer::Refused(f) => f.offset,
     }
 }
 
@@ -62,25 +76,38 @@ fn paired_row(paired: Paired) -> usize
     }
 }
 
-// Reads a file into a table of words.
+// Whether memory of so many words is shorter than a table.
+fn is_short(size: usize) -> bool
+    ensures { λ r. ⌜ r ≡ ltb size tableWords ⌝ }
+{
+    size < words::TABLE_WORDS
+}
+
+// Stores the table of a reading, the empty one of a refused file too, and returns the reading's number.
+fn store_reading(reading: Reading, table: &mut [u32]) -> u8
+    ensures { λ r. ⌜ r ≡ readNumber (reading .answer) ⌝ }
+    ensures { λ _. ⌜ now (table .exit) ≡ stored (reading .table) (now (table .entry)) .buffer ⌝ }
+{
+    let answer = reading.answer;
+    let whole = words::store(reading.table, table);
+    read_number(answer)
+}
+
+// Reads a file into a table of words; of a refused file that is the empty table.
 #[no_mangle]
 pub extern "C" fn p12_read(file: &[u8], table: &mut [u32], offset: &mut usize) -> u8
     ensures { λ r. ⌜ r ≡ readCall (now (file .entry)) (now (table .entry)) .number ⌝ }
     ensures { λ _. ⌜ now (table .exit) ≡ readCall (now (file .entry)) (now (table .entry)) .memory ⌝ }
     ensures { λ _. ⌜ now (offset .exit) ≡ readCall (now (file .entry)) (now (table .entry)) .value ⌝ }
 {
+    if is_short(table.len()) {
+        *offset = 0;
+        return pkcs12::NO_ROOM;
+    }
     let reading = reader::read(file);
     let answer = reading.answer;
-    match answer {
-        Answer::Accepted => {
-            *offset = 0;
-            written_number(words::store(reading.table, table))
-        }
-        Answer::Refused(f) => {
-            *offset = f.offset;
-            f.number
-        }
-    }
+    *offset = read_offset(answer);
+    store_reading(reading, table)
 }
 
 // The range of the MAC input in a file.
@@ -106,6 +133,10 @@ pub extern "C" fn p12_write(table: &[u32], bytes: &[u8], out: &mut [u8], written
     ensures { λ _. ⌜ now (out .exit) ≡ writeCall (now (table .entry)) (now (bytes .entry)) (now (out .entry)) .memory ⌝ }
     ensures { λ _. ⌜ now (written .exit) ≡ writeCall (now (table .entry)) (now (bytes .entry)) (now (out .entry)) .value ⌝ }
 {
+    if is_short(table.len()) {
+        *written = 0;
+        return pkcs12::NOT_SOUND;
+    }
     let file = writer::write(words::load(table), bytes, out);
     *written = length_of(file);
     written_number(file)
@@ -123,6 +154,9 @@ pub extern "C" fn p12_attribute(
     ensures { λ r. ⌜ r ≡ attributeCall (now (table .entry)) (now (bytes .entry)) bag i (now (row .entry)) .number ⌝ }
     ensures { λ _. ⌜ now (row .exit) ≡ attributeCall (now (table .entry)) (now (bytes .entry)) bag i (now (row .entry)) .memory ⌝ }
 {
+    if is_short(table.len()) {
+        return pkcs12::NOT_SOUND;
+    }
     match attributes::attribute(words::load(table), bytes, bag, i) {
         Item::Attribute(a) => written_number(words::store_row(a, row)),
         Item::Ready => DONE,
@@ -163,6 +197,10 @@ pub extern "C" fn p12_certificate_for(
     ensures { λ r. ⌜ r ≡ pairedNumber (certificateCall (now (table .entry)) (now (bytes .entry)) key) ⌝ }
     ensures { λ _. ⌜ now (bag .exit) ≡ pairedRow (certificateCall (now (table .entry)) (now (bytes .entry)) key) ⌝ }
 {
+    if is_short(table.len()) {
+        *bag = 0;
+        return pkcs12::NOT_SOUND;
+    }
     let paired = identities::certificate_for(words::load(table), bytes, key);
     *bag = paired_row(paired);
     paired_number(paired)

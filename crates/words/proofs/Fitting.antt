@@ -1,4 +1,6 @@
--- The table of an accepted file fits: its ranges lie in the file, and its rows name rows that there are.
+-- The table of an accepted file fits: its ranges lie in the file, and its rows name rows that there are. So does the
+-- empty table.
+use mathlib.Core.Path.{refl}
 use mathlib.Core.List.{List, [], _∷_}
 use Prim.Native.Nat.{ℕ, _+_, _≤_}
 use native.Mathlib.Omega.{arith}
@@ -6,7 +8,7 @@ use lib.ListN.{length}
 use Rattle.der.specs.Span.{Span, Bytes}
 use Rattle.pkcs12.specs.Syntax.{Algorithm, Leaf, key, shrouded, typed, Attribute, Set, absent, present, Bags, none, bag, nest, Safe, plain, encrypted, Pfx}
 use Rattle.pkcs12.specs.Valid.{Valid, bagsIn, bagsInSafes}
-use Rattle.pkcs12.specs.Table.{noRange, noParts, Rows, rowsIn}
+use Rattle.pkcs12.specs.Table.{noRange, noParts, Rows, rowsIn, tableOf, emptyTable}
 use Rattle.pkcs12.specs.Walk.{Owner, owner}
 use Rattle.pkcs12.specs.Laid.{ElementLaid, PieceLaid, AlgorithmLaid, LeafLaid, AttributesLaid, no-attribute, one-attribute, SetLaid, no-set, one-set, BagLaid, BagsLaid, no-bag, one-bag, one-nest, SafesLaid, no-safe, one-plain, one-encrypted, PfxLaid}
 use Rattle.pkcs12.specs.Accepted.{IsAccepted, Follows, tableFrom, Each}
@@ -147,3 +149,19 @@ accepted-wordable f bytes a = go (pkcs12.accepted-iff-follows f bytes .0 a)
           input = input-fits f small _ _ (p .0) (p .1 .valid) l;
           elements = omega (arith, pkcs12.element-count-half f bytes a, small);
         }
+
+pub empty-wordable : Wordable emptyTable
+unfolding Each rowsIn tableOf emptyTable
+empty-wordable =
+    record {
+      empty-past = refl;
+      safe-count = omega arith;
+      bag-count = omega arith;
+      attribute-count = omega arith;
+      safes = tt;
+      bags = tt;
+      attributes = tt;
+      mac = record { parts = empty-fits; salt = nowhere-fits };
+      input = nowhere-fits;
+      elements = omega arith;
+    }

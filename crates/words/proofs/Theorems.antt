@@ -1,14 +1,16 @@
 -- What is proved of storing a table as words and loading it. `wordsOf t`: the words of the table t. `tableIn ws`: the table that the words ws stand
 -- for. `Wordable t`: the rows of t past its counts are empty, the counts are within the sizes, and every number of t fits.
-use mathlib.Core.Path.{_≡_, sym, ap, _∙_}
+use mathlib.Core.Path.{_≡_, refl, sym, ap, _∙_}
 use mathlib.Core.List.{List, [], _++_, append-nil}
 use Prim.Native.Nat.{ℕ}
-use lib.ListN.{length}
+use lib.ListN.{length, replicate}
 use Rattle.der.specs.Span.{Bytes}
+use Rattle.pkcs12.specs.Table.{tableOf, emptyTable}
+use Rattle.pkcs12.specs.Placed.{each}
 use Rattle.pkcs12.specs.Accepted.{IsAccepted, tableFrom}
 use Rattle.pkcs12.specs.declared.Table.{Table}
 use Rattle.words.specs.Layout.{tableWords}
-use Rattle.words.specs.Stored.{wordsOf}
+use Rattle.words.specs.Stored.{rowsWords, wordsOf}
 use Rattle.words.specs.Loaded.{tableIn}
 use Rattle.words.specs.Wordable.{Wordable}
 use Rattle.words.proofs.Whole.{words-length}
@@ -29,3 +31,11 @@ accepted-wordable = fitting.accepted-wordable
 
 pub accepted-is-loaded : (f : List ℕ) → Bytes f → IsAccepted f → tableIn (wordsOf (tableFrom f)) ≡ tableFrom f
 accepted-is-loaded f b a = ap tableIn (sym (append-nil (wordsOf (tableFrom f)))) ∙ stored-is-loaded (tableFrom f) (accepted-wordable f b a) []
+
+-- The empty table fits too, and its words are all 0.
+pub empty-wordable : Wordable emptyTable
+empty-wordable = fitting.empty-wordable
+
+pub empty-is-zeros : wordsOf emptyTable ≡ replicate tableWords 0
+unfolding wordsOf rowsWords emptyTable tableOf each
+empty-is-zeros = refl

@@ -98,7 +98,7 @@ pub fn read(file: &[u8]) -> Result<Table, Refusal> {
     Ok(table)
 }
 
-/// Reads a file into a table, which a refusal leaves as it was.
+/// Reads a file into a table. A refused file leaves the empty table in it, whatever it held before.
 pub fn read_into(file: &[u8], table: &mut Table) -> Result<(), Refusal> {
     let (number, offset) = sys::read(file, table);
     answer(number, offset, ())

@@ -1,8 +1,14 @@
--- By what the call gave: a row is stored, or nothing is.
-use Rattle.p12.proofs.Gives.{attribute-stored, attribute-ready, attribute-done, attribute-refused}
+-- Words that are too few; else by what the call gave: a row is stored, or nothing is.
+use Rattle.p12.proofs.Gives.{attribute-short, attribute-stored, attribute-ready, attribute-done, attribute-refused}
 use borrow.Author.Needs.{needs}
 use Rattle.p12.proofs.p12_attribute.Statement.{statement}
 use Rattle.p12.proofs.p12_attribute.Tie as tie
+
+is-short-requires : tie.Need-is-short-requires
+is-short-requires c κs = search needs
+
+returns : tie.Need-returns
+returns c = attribute-short _ _ _ (c .before .is-short .ensures) (c .if1 .taken) _ _ _
 
 load-requires : tie.Need-load-requires
 load-requires c κs = search needs
@@ -31,22 +37,43 @@ enum-known-f c = search needs
 same-length : tie.Need-same-length
 same-length c = search needs
 
-returns : tie.Need-returns
-returns c = attribute-stored _ _ _ (c .before .before .before .before .before .before .before .before .before .load .ensures) _ _ _ _ (c .before .before .before .before .before .before .before .before .attribute .ensures) _ (c .before .before .before .before .before .before .a .given .1) _ _ (c .before .before .before .store-row .ensures .0) (c .before .before .before .store-row .ensures .1) _ (c .written-number .ensures)
-
 returns-2 : tie.Need-returns-2
-returns-2 c = attribute-ready _ _ _ (c .before .before .before .load .ensures) _ _ _ _ (c .before .before .attribute .ensures) (c .enum-told .given .1)
+returns-2 c =
+    let a = c .before .before .before in
+    let d = a .before .before .before in
+    let b = d .before .before .before in
+    let t = b .before in
+    attribute-stored _ _ _ (t .before .is-short .ensures) (t .if1 .left) _ (b .load .ensures) _ _ _ _
+    (d .before .before .attribute .ensures) _ (d .a .given .1) _ _
+    (a .store-row .ensures .0) (a .store-row .ensures .1) _ (c .written-number .ensures)
 
 returns-3 : tie.Need-returns-3
-returns-3 c = attribute-done _ _ _ (c .before .before .before .load .ensures) _ _ _ _ (c .before .before .attribute .ensures) (c .enum-told2 .given .1)
+returns-3 c =
+    let b = c .before .before .before in
+    let t = b .before in
+    attribute-ready _ _ _ (t .before .is-short .ensures) (t .if1 .left) _ (b .load .ensures) _ _ _ _
+    (c .before .before .attribute .ensures) (c .enum-told .given .1)
 
 returns-4 : tie.Need-returns-4
-returns-4 c = attribute-refused _ _ _ (c .before .before .before .before .load .ensures) _ _ _ _ (c .before .before .before .attribute .ensures) _ (c .before .f .given .1)
+returns-4 c =
+    let b = c .before .before .before in
+    let t = b .before in
+    attribute-done _ _ _ (t .before .is-short .ensures) (t .if1 .left) _ (b .load .ensures) _ _ _ _
+    (c .before .before .attribute .ensures) (c .enum-told2 .given .1)
+
+returns-5 : tie.Need-returns-5
+returns-5 c =
+    let b = c .before .before .before .before in
+    let t = b .before in
+    attribute-refused _ _ _ (t .before .is-short .ensures) (t .if1 .left) _ (b .load .ensures) _ _ _ _
+    (c .before .before .before .attribute .ensures) _ (c .before .f .given .1)
 
 pub p12-attribute-spec : {M : Type 1} → statement M
 p12-attribute-spec =
     tie.close
     (tie.spec
+    is-short-requires
+    returns
     load-requires
     attribute-requires
     enum-known-a
@@ -56,7 +83,7 @@ p12-attribute-spec =
     enum-told-2
     enum-known-f
     same-length
-    returns
     returns-2
     returns-3
-    returns-4)
+    returns-4
+    returns-5)

@@ -1,10 +1,18 @@
--- The certificate for the key, in the table that was loaded.
+-- Words that are too few; else the certificate for the key, in the table that was loaded.
 use mathlib.Core.Path.{ap, _∙_}
 use Rattle.p12.specs.Calls.{pairedNumber, pairedRow}
-use Rattle.p12.proofs.Gives.{certificate-of}
+use Rattle.p12.proofs.Gives.{certificate-short, certificate-of}
 use borrow.Author.Needs.{needs}
 use Rattle.p12.proofs.p12_certificate_for.Statement.{statement}
 use Rattle.p12.proofs.p12_certificate_for.Tie as tie
+
+is-short-requires : tie.Need-is-short-requires
+is-short-requires c κs = search needs
+
+returns : tie.Need-returns
+returns c =
+    let g = certificate-short _ _ _ (c .before .is-short .ensures) (c .if1 .taken) _ in
+    (ap pairedNumber g, ap pairedRow g)
 
 load-requires : tie.Need-load-requires
 load-requires c κs = search needs
@@ -18,15 +26,22 @@ paired-row-requires c κs = search needs
 paired-number-requires : tie.Need-paired-number-requires
 paired-number-requires c κs = search needs
 
-returns : tie.Need-returns
-returns c = (c .paired-number .ensures ∙ ap pairedNumber (certificate-of _ _ _ (c .before .before .before .load .ensures) _ _ (c .before .before .certificate-for .ensures)), c .before .paired-row .ensures ∙ ap pairedRow (certificate-of _ _ _ (c .before .before .before .load .ensures) _ _ (c .before .before .certificate-for .ensures)))
+returns-2 : tie.Need-returns-2
+returns-2 c =
+    let e = c .before .before .certificate-for .ensures in
+    let b = c .before .before .before in
+    let t = b .before in
+    let g = certificate-of _ _ _ (t .before .is-short .ensures) (t .if1 .left) _ (b .load .ensures) _ _ e in
+    (c .paired-number .ensures ∙ ap pairedNumber g, c .before .paired-row .ensures ∙ ap pairedRow g)
 
 pub p12-certificate-for-spec : {M : Type 1} → statement M
 p12-certificate-for-spec =
     tie.close
     (tie.spec
+    is-short-requires
+    returns
     load-requires
     certificate-for-requires
     paired-row-requires
     paired-number-requires
-    returns)
+    returns-2)

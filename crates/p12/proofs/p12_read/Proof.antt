@@ -1,42 +1,43 @@
--- By the answer of reading: the table is stored, or nothing is.
-use Rattle.p12.proofs.Gives.{read-stored, read-refused}
+-- Memory that is too short; else what reading gave, with its table stored.
+use Rattle.p12.proofs.Gives.{read-short, read-stored}
 use borrow.Author.Needs.{needs}
 use Rattle.p12.proofs.p12_read.Statement.{statement}
 use Rattle.p12.proofs.p12_read.Tie as tie
 
+is-short-requires : tie.Need-is-short-requires
+is-short-requires c κs = search needs
+
+returns : tie.Need-returns
+returns c = read-short _ _ _ (c .before .is-short .ensures) (c .if1 .taken)
+
 read-requires : tie.Need-read-requires
 read-requires c κs = search needs
 
-enum-told : tie.Need-enum-told
-enum-told c = search needs
+read-offset-requires : tie.Need-read-offset-requires
+read-offset-requires c κs = search needs
 
-store-requires : tie.Need-store-requires
-store-requires c κs = search needs
-
-written-number-requires : tie.Need-written-number-requires
-written-number-requires c κs = search needs
-
-enum-known-answer : tie.Need-enum-known-answer
-enum-known-answer c = search needs
+store-reading-requires : tie.Need-store-reading-requires
+store-reading-requires c κs = search needs
 
 same-length : tie.Need-same-length
 same-length c = search needs
 
-returns : tie.Need-returns
-returns c = read-stored _ _ _ (c .before .before .before .before .before .before .before .read .ensures) (c .before .before .before .before .before .enum-told .given .1) _ _ (c .before .before .before .store .ensures .0) (c .before .before .before .store .ensures .1) _ (c .written-number .ensures)
-
 returns-2 : tie.Need-returns-2
-returns-2 c = read-refused _ _ _ (c .before .before .before .read .ensures) _ (c .before .answer .given .1)
+returns-2 c =
+    let a = c .before .before in
+    let b = a .before .before .before in
+    let t = b .before in
+    read-stored _ _ _ (t .before .is-short .ensures) (t .if1 .left) _ (b .read .ensures) _
+    (a .store-reading .ensures .0) _ (a .store-reading .ensures .1) _ (a .before .before .read-offset .ensures)
 
 pub p12-read-spec : {M : Type 1} → statement M
 p12-read-spec =
     tie.close
     (tie.spec
-    read-requires
-    enum-told
-    store-requires
-    written-number-requires
-    enum-known-answer
-    same-length
+    is-short-requires
     returns
+    read-requires
+    read-offset-requires
+    store-reading-requires
+    same-length
     returns-2)

@@ -1,8 +1,14 @@
--- What writing wrote, of the table that was loaded.
-use Rattle.p12.proofs.Gives.{write-wrote}
+-- Words that are too few; else what writing wrote, of the table that was loaded.
+use Rattle.p12.proofs.Gives.{write-short, write-wrote}
 use borrow.Author.Needs.{needs}
 use Rattle.p12.proofs.p12_write.Statement.{statement}
 use Rattle.p12.proofs.p12_write.Tie as tie
+
+is-short-requires : tie.Need-is-short-requires
+is-short-requires c κs = search needs
+
+returns : tie.Need-returns
+returns c = write-short _ _ _ (c .before .is-short .ensures) (c .if1 .taken) _
 
 load-requires : tie.Need-load-requires
 load-requires c κs = search needs
@@ -19,16 +25,23 @@ written-number-requires c κs = search needs
 same-length : tie.Need-same-length
 same-length c = search needs
 
-returns : tie.Need-returns
-returns c = write-wrote _ _ _ (c .before .before .before .before .before .before .load .ensures) _ _ _ (c .before .before .before .before .write .ensures .0) (c .before .before .before .before .write .ensures .1) _ (c .written-number .ensures) _ (c .before .length-of .ensures)
+returns-2 : tie.Need-returns-2
+returns-2 c =
+    let a = c .before .before .before .before in
+    let b = a .before .before in
+    let t = b .before in
+    write-wrote _ _ _ (t .before .is-short .ensures) (t .if1 .left) _ (b .load .ensures) _ _ _
+    (a .write .ensures .0) (a .write .ensures .1) _ (c .written-number .ensures) _ (c .before .length-of .ensures)
 
 pub p12-write-spec : {M : Type 1} → statement M
 p12-write-spec =
     tie.close
     (tie.spec
+    is-short-requires
+    returns
     load-requires
     write-requires
     length-of-requires
     written-number-requires
     same-length
-    returns)
+    returns-2)
