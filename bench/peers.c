@@ -75,6 +75,14 @@ size_t call_list(const uint8_t *file, size_t n)
     return length;
 }
 
+size_t call_pairs(const uint8_t *file, size_t n)
+{
+    size_t length;
+
+    p12_pairs(file, n, listing, sizeof listing, &length);
+    return length;
+}
+
 static uint8_t attribute(const uint8_t *file, size_t n, size_t bag, size_t i)
 {
     struct p12_attribute row;

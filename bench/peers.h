@@ -21,6 +21,7 @@ size_t call_read(const uint8_t *file, size_t n);            /* the number of ele
 size_t call_write(const uint8_t *file, size_t n);           /* the length of the file */
 size_t call_mac_input(const uint8_t *file, size_t n);       /* the length of the input */
 size_t call_list(const uint8_t *file, size_t n);            /* the length of the listing */
+size_t call_pairs(const uint8_t *file, size_t n);           /* the length of the pairs' text */
 size_t call_attribute(const uint8_t *file, size_t n);       /* 1 */
 size_t call_certificate_for(const uint8_t *file, size_t n); /* 1 */
 

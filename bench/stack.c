@@ -32,6 +32,7 @@ static int stack_of_file(const char *name, const uint8_t *file, size_t n)
     show_stack(accepted, call_write, file, n);
     show_stack(1, call_mac_input, file, n);
     show_stack(1, call_list, file, n);
+    show_stack(1, call_pairs, file, n);
     show_stack(table.attribute_count > 0, call_attribute, file, n);
     show_stack(subjects.keys > 0, call_certificate_for, file, n);
     show_stack(1, walker, file, n);
@@ -42,5 +43,6 @@ static int stack_of_file(const char *name, const uint8_t *file, size_t n)
 int main(int argc, char **argv)
 {
     return each_file(argc, argv,
-        "stack in bytes                bytes      read     write mac_input      list attribute  cert_for         c", stack_of_file);
+        "stack in bytes                bytes      read     write mac_input      list     pairs attribute  cert_for"
+        "         c", stack_of_file);
 }

@@ -135,6 +135,7 @@ struct p12_table {
 #define P12_ATTRIBUTE_WORDS (sizeof(struct p12_attribute) / sizeof(uint32_t)) /* 5 */
 #define P12_FILE_BYTES 65535      /* the longest file */
 #define P12_LISTING_BYTES 65536   /* every listing fits into this */
+#define P12_PAIRS_BYTES 4288      /* every text of p12_pairs fits into this */
 
 static inline uint32_t *p12_words(struct p12_table *table) { return (uint32_t *)table; }
 
@@ -174,6 +175,12 @@ uint8_t p12_certificate_for(const uint32_t *table, size_t words, const uint8_t *
 /* The listing of a file as text, without a final 0, and its length in *written. A refused file lists as the one line `refused N at P`, and the call
  * gives P12_OK. 10 for a buffer that is too short; *written is 0 then. */
 uint8_t p12_list(const uint8_t *file, size_t length, uint8_t *out, size_t capacity, size_t *written);
+
+/* The pairs of a file as text, without a final 0, and its length in *written: a line for each key bag, in the order of
+ * the bag rows, `key bag N: certificate bag M`, or `key bag N: refused K` where p12_certificate_for gives K (13 or 14).
+ * A file with no key bag has an empty text. A refused file has the one line `refused N at P`, and the call gives
+ * P12_OK. 10 for a buffer that is too short, which one of P12_PAIRS_BYTES bytes never is; *written is 0 then. */
+uint8_t p12_pairs(const uint8_t *file, size_t length, uint8_t *out, size_t capacity, size_t *written);
 
 #ifdef __cplusplus
 }

@@ -8,34 +8,19 @@
 #include <stdio.h>
 
 static uint8_t file[P12_FILE_BYTES + 1];    /* one byte more than the longest file, so that a longer one is told */
-static uint8_t text[P12_LISTING_BYTES];
+static uint8_t text[P12_LISTING_BYTES];     /* the longer of the two texts */
 static struct p12_table table;
 
-static int show_listing(size_t length)
+/* A call that writes a text of the file: p12_list, p12_pairs. */
+typedef uint8_t text_call(const uint8_t *file, size_t length, uint8_t *out, size_t capacity, size_t *written);
+
+static int show(text_call *call, size_t length)
 {
     size_t written;
 
-    if (p12_list(file, length, text, sizeof text, &written) != P12_OK)
+    if (call(file, length, text, sizeof text, &written) != P12_OK)
         return 0;
     return fwrite(text, 1, written, stdout) == written;
-}
-
-static void show_pair(size_t length, size_t key)
-{
-    size_t certificate;
-    unsigned number = p12_certificate_for(p12_words(&table), P12_TABLE_WORDS, file, length, key, &certificate);
-
-    if (number == P12_OK)
-        printf("key bag %zu: certificate bag %zu\n", key, certificate);
-    else
-        printf("key bag %zu: refused %u\n", key, number);
-}
-
-static void show_pairs(size_t length)
-{
-    for (size_t bag = 0; bag < table.bag_count; bag++)
-        if (table.bags[bag].kind == P12_KEY || table.bags[bag].kind == P12_SHROUDED_KEY)
-            show_pair(length, bag);
 }
 
 int main(int argc, char **argv)
@@ -49,10 +34,10 @@ int main(int argc, char **argv)
         return 2;
     }
     length = fread(file, 1, sizeof file, in);
-    if (ferror(in) || !show_listing(length))
+    if (ferror(in) || !show(p12_list, length))
         return 2;
     number = p12_read(file, length, p12_words(&table), P12_TABLE_WORDS, &offset);
-    if (number == P12_OK)
-        show_pairs(length);
-    return number == P12_OK ? 0 : 1;
+    if (number != P12_OK)
+        return 1;
+    return show(p12_pairs, length) ? 0 : 2;
 }

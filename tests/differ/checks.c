@@ -22,6 +22,8 @@ void check_nothing(void)
     check(p12_read(NULL, 0, words, P12_TABLE_WORDS, &a) == P12_CUT && a == 0, "no file: read");
     release(words, sizeof(struct p12_table));
     check(p12_list(NULL, 0, NULL, 0, &a) == P12_NO_ROOM && a == 0, "no file: list");
+    a = 1;
+    check(p12_pairs(NULL, 0, NULL, 0, &a) == P12_NO_ROOM && a == 0, "no file: pairs");
     check(p12_element(NULL, 0, 0, 0, 0, &a, &b) == 0 && a == 0 && b == 0, "no bytes: element");
     a = b = 1;
     check(p12_mac_input(NULL, 0, &a, &b) == P12_CUT && a == 0 && b == 0, "no file: mac input");
@@ -59,29 +61,30 @@ void check_other_words(const struct lent *lent, unsigned number, size_t offset)
     release(more, size + MORE * WORD);
 }
 
-/* Listing. */
+/* Texts: the listing, the pairs. */
 
-static void check_short_listing(const uint8_t *file, size_t length, size_t room)
+static void check_short_text(text_call *call, const uint8_t *file, size_t length, size_t size)
 {
-    uint8_t *out = painted(room);
+    uint8_t *out = painted(size);
     size_t got = 1;
 
-    check(p12_list(file, length, out, room, &got) == P12_NO_ROOM && got == 0, "listing into too little room: number or length");
-    check(as_before(out, 0, room), "listing into too little room: it changed");
-    release(out, room);
+    check(call(file, length, out, size, &got) == P12_NO_ROOM && got == 0, "text into a short buffer: number or length");
+    check(as_before(out, 0, size), "text into a short buffer: it changed");
+    release(out, size);
 }
 
-void check_listing(const uint8_t *file, size_t length, const uint8_t *text, size_t written)
+void check_text(text_call *call, const uint8_t *file, size_t length, const uint8_t *text, size_t written)
 {
     uint8_t *out = painted(written);
     size_t got = 1;
 
-    check(p12_list(file, length, out, written, &got) == P12_OK && got == written, "listing into exact room: number or length");
-    check(memcmp(out, text, written) == 0, "listing into exact room: another text");
+    check(call(file, length, out, written, &got) == P12_OK && got == written, "text into its size: number or length");
+    check(memcmp(out, text, written) == 0, "text into its size: another text");
     release(out, written);
-    check(written > 0, "listing: it is empty");
-    check_short_listing(file, length, 0);
-    check_short_listing(file, length, written ? written - 1 : 0);
+    if (written > 0) {
+        check_short_text(call, file, length, 0);
+        check_short_text(call, file, length, written - 1);
+    }
 }
 
 /* Attributes. */

@@ -20,8 +20,11 @@ void check_nothing(void);
 /* Reading into fewer words and into more, after a reading that gave this number, offset and these words. */
 void check_other_words(const struct lent *lent, unsigned number, size_t offset);
 
-/* Listing into exact room, and into a byte less, after a listing that gave this text. */
-void check_listing(const uint8_t *file, size_t length, const uint8_t *text, size_t written);
+/* A call that writes a text of a file: p12_list, p12_pairs. */
+typedef uint8_t text_call(const uint8_t *file, size_t length, uint8_t *out, size_t capacity, size_t *written);
+
+/* The same call into a buffer of the text's size, into a byte less and into none, after one that gave this text. */
+void check_text(text_call *call, const uint8_t *file, size_t length, const uint8_t *text, size_t written);
 
 /* Attribute i of a bag into rows of other sizes, after a call that gave this number. */
 void check_attribute(const struct lent *lent, size_t bag, size_t i, unsigned number);

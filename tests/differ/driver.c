@@ -6,6 +6,7 @@
    read: NUMBER at OFFSET
    mac input: NUMBER, A..B
    list: NUMBER, N bytes                        and the listing
+   pairs: NUMBER, N bytes                       and the lines of the pairs
    words: ..                                    the table; 5*0 is the word 0 five times
    bag B attribute I: NUMBER, bag B, A..B, A..B, elements N: A..B ..    accepted files only, from here on; of many
                                                 elements the first and the last 32
@@ -40,20 +41,20 @@ static void show_mac_input(const uint8_t *file, size_t length)
     printf("mac input: %u, %zu..%zu\n", number, start, end);
 }
 
-/* Lists into room for every listing; checks.c goes on with room of the right size. */
-static void show_listing(const uint8_t *file, size_t length)
+/* Writes a text into a buffer that is never too short; checks.c goes on with one of the right size. */
+static void show_text(const char *name, text_call *call, size_t most, const uint8_t *file, size_t length)
 {
-    uint8_t *out = painted(P12_LISTING_BYTES);
+    uint8_t *out = painted(most);
     size_t written = 1;
-    unsigned number = p12_list(file, length, out, P12_LISTING_BYTES, &written);
+    unsigned number = call(file, length, out, most, &written);
 
-    printf("list: %u, %zu bytes\n", number, written);
-    if (number == P12_OK && written <= P12_LISTING_BYTES) {
+    printf("%s: %u, %zu bytes\n", name, number, written);
+    if (number == P12_OK && written <= most) {
         fwrite(out, 1, written, stdout);
-        check(as_before(out, written, P12_LISTING_BYTES), "listing: bytes behind it changed");
-        check_listing(file, length, out, written);
+        check(as_before(out, written, most), "text: bytes behind it changed");
+        check_text(call, file, length, out, written);
     }
-    release(out, P12_LISTING_BYTES);
+    release(out, most);
 }
 
 static void show_elements(const struct lent *lent, struct p12_range values)
@@ -127,7 +128,8 @@ static void show_file(const uint8_t *file, size_t length)
 
     printf("read: %u at %zu\n", number, offset);
     show_mac_input(file, length);
-    show_listing(file, length);
+    show_text("list", p12_list, P12_LISTING_BYTES, file, length);
+    show_text("pairs", p12_pairs, P12_PAIRS_BYTES, file, length);
     show_words(words, P12_TABLE_WORDS);
     check_other_words(&lent, number, offset);
     if (number == P12_OK)

@@ -87,9 +87,10 @@ def record(number, data):
     result = p12_reader.read(data)
     refused = isinstance(result, p12_reader.Refusal)
     answer, place = result if refused else (0, 0)
-    listing = p12_reader.listing(result)
+    listing, pairs = p12_reader.listing(result), p12_pairs.pairs(data, result)
     lines = ["= %d, %d bytes\n" % (number, len(data)),
              "read: %d at %d\n" % (answer, place),
              "mac input: %d, %d..%d\n" % (answer, *((0, 0) if refused else result.mac_input)),
-             "list: 0, %d bytes\n" % len(listing), listing, words_line(result)]
+             "list: 0, %d bytes\n" % len(listing), listing,
+             "pairs: 0, %d bytes\n" % len(pairs), pairs, words_line(result)]
     return "".join(lines + ([] if refused else accepted_lines(data, result))), result

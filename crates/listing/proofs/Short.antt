@@ -33,14 +33,14 @@ use Rattle.listing.specs.Put.{limit}
 pub record Short (m : ℕ) (x : List ℕ) : Type 0 where
   pub most : length x ≤ m
 
-word : (x : List ℕ) → Short (length x) x
+pub word : (x : List ℕ) → Short (length x) x
 word x = record { most = omega arith }
 
-within : {m : ℕ} {x : List ℕ} (n : ℕ) → m ≤ n → Short m x → Short n x
+pub within : {m : ℕ} {x : List ℕ} (n : ℕ) → m ≤ n → Short m x → Short n x
 within n h s = record { most = omega (arith, h, s .most) }
 
 infixl 5 _and_
-_and_ : {m n : ℕ} {x y : List ℕ} → Short m x → Short n y → Short (m + n) (x ++ y)
+pub _and_ : {m n : ℕ} {x y : List ℕ} → Short m x → Short n y → Short (m + n) (x ++ y)
 _and_ {m} {n} {x} {y} s t = record { most = omega (arith, s .most, t .most, length-append x y) }
 
 -- ---- parts of lines
@@ -54,7 +54,7 @@ digits-short (suc k) n = go (ltb n 10) (digits-short k (n / 10))
     go true h = omega arith
     go false h = omega (arith, length-append (digits k (n / 10)) (digit (n % 10)), h)
 
-number : (name : List ℕ) (n : ℕ) → Short (length name + 20) (numberText name n)
+pub number : (name : List ℕ) (n : ℕ) → Short (length name + 20) (numberText name n)
 unfolding numberText decimal
 number name n = word name and record { most = digits-short 20 n }
 
@@ -145,14 +145,14 @@ mac-line input m =
     within 186 (omega arith)
     (range (ascii "mac input ") input and range (ascii ", digest ") (m .parts .value) and range (ascii ", salt ") (m .salt) and number (ascii ", iterations ") (m .iterations) and word (ascii "\n"))
 
-refused-line : (f : Fault) → Short 53 (refusedLine f)
+pub refused-line : (f : Fault) → Short 53 (refusedLine f)
 unfolding refusedLine ascii
 refused-line f = within 53 (omega arith) (number (ascii "refused ") (f .number) and number (ascii " at ") (f .offset) and word (ascii "\n"))
 
 -- ---- the whole
 
 -- n lines, each of m bytes at most
-lines : (line : ℕ → List ℕ) (m : ℕ) → ((i : ℕ) → Short m (line i)) → (n : ℕ) → Short (n * m) (each line n)
+pub lines : (line : ℕ → List ℕ) (m : ℕ) → ((i : ℕ) → Short m (line i)) → (n : ℕ) → Short (n * m) (each line n)
 unfolding each
 lines line m h zero = within (0 * m) (omega arith) (word [])
 lines line m h (suc n) = within (suc n * m) (rw (suc-mul n m) (omega arith)) (lines line m h n and h n)

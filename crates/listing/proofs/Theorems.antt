@@ -28,7 +28,7 @@ listing-short size r = short size r
 
 -- `list` refuses no buffer of 65,536 bytes or more
 pub listed-in : (size : ℕ) (r : Reading) (room : List ℕ) → 65536 ≤ length room → listed size r room ≡ success (listing size r) room
-listed-in size r room h = written size r room (omega (arith, h, short size r))
+listed-in size r room h = written (listing size r) room (omega (arith, h, short size r))
 
 -- the digits of a number give it back: of every number of 64 bits, and of some more
 pub decimal-back : (n : ℕ) → n < 100000000000000000000 → numberOf (decimal n) ≡ n

@@ -1,41 +1,46 @@
--- The two outcomes, by the length that was measured.
-use mathlib.Core.Path.{_≡_, refl, sym, ap, _∙_}
-use mathlib.Core.List.{List}
+-- The two outcomes of writing a text, by the length that was measured.
+use mathlib.Core.Path.{_≡_, refl, ap}
+use mathlib.Core.List.{List, _++_}
 use Prim.Native.Nat.{ℕ, _+_, _≤_, _<_}
 use native.Mathlib.Omega.{arith}
-use lib.ListN.{length}
+use lib.ListN.{length, drop}
 use borrow.Author.Tests.{lt-ltb, le-ltb}
+use Rattle.der.specs.Element.{fault}
 use Rattle.pkcs12.specs.Numbers.{noRoom}
-use Rattle.pkcs12.specs.Written.{Outcome, refusal, success}
-use Rattle.pkcs12.specs.declared.Reading.{Reading}
+use Rattle.pkcs12.specs.Written.{success}
+use Rattle.pkcs12.specs.declared.Written.{Written}
 use Rattle.pkcs12.specs.declared.Written.the-variants.{Length}
 use Rattle.pkcs12.proofs.Placing.{placed-whole}
-use Rattle.listing.specs.Lines.{listing}
-use Rattle.listing.specs.Listed.{listed}
+use Rattle.listing.specs.Listed.{intoBuffer}
 use Rattle.listing.specs.Put.{limit, Put}
-use Rattle.listing.proofs.Short.{short}
+use Rattle.listing.proofs.Puts.{put-all}
 
-module _ (size : ℕ) (reading : Reading) where
-  -- the place behind a listing that begins at 0 is its length
-  pub put-length : (d e : List ℕ) (r : ℕ) → Put d 0 (listing size reading) e r → r ≡ length (listing size reading)
-  put-length d e r p = let h : 0 + length (listing size reading) ≤ limit = omega (arith, short size reading) in omega (arith, p .done h .next)
+module _ (x : List ℕ) (s : length x ≤ limit) (d e : List ℕ) (r : ℕ) (p : Put d 0 x e r) where
+  within : 0 + length x ≤ limit
+  within = omega (arith, s)
 
-  pub written : (room : List ℕ) → length (listing size reading) ≤ length room → listed size reading room ≡ success (listing size reading) room
-  unfolding listed
-  written room h = rw (le-ltb (length room) (length (listing size reading)) h) refl
+  -- the place behind a text that begins at 0 is its length
+  pub put-length : r ≡ length x
+  put-length = omega (arith, put-all p within .next)
 
-  module _ (room : List ℕ) (n : ℕ) (p : n ≡ length (listing size reading)) where
-    pub no-room : length room < n → listed size reading room ≡ refusal noRoom room
-    unfolding listed
-    no-room h = rw (lt-ltb (length room) (length (listing size reading)) (omega (arith, h, p))) refl
+  -- such a text stands at the front of a buffer that is long enough
+  pub put-front : length x ≤ length d → e ≡ x ++ drop (length x) d
+  put-front h = placed-whole d x e r (put-all p within) h
 
-    module _ (h : n ≤ length room) where
-      pub written-answer : Length n ≡ listed size reading room .answer
-      written-answer = ap Length p ∙ sym (ap (λ (o : Outcome). o .answer) (written room (omega (arith, h, p))))
+module _ (x buffer : List ℕ) where
+  pub written : length x ≤ length buffer → intoBuffer x buffer ≡ success x buffer
+  unfolding intoBuffer
+  written h = rw (le-ltb (length buffer) (length x) h) refl
 
-      pub written-buffer : (z : List ℕ) (r : ℕ) → Put room 0 (listing size reading) z r → z ≡ listed size reading room .buffer
-      written-buffer z r w =
-          let x : List ℕ = listing size reading in
-          let k : 0 + length x ≤ limit = omega (arith, short size reading) in
-          let l : length x ≤ length room = omega (arith, h, p) in
-          placed-whole room x z r (w .done k) l ∙ sym (ap (λ (o : Outcome). o .buffer) (written room l))
+  -- the answer and the buffer of what code does with a text whose length it knows
+  module _ (n : ℕ) (p : n ≡ length x) where
+    pub no-room : length buffer < n
+        → (Written.Refused (fault noRoom 0) ≡ intoBuffer x buffer .answer) × (buffer ≡ intoBuffer x buffer .buffer)
+    unfolding intoBuffer
+    no-room h = rw (lt-ltb (length buffer) (length x) (omega (arith, h, p))) (refl, refl)
+
+    pub wrote : n ≤ length buffer → length x ≤ limit → (z : List ℕ) (r : ℕ) → Put buffer 0 x z r
+        → (Length n ≡ intoBuffer x buffer .answer) × (z ≡ intoBuffer x buffer .buffer)
+    wrote h s z r w =
+        let fits : length x ≤ length buffer = omega (arith, h, p) in
+        rw (written fits) (ap {B = Written} Length p, put-front x s buffer z r w fits)

@@ -5,8 +5,8 @@ ghost use Rattle.listing.specs.Lines.{headLines, acceptedLines, answered
 ghost use Rattle.listing.specs.Listed.{listed};
 ghost use Rattle.listing.specs.Put.{Put};
 
-mod lines;
-mod out;
+pub mod lines;
+pub mod out;
 mod rows;
 
 use der::Fault;

@@ -155,7 +155,7 @@ pub(crate) fn mac_line(out: &mut [u8], at: usize, input: Range, mac: Mac) -> usi
     out::text(out, number, b"\n")
 }
 
-pub(crate) fn refused(out: &mut [u8], at: usize, f: Fault) -> usize
+pub fn refused(out: &mut [u8], at: usize, f: Fault) -> usize
     ensures { λ r. ⌜ Put (now (out .entry)) at (refusedLine f) (now (out .exit)) r ⌝ }
 {
     let number = f.number as usize;

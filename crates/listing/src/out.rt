@@ -29,7 +29,7 @@ fn byte(out: &mut [u8], at: usize, b: u8) -> usize
     next
 }
 
-pub(crate) fn text(out: &mut [u8], at: usize, x: &[u8]) -> usize
+pub fn text(out: &mut [u8], at: usize, x: &[u8]) -> usize
     ensures { λ r. ⌜ Put (now (out .entry)) at (now (x .entry)) (now (out .exit)) r ⌝ }
 {
     let n = x.len();
@@ -62,7 +62,7 @@ fn digits(out: &mut [u8], at: usize, places: usize, n: usize) -> usize
 }
 
 // A name and a number.
-pub(crate) fn number(out: &mut [u8], at: usize, name: &[u8], n: usize) -> usize
+pub fn number(out: &mut [u8], at: usize, name: &[u8], n: usize) -> usize
     ensures { λ r. ⌜ Put (now (out .entry)) at (numberText (now (name .entry)) n) (now (out .exit)) r ⌝ }
 {
     let next = text(out, at, name);

@@ -29,7 +29,9 @@ use Rattle.words.specs.Stored.{wordsOf, stored, storedRow}
 use Rattle.words.specs.Loaded.{tableIn}
 use Rattle.words.proofs.Whole.{words-length, stored-whole}
 use Rattle.listing.specs.Listed.{listed}
+use Rattle.pair_lines.specs.Listed.{pairsListed}
 use Rattle.p12.specs.Calls.{done, readNumber, readOffset, writtenNumber, Called, called, wrote, put, readCall, onTable, writeCall, itemAs, attributeCall, certificateCall, listCall}
+use Rattle.p12.specs.Calls.{pairsCall}
 
 -- what a call gives is this
 abbrev pub Gives : Called → ℕ → List ℕ → ℕ → Type 0
@@ -72,14 +74,26 @@ module _ (f room : List ℕ) (u : Bool) (h : u ≡ ltb (length room) tableWords)
         told : Reading → Called
         told x = called (readNumber (x .answer)) (wordsOf (x .table) ++ drop tableWords room) (readOffset (x .answer))
 
--- ---- listing
+-- ---- texts: the listing, the pairs
 
 module _ (f room : List ℕ) (rd : Reading) (e : rd ≡ readFile f) where
-  pub list-wrote : (w : Written) (z : List ℕ) → w ≡ listed (length f) rd room .answer → z ≡ listed (length f) rd room .buffer
-      → (n : ℕ) → n ≡ writtenNumber w → (k : ℕ) → k ≡ lengthOf w → Gives (listCall f room) n z k
+  -- what writing a text gave is what a call gives
+  abbrev Wrote : (Reading → Outcome) → Called → Type 0
+  Wrote text c =
+      (w : Written) (z : List ℕ) → w ≡ text rd .answer → z ≡ text rd .buffer
+      → (n : ℕ) → n ≡ writtenNumber w → (k : ℕ) → k ≡ lengthOf w → Gives c n z k
+
+  text-wrote : (text : Reading → Outcome) → Wrote text (wrote (text (readFile f)))
+  text-wrote text w z p q n r k s =
+      gives-all _ n z k (wrote-is (text rd) w z p q n r k s ∙ ap (λ (x : Reading). wrote (text x)) e)
+
+  pub list-wrote : Wrote (λ x. listed (length f) x room) (listCall f room)
   unfolding listCall
-  list-wrote w z p q n r k s =
-      gives-all _ n z k (wrote-is (listed (length f) rd room) w z p q n r k s ∙ ap (λ (x : Reading). wrote (listed (length f) x room)) e)
+  list-wrote = text-wrote (λ x. listed (length f) x room)
+
+  pub pairs-wrote : Wrote (λ x. pairsListed f x room) (pairsCall f room)
+  unfolding pairsCall
+  pairs-wrote = text-wrote (λ x. pairsListed f x room)
 
 -- ---- calls that load a table
 

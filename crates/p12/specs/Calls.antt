@@ -24,6 +24,7 @@ use Rattle.words.specs.Layout.{tableWords}
 use Rattle.words.specs.Stored.{wordsOf, storedRow}
 use Rattle.words.specs.Loaded.{tableIn}
 use Rattle.listing.specs.Listed.{listed}
+use Rattle.pair_lines.specs.Listed.{pairsListed}
 
 -- the number of an answer that is no refusal
 abbrev pub ok : ℕ
@@ -113,3 +114,7 @@ pub record Is11 (words s : List ℕ) : Type 0 where
 -- `p12_list`: the listing of what reading gives
 unfoldable pub listCall : List ℕ → List ℕ → Called
 listCall f buffer = wrote (listed (length f) (readFile f) buffer)
+
+-- `p12_pairs`: the pairs of what reading gives
+unfoldable pub pairsCall : List ℕ → List ℕ → Called
+pairsCall f buffer = wrote (pairsListed f (readFile f) buffer)

@@ -8,6 +8,7 @@ ghost use Rattle.words.specs.Layout.{tableWords};
 ghost use Rattle.words.specs.Stored.{stored};
 ghost use Rattle.words.specs.Loaded.{rangeOf};
 ghost use Rattle.p12.specs.Calls.{readNumber, readOffset, writtenNumber, pairedNumber, pairedRow, readCall, writeCall, attributeCall, certificateCall, listCall};
+ghost use Rattle.p12.specs.Calls.{pairsCall};
 use attributes::Item;
 use pairing::Paired;
 use pkcs12::Answer;
@@ -217,4 +218,16 @@ pub extern "C" fn p12_list(file: &[u8], out: &mut [u8], written: &mut usize) -> 
     let answer = listing::list(size, reader::read(file), out);
     *written = length_of(answer);
     written_number(answer)
+}
+
+// The pairs of a file as text, into a buffer.
+#[no_mangle]
+pub extern "C" fn p12_pairs(file: &[u8], out: &mut [u8], written: &mut usize) -> u8
+    ensures { λ r. ⌜ r ≡ pairsCall (now (file .entry)) (now (out .entry)) .number ⌝ }
+    ensures { λ _. ⌜ now (out .exit) ≡ pairsCall (now (file .entry)) (now (out .entry)) .memory ⌝ }
+    ensures { λ _. ⌜ now (written .exit) ≡ pairsCall (now (file .entry)) (now (out .entry)) .value ⌝ }
+{
+    let text = pair_lines::list(file, reader::read(file), out);
+    *written = length_of(text);
+    written_number(text)
 }

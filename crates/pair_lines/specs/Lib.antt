@@ -1,2 +1,4 @@
--- How many lines the pairs of a table have.
+-- The text of a file's pairs, what writing it gives, and how many lines a text has.
 pub mod Lines
+pub mod Listed
+pub mod Counts

@@ -1,20 +1,48 @@
--- How many lines the pairs of a table have: one for each key bag.
-use mathlib.Core.List.{List, [], _∷_}
-use Prim.Native.Nat.{ℕ, _+_}
-use lib.ListN.{take}
+-- The pairs of a file as text: a line for each key bag, or the line of a refusal. What is in quotes is from
+-- docs/TESTS.md, section "Pairs".
+use mathlib.Core.List.{List, [], _++_}
+use Prim.Native.Nat.{ℕ}
+use lib.ListN.{getD}
 use Rattle.der.specs.Choice.{if_then_else_}
+use Rattle.pkcs12.specs.Table.{noBag}
+use Rattle.pkcs12.specs.Placed.{each}
+use Rattle.pkcs12.specs.declared.Answer.{Answer}
+use Rattle.pkcs12.specs.declared.Answer.the-variants.{Accepted}
 use Rattle.pkcs12.specs.declared.BagKind.{BagKind}
-use Rattle.pkcs12.specs.declared.BagRow.{BagRow}
+use Rattle.pkcs12.specs.declared.Reading.{Reading}
 use Rattle.pkcs12.specs.declared.Table.{Table}
+use Rattle.listing.specs.Text.{ascii}
+use Rattle.listing.specs.Lines.{numberText, bags, refusedLine}
 use Rattle.pairing.specs.Pairs.{isKey}
+use Rattle.pairing.specs.declared.Paired.{Paired}
+use Rattle.pairing.specs.declared.Paired.the-variants.{Certificate}
+use Rattle.identities.specs.Identities.{certificateFor}
 
-unfoldable pub keyLine : BagKind → ℕ
-keyLine kind = if isKey kind then 1 else 0
+-- "the certificate bag that has the key's id, or the number that pairing gives instead"
+unfoldable pub answerText : Paired → List ℕ
+answerText (Certificate row) = numberText (ascii ": certificate bag ") row
+answerText (Paired.Refused f) = numberText (ascii ": refused ") (f .number)
 
-unfoldable pub linesOf : List BagRow → ℕ
-linesOf [] = 0
-linesOf (r ∷ rs) = keyLine (r .kind) + linesOf rs
+-- "key bag 1: certificate bag 0", "key bag 2: refused 13"
+unfoldable pub pairLine : ℕ → Paired → List ℕ
+pairLine i p = numberText (ascii "key bag ") i ++ answerText p ++ ascii "\n"
 
--- the rows that are counted and that there are
-unfoldable pub keyLines : Table → ℕ
-keyLines t = linesOf (take (t .«bag_count») (t .bags))
+-- "one line for each key bag, shrouded or not": none for another bag
+unfoldable pub bagLine : BagKind → ℕ → Paired → List ℕ
+bagLine kind i p = if isKey kind then pairLine i p else []
+
+abbrev pub bagAt : Table → List ℕ → ℕ → List ℕ
+bagAt t s i = bagLine (getD (t .bags) i noBag .kind) i (certificateFor t s i)
+
+-- "in the order of the bag rows": those of the table t over the bytes s
+unfoldable pub pairLines : Table → List ℕ → List ℕ
+pairLines t s = each (bagAt t s) (bags t)
+
+-- "Of an accepted file .. A refusal is the one line `refused N at P`."
+unfoldable pub answered : Answer → Table → List ℕ → List ℕ
+answered Accepted t s = pairLines t s
+answered (Answer.Refused f) t s = refusedLine f
+
+-- the pairs of a reading of the file s
+unfoldable pub pairsText : List ℕ → Reading → List ℕ
+pairsText s r = answered (r .answer) (r .table) s

@@ -1,62 +1,101 @@
-// Writes a line for each key bag of a table to standard output: the row of its certificate, or the refusal. docs/TESTS.md has the form.
+// Writes the pairs of a file into a lent buffer: a line for each key bag with the row of its certificate, or with the
+// refusal; of a refused file the line of its refusal. docs/TESTS.md has the forms.
 ghost use mathlib.Core.Path.{_≡_};
-ghost use Rattle.pair_lines.specs.Lines.{keyLine, keyLines};
+ghost use Rattle.listing.specs.Put.{Put};
+ghost use Rattle.identities.specs.Identities.{certificateFor};
+ghost use Rattle.pair_lines.specs.Lines.{answerText, pairLine, bagLine, pairLines, answered};
+ghost use Rattle.pair_lines.specs.Listed.{pairsListed};
 use der::Fault;
 use pairing::Paired;
+use pkcs12::Answer;
 use pkcs12::BagKind;
+use pkcs12::Reading;
 use pkcs12::Table;
+use pkcs12::Written;
 
-fn text(t: &[u8]) {
-    io::write_all(libc::STDOUT_FILENO, t);
-}
+// No text is longer: 67 bytes a line, and a line for each bag row.
+pub const TEXT_BYTES: usize = 4288;
 
-fn number(n: usize) {
-    io::print_decimal(libc::STDOUT_FILENO, n as u64);
-}
-
-fn refusal(fault: Fault) {
-    text(b": refused ");
-    number(fault.number as usize);
-}
-
-// The line of one key bag.
-fn line(bag: usize, paired: Paired) {
-    text(b"key bag ");
-    number(bag);
+// The row of a certificate, or the number of a refusal.
+fn answer_text(out: &mut [u8], at: usize, paired: Paired) -> usize
+    ensures { λ r. ⌜ Put (now (out .entry)) at (answerText paired) (now (out .exit)) r ⌝ }
+{
     match paired {
-        Paired::Certificate(row) => {
-            text(b": certificate bag ");
-            number(row);
+        Paired::Certificate(row) => listing::out::number(out, at, b": certificate bag ", row),
+        Paired::Refused(f) => {
+            let number = f.number as usize;
+            listing::out::number(out, at, b": refused ", number)
         }
-        Paired::Refused(fault) => refusal(fault),
     }
-    text(b"\n");
 }
 
-// The line of a bag, if it is a key's, and how many lines that is.
-fn bag_line(table: Table, file: &[u8], bag: usize, kind: BagKind) -> usize
-    ensures { λ r. ⌜ r ≡ keyLine kind ⌝ }
+fn pair_line(out: &mut [u8], at: usize, key: usize, paired: Paired) -> usize
+    ensures { λ r. ⌜ Put (now (out .entry)) at (pairLine key paired) (now (out .exit)) r ⌝ }
+{
+    let number = listing::out::number(out, at, b"key bag ", key);
+    let answer = answer_text(out, number, paired);
+    listing::out::text(out, answer, b"\n")
+}
+
+// The line of a bag, if it is a key's.
+fn bag_line(
+    out: &mut [u8],
+    at: usize,
+    table: Table,
+    file: &[u8],
+    bag: usize,
+    kind: BagKind,
+) -> usize
+    ensures { λ r. ⌜ Put (now (out .entry)) at (bagLine kind bag (certificateFor table (now (file .entry)) bag))
+        (now (out .exit)) r ⌝ }
 {
     if pairing::is_key(kind) {
-        line(bag, identities::certificate_for(table, file, bag));
-        return 1;
+        let paired = identities::certificate_for(table, file, bag);
+        return pair_line(out, at, bag, paired);
     }
-    0
+    at
 }
 
-// A line for each key bag, in the order of the rows; gives the number of lines, whether or not the output took them.
-pub fn show(table: Table, file: &[u8]) -> usize
-    ensures { λ r. ⌜ r ≡ keyLines table ⌝ }
+// A line for each key bag, in the order of the rows.
+fn bag_lines(out: &mut [u8], table: Table, file: &[u8]) -> usize
+    ensures { λ r. ⌜ Put (now (out .entry)) 0 (pairLines table (now (file .entry))) (now (out .exit)) r ⌝ }
 {
-    let end = pkcs12::fewer(table.bag_count, pkcs12::BAG_ROWS);
-    let mut lines: usize = 0;
-    let mut i: usize = 0;
-    while i < end {
+    let n = pkcs12::fewer(table.bag_count, pkcs12::BAG_ROWS);
+    let mut to = 0;
+    let mut i = 0;
+    while i < n {
         let row = table.bags[i];
         let kind = row.kind;
-        let more = bag_line(table, file, i, kind);
-        lines = lines + more;
+        to = bag_line(out, to, table, file, i, kind);
         i = i + 1;
     }
-    lines
+    to
+}
+
+fn answered(out: &mut [u8], answer: Answer, table: Table, file: &[u8]) -> usize
+    ensures { λ r. ⌜ Put (now (out .entry)) 0 (answered answer table (now (file .entry))) (now (out .exit)) r ⌝ }
+{
+    match answer {
+        Answer::Accepted => bag_lines(out, table, file),
+        Answer::Refused(f) => listing::lines::refused(out, 0, f),
+    }
+}
+
+// Writes the pairs of a file that was read. The text is made in a buffer that holds any, so that each key is paired
+// once, and nothing of `out` is written before it is known that the text fits.
+pub fn list(file: &[u8], reading: Reading, out: &mut [u8]) -> Written
+    ensures { λ r. ⌜ r ≡ pairsListed (now (file .entry)) reading (now (out .entry)) .answer ⌝ }
+    ensures { λ _. ⌜ now (out .exit) ≡ pairsListed (now (file .entry)) reading (now (out .entry)) .buffer ⌝ }
+{
+    let mut text = [0u8; TEXT_BYTES];
+    let answer = reading.answer;
+    let n = answered(&mut text, answer, reading.table, file);
+    if out.len() < n {
+        return Written::Refused(Fault {
+            number: pkcs12::NO_ROOM,
+            offset: 0,
+        });
+    }
+    let end = listing::out::text(out, 0, &text[0..n]);
+    Written::Length(n)
 }

@@ -1,16 +1,14 @@
 // Says for each key bag of the file on standard input which bag holds its certificate. A file that is refused is answered by the line of its refusal.
-use pkcs12::Answer;
+use pkcs12::Written;
 
 fn pairs(file: &[u8]) {
-    let reading = reader::read(file);
-    let answer = reading.answer;
-    match answer {
-        Answer::Accepted => {
-            pair_lines::show(reading.table, file);
+    let mut text = [0u8; pair_lines::TEXT_BYTES];
+    let written = pair_lines::list(file, reader::read(file), &mut text);
+    match written {
+        Written::Length(n) => {
+            print::front(&text, n);
         }
-        Answer::Refused(_) => {
-            print::list(file.len(), reading);
-        }
+        Written::Refused(_) => {}
     }
 }
 

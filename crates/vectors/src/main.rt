@@ -4,6 +4,7 @@
 // A frame that is cut, or longer than the buffer, is answered by the line `cut`, and nothing after it is read.
 ghost use Prim.Native.Nat.{_<_};
 use pkcs12::Answer;
+use pkcs12::Reading;
 use pkcs12::Table;
 use pkcs12::Written;
 
@@ -49,6 +50,18 @@ fn write_back(table: Table, file: &[u8], out: &mut [u8]) {
     }
 }
 
+// Prints the pairs of a file: all of them, since the buffer holds any.
+fn show_pairs(file: &[u8], reading: Reading) {
+    let mut text = [0u8; pair_lines::TEXT_BYTES];
+    let written = pair_lines::list(file, reading, &mut text);
+    match written {
+        Written::Length(n) => {
+            print::front(&text, n);
+        }
+        Written::Refused(_) => {}
+    }
+}
+
 // Lists a file and, if it is accepted, pairs its keys and writes it back.
 fn list(file: &[u8], out: &mut [u8]) {
     let reading = reader::read(file);
@@ -56,7 +69,7 @@ fn list(file: &[u8], out: &mut [u8]) {
     let answer = reading.answer;
     match answer {
         Answer::Accepted => {
-            pair_lines::show(reading.table, file);
+            show_pairs(file, reading);
             write_back(reading.table, file, out);
         }
         Answer::Refused(_) => {}

@@ -22,6 +22,8 @@ use std::fmt;
 pub const FILE_BYTES: usize = 65535;
 /// Every listing fits into this.
 pub const LISTING_BYTES: usize = 65536;
+/// Every text of `pairs` fits into this.
+pub const PAIRS_BYTES: usize = 4288;
 
 const OK: u8 = 0;
 const DONE: u8 = 255;
@@ -116,12 +118,29 @@ pub fn list(file: &[u8], out: &mut [u8]) -> Result<usize, Refusal> {
     answer(number, 0, written)
 }
 
+/// Writes the pairs of a file to the front of the buffer, and gives the length: a line for each key bag. A refused file
+/// has the line of its refusal. `NoRoom` leaves the buffer as it was.
+pub fn pairs(file: &[u8], out: &mut [u8]) -> Result<usize, Refusal> {
+    let (number, written) = sys::pairs(file, out);
+    answer(number, 0, written)
+}
+
 /// The listing of a file.
 pub fn listing(file: &[u8]) -> String {
-    let mut out = vec![0; LISTING_BYTES];
-    let written = list(file, &mut out).expect("room for every listing");
+    text(file, LISTING_BYTES, list)
+}
+
+/// The pairs of a file.
+pub fn pair_lines(file: &[u8]) -> String {
+    text(file, PAIRS_BYTES, pairs)
+}
+
+/// A text of a file, which fits into so many bytes.
+fn text(file: &[u8], most: usize, write: fn(&[u8], &mut [u8]) -> Result<usize, Refusal>) -> String {
+    let mut out = vec![0; most];
+    let written = write(file, &mut out).expect("a buffer for every text");
     out.truncate(written);
-    String::from_utf8(out).expect("a listing is ASCII")
+    String::from_utf8(out).expect("a text is ASCII")
 }
 
 /// The number of elements in an attribute's values, and element i, counted from 0, header included.

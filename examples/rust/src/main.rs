@@ -20,25 +20,16 @@ fn contents(path: Option<&str>) -> io::Result<Vec<u8>> {
     Ok(file)
 }
 
-fn pairs(file: &[u8], table: &p12::Table) -> String {
-    let keys = table.bags().iter().enumerate().filter(|(_, bag)| bag.kind().is_some_and(p12::BagKind::is_key));
-    keys.map(|(key, _)| match table.certificate_for(file, key) {
-        Ok(bag) => format!("key bag {key}: certificate bag {bag}\n"),
-        Err(refusal) => format!("key bag {key}: refused {}\n", refusal.number as u8),
-    })
-    .collect()
-}
-
 /// Whether the file was accepted.
 fn show(path: Option<&str>) -> io::Result<bool> {
     let file = contents(path)?;
     let mut out = io::stdout();
     out.write_all(p12::listing(&file).as_bytes())?;
-    let table = p12::read(&file);
-    if let Ok(table) = &table {
-        out.write_all(pairs(&file, table).as_bytes())?;
+    let accepted = p12::read(&file).is_ok();
+    if accepted {
+        out.write_all(p12::pair_lines(&file).as_bytes())?;
     }
-    Ok(table.is_ok())
+    Ok(accepted)
 }
 
 fn main() -> ExitCode {

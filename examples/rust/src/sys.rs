@@ -19,6 +19,7 @@ extern "C" {
     fn p12_element(bytes: *const u8, length: usize, values_start: u32, values_end: u32, i: usize, start: *mut usize, end: *mut usize) -> usize;
     fn p12_certificate_for(table: *const u32, words: usize, bytes: *const u8, length: usize, key: usize, bag: *mut usize) -> u8;
     fn p12_list(file: *const u8, length: usize, out: *mut u8, capacity: usize, written: *mut usize) -> u8;
+    fn p12_pairs(file: *const u8, length: usize, out: *mut u8, capacity: usize, written: *mut usize) -> u8;
 }
 
 fn words(table: &Table) -> *const u32 {
@@ -80,5 +81,13 @@ pub fn list(file: &[u8], out: &mut [u8]) -> (u8, usize) {
     let mut written = 0;
     // SAFETY: the module's head.
     let number = unsafe { p12_list(file.as_ptr(), file.len(), out.as_mut_ptr(), out.len(), &mut written) };
+    (number, written)
+}
+
+/// The number and the length written.
+pub fn pairs(file: &[u8], out: &mut [u8]) -> (u8, usize) {
+    let mut written = 0;
+    // SAFETY: the module's head.
+    let number = unsafe { p12_pairs(file.as_ptr(), file.len(), out.as_mut_ptr(), out.len(), &mut written) };
     (number, written)
 }

@@ -78,6 +78,13 @@ fn lists_m() {
 }
 
 #[test]
+fn pairs_keys() {
+    assert_eq!(p12::pair_lines(&M), "");
+    assert_eq!(p12::pair_lines(&M[..46]), "refused 1 at 0\n");
+    assert_eq!(p12::pair_lines(&with_key()), "key bag 0: refused 13\n");
+}
+
+#[test]
 fn reads_a_key() {
     let file = with_key();
     let table = p12::read(&file).unwrap();
@@ -133,6 +140,18 @@ fn refused_listing_leaves_the_room() {
     out.push(0xEE);
     assert_eq!(p12::list(&M, &mut out), Ok(LISTING.len()));
     assert_eq!(out, LISTING.as_bytes());
+}
+
+#[test]
+fn refused_pairs_leave_the_buffer() {
+    let (file, due) = (with_key(), "key bag 0: refused 13\n");
+    let mut out = vec![0xEE; due.len() - 1];
+    assert_eq!(p12::pairs(&file, &mut out), refusal(Number::NoRoom, 0));
+    assert!(out.iter().all(|byte| *byte == 0xEE));
+    out.push(0xEE);
+    assert_eq!(p12::pairs(&file, &mut out), Ok(due.len()));
+    assert_eq!(out, due.as_bytes());
+    assert_eq!(p12::pairs(&M, &mut []), Ok(0));
 }
 
 #[test]

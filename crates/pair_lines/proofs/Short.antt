@@ -1,0 +1,63 @@
+-- No text is long: a bound for a line, and for the whole.
+use mathlib.Core.Bool.{Bool, true, false}
+use mathlib.Core.List.{List, []}
+use Prim.Native.Nat.{ℕ, _*_, _≤_}
+use native.Mathlib.Omega.{arith}
+use lib.ListN.{length, getD}
+use Rattle.der.specs.Choice.{if_then_else_}
+use Rattle.pkcs12.specs.Numbers.{bagRows}
+use Rattle.pkcs12.specs.Table.{noBag}
+use Rattle.pkcs12.specs.declared.Answer.{Answer}
+use Rattle.pkcs12.specs.declared.Answer.the-variants.{Accepted}
+use Rattle.pkcs12.specs.declared.BagKind.{BagKind}
+use Rattle.pkcs12.specs.declared.Reading.{Reading}
+use Rattle.pkcs12.specs.declared.Table.{Table}
+use Rattle.listing.specs.Text.{ascii}
+use Rattle.listing.specs.Lines.{bags}
+use Rattle.listing.proofs.Short.{Short, word, within, _and_, number, lines, refused-line}
+use Rattle.pairing.specs.Pairs.{isKey}
+use Rattle.pairing.specs.declared.Paired.{Paired}
+use Rattle.pairing.specs.declared.Paired.the-variants.{Certificate}
+use Rattle.identities.specs.Identities.{certificateFor}
+use Rattle.pair_lines.specs.Lines.{answerText, pairLine, bagLine, bagAt, pairLines, answered, pairsText}
+
+-- the longest line, with any two numbers of 64 bits
+abbrev pub lineBytes : ℕ
+lineBytes = 67
+
+-- one for each bag row
+abbrev pub textBytes : ℕ
+textBytes = bagRows * lineBytes
+
+answer-text : (p : Paired) → Short 38 (answerText p)
+unfolding answerText ascii
+answer-text (Certificate row) = number (ascii ": certificate bag ") row
+answer-text (Paired.Refused f) = within 38 (omega arith) (number (ascii ": refused ") (f .number))
+
+pair-line : (i : ℕ) (p : Paired) → Short lineBytes (pairLine i p)
+unfolding pairLine ascii
+pair-line i p = within lineBytes (omega arith) (number (ascii "key bag ") i and answer-text p and word (ascii "\n"))
+
+bag-line : (kind : BagKind) (i : ℕ) (p : Paired) → Short lineBytes (bagLine kind i p)
+unfolding bagLine
+bag-line kind i p = go (isKey kind)
+  where
+    go : (u : Bool) → Short lineBytes (if u then pairLine i p else [])
+    go true = pair-line i p
+    go false = within lineBytes (omega arith) (word [])
+
+pair-lines : (t : Table) (s : List ℕ) → Short textBytes (pairLines t s)
+unfolding pairLines
+pair-lines t s =
+    within textBytes (omega arith)
+    (lines (bagAt t s) lineBytes (λ i. bag-line (getD (t .bags) i noBag .kind) i (certificateFor t s i)) (bags t))
+
+answered-short : (a : Answer) (t : Table) (s : List ℕ) → Short textBytes (answered a t s)
+unfolding answered
+answered-short Accepted t s = pair-lines t s
+answered-short (Answer.Refused f) t s = within textBytes (omega arith) (refused-line f)
+
+-- every text is within the bound
+pub short : (s : List ℕ) (r : Reading) → length (pairsText s r) ≤ textBytes
+unfolding pairsText
+short s r = answered-short (r .answer) (r .table) s .most

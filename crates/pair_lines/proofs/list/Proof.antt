@@ -1,0 +1,54 @@
+-- The text is made whole; then the refusal, or the text is written.
+use native.Mathlib.Omega.{arith}
+use Rattle.pair_lines.specs.Lines.{pairsText}
+use Rattle.pair_lines.proofs.Ways.{made-most, list-refused, list-wrote}
+use borrow.Author.Needs.{needs}
+use Rattle.pair_lines.proofs.list.Statement.{statement}
+use Rattle.pair_lines.proofs.list.Tie as tie
+
+slice-aggregate-answered : tie.Need-slice-aggregate-answered
+slice-aggregate-answered c = search needs
+
+answered-requires : tie.Need-answered-requires
+answered-requires c κs = search needs
+
+returns : tie.Need-returns
+unfolding pairsText
+returns c = list-refused _ _ _ _ _ (c .before .before .answered .ensures) _ (omega (arith, c .if1 .taken))
+
+sub-text : tie.Need-sub-text
+sub-text c = search needs
+
+part-text-start : tie.Need-part-text-start
+part-text-start c = search needs
+
+part-text-end : tie.Need-part-text-end
+unfolding pairsText
+part-text-end c = omega (arith, made-most _ _ _ _ _ (c .before .before .before .before .answered .ensures))
+
+text-requires : tie.Need-text-requires
+text-requires c κs = search needs
+
+same-length : tie.Need-same-length
+same-length c = search needs
+
+returns-2 : tie.Need-returns-2
+unfolding pairsText
+returns-2 c =
+    let a = c .before .before .before .before .before .before in
+    list-wrote _ _ _ _ _ (a .before .before .answered .ensures) _ (a .if1 .left) (omega arith) _ _
+    (c .before .before .text4 .ensures)
+
+pub list-spec : {M : Type 1} → statement M
+list-spec =
+    tie.close
+    (tie.spec
+    slice-aggregate-answered
+    answered-requires
+    returns
+    sub-text
+    part-text-start
+    part-text-end
+    text-requires
+    same-length
+    returns-2)
