@@ -1,4 +1,5 @@
 -- The laws of `der`, and the rules that close most needs of its functions.
+pub mod Promised
 pub mod Choices
 pub mod Octets
 pub mod Integers

@@ -6,6 +6,7 @@ pub mod Element
 pub mod Content
 pub mod Many
 pub mod Opaque
+pub mod Report
 pub mod Octets
 pub mod Tree
 pub mod Span

@@ -8,6 +8,8 @@ ghost use Rattle.der.specs.Numbers.{octetStringTag};
 ghost use Rattle.der.specs.Element.{wholeOf, noByteLeft, tagAt, finishAt, within, oneOctet, twoOctets, extentAt, elementAt, expectAt};
 ghost use Rattle.der.specs.Content.{breaks, identifierBody, identifierAt, integerBody, andDigit, integerValue, integerAt, IntegerAt};
 ghost use Rattle.der.specs.Opaque.{opaqueAt, elementsAt};
+ghost use Rattle.der.specs.Report.{elementReport, checkedReport, integerReport};
+ghost use Rattle.der.specs.Span.{Bytes};
 
 // The numbers of the refusals.
 pub const MISSING: u8 = 1;
@@ -307,6 +309,7 @@ impl Cursor {
     // A parent's body is at its end; what is left over is refused.
     pub fn finish(self) -> Checked
         ensures { λ r. ⌜ r ≡ finishAt self ⌝ }
+        ensures { λ r. ⌜ checkedReport r ≡ checkedReport (finishAt self) ⌝ }
     {
         let left = self.at;
         let end = self.end;
@@ -325,6 +328,8 @@ impl Cursor {
     // The next element, of any tag.
     pub fn element(self, s: &[u8]) -> Element
         ensures { λ r. ⌜ r ≡ elementAt (now (s .entry)) self ⌝ }
+        ensures { λ r. ⌜ elementReport r ≡ elementReport (elementAt (now (s .entry)) self) ⌝ }
+        ensures { λ _. ⌜ Bytes (now (s .entry)) ⌝ }
     {
         let at = self.at;
         let end = self.end;
@@ -365,6 +370,8 @@ impl Cursor {
     // The next element, with the tag that is due.
     pub fn expect(self, s: &[u8], due: u8) -> Element
         ensures { λ r. ⌜ r ≡ expectAt due (now (s .entry)) self ⌝ }
+        ensures { λ r. ⌜ elementReport r ≡ elementReport (expectAt due (now (s .entry)) self) ⌝ }
+        ensures { λ _. ⌜ Bytes (now (s .entry)) ⌝ }
     {
         let at = self.at;
         match self.element(s) {
@@ -384,6 +391,8 @@ impl Cursor {
     // The next element, an OCTET STRING.
     pub fn octet_string(self, s: &[u8]) -> Element
         ensures { λ r. ⌜ r ≡ expectAt octetStringTag (now (s .entry)) self ⌝ }
+        ensures { λ r. ⌜ elementReport r ≡ elementReport (expectAt octetStringTag (now (s .entry)) self) ⌝ }
+        ensures { λ _. ⌜ Bytes (now (s .entry)) ⌝ }
     {
         self.expect(s, OCTET_STRING)
     }
@@ -391,6 +400,8 @@ impl Cursor {
     // The next element, an OBJECT IDENTIFIER.
     pub fn identifier(self, s: &[u8]) -> Element
         ensures { λ r. ⌜ r ≡ identifierAt (now (s .entry)) self ⌝ }
+        ensures { λ r. ⌜ elementReport r ≡ elementReport (identifierAt (now (s .entry)) self) ⌝ }
+        ensures { λ _. ⌜ Bytes (now (s .entry)) ⌝ }
     {
         let at = self.at;
         match self.expect(s, OBJECT_IDENTIFIER) {
@@ -412,6 +423,8 @@ impl Cursor {
     // The next element, an INTEGER, with its number.
     pub fn integer(self, s: &[u8]) -> Integer
         ensures { λ r. ⌜ r ≡ integerAt (now (s .entry)) self ⌝ }
+        ensures { λ r. ⌜ integerReport r ≡ integerReport (integerAt (now (s .entry)) self) ⌝ }
+        ensures { λ _. ⌜ Bytes (now (s .entry)) ⌝ }
     {
         let at = self.at;
         match self.expect(s, INTEGER) {
@@ -434,6 +447,8 @@ impl Cursor {
     // The next element, checked to the bottom, with `level` levels left.
     pub fn opaque(self, s: &[u8], level: u8) -> Checked
         ensures { λ r. ⌜ r ≡ opaqueAt level (now (s .entry)) self ⌝ }
+        ensures { λ r. ⌜ checkedReport r ≡ checkedReport (opaqueAt level (now (s .entry)) self) ⌝ }
+        ensures { λ _. ⌜ Bytes (now (s .entry)) ⌝ }
     {
         let at = self.at;
         match self.element(s) {
@@ -463,6 +478,8 @@ impl Cursor {
     // Zero or more elements up to the cursor's end, each checked to the bottom.
     pub fn elements(self, s: &[u8], level: u8) -> Checked
         ensures { λ r. ⌜ r ≡ elementsAt level (now (s .entry)) self ⌝ }
+        ensures { λ r. ⌜ checkedReport r ≡ checkedReport (elementsAt level (now (s .entry)) self) ⌝ }
+        ensures { λ _. ⌜ Bytes (now (s .entry)) ⌝ }
     {
         let end = self.end;
         let mut at = self.at;

@@ -6,6 +6,8 @@ use Rattle.der.specs.Element.{cursor}
 use Rattle.der.specs.Opaque.{run, elementsAt}
 use Rattle.der.proofs.Choices.{choices}
 use Rattle.der.proofs.Opaque.{Running, running-start, running-end, running-refused, running-on, step-falls, step-long, step-fits, run-fits, opaque-step}
+use Rattle.der.proofs.Promised.{promised, all-bytes}
+use Rattle.der.specs.Report.{checkedReport}
 use borrow.Fn.Kinds.{In}
 use borrow.Fn.PlainCycle.{Measures, is, falls, and}
 use Rattle.der.proofs.Cursor.elements.Reads as elements
@@ -61,7 +63,7 @@ elements-enum-known-f t c = search needs
 
 elements-returns : (t : ℕ) → elements-lts.Need-returns (in-elements t) (elements-at t) elements.Post elements-Inv-loop elements-μ-loop
 unfolding elementsAt run
-elements-returns t c = search running-refused
+elements-returns t c = promised checkedReport (search running-refused) (search all-bytes)
 
 elements-enum-known-more : (t : ℕ) → elements-lts.Need-enum-known-more (in-elements t) (elements-at t) elements.Post elements-Inv-loop elements-μ-loop
 elements-enum-known-more t c = search needs
@@ -77,7 +79,7 @@ elements-loop-again t c = (search running-on, search step-long)
 
 elements-returns-2 : (t : ℕ) → elements-lts.Need-returns-2 (in-elements t) (elements-at t) elements.Post elements-Inv-loop elements-μ-loop
 unfolding elementsAt run
-elements-returns-2 t c = search running-end
+elements-returns-2 t c = promised checkedReport (search running-end) (search all-bytes)
 
 opaque-element-requires : (t : ℕ) → opaque-lts.Need-element-requires (in-opaque t) (opaque-at t) opaque.Post
 opaque-element-requires t c κs = search needs
@@ -89,10 +91,10 @@ opaque-enum-known-tag : (t : ℕ) → opaque-lts.Need-enum-known-tag (in-opaque 
 opaque-enum-known-tag t c = search needs
 
 opaque-returns : (t : ℕ) → opaque-lts.Need-returns (in-opaque t) (opaque-at t) opaque.Post
-opaque-returns t c = search (opaque-step, choices) depth 14
+opaque-returns t c = promised checkedReport (search (opaque-step, choices) depth 14) (search all-bytes)
 
 opaque-returns-2 : (t : ℕ) → opaque-lts.Need-returns-2 (in-opaque t) (opaque-at t) opaque.Post
-opaque-returns-2 t c = search (opaque-step, choices) depth 14
+opaque-returns-2 t c = promised checkedReport (search (opaque-step, choices) depth 14) (search all-bytes)
 
 opaque-sub-below : (t : ℕ) → opaque-lts.Need-sub-below (in-opaque t) (opaque-at t) opaque.Post
 opaque-sub-below t c = omega arith
@@ -110,13 +112,13 @@ opaque-add-more : (t : ℕ) → opaque-lts.Need-add-more (in-opaque t) (opaque-a
 opaque-add-more t c = search run-fits
 
 opaque-returns-3 : (t : ℕ) → opaque-lts.Need-returns-3 (in-opaque t) (opaque-at t) opaque.Post
-opaque-returns-3 t c = search (opaque-step, choices) depth 14
+opaque-returns-3 t c = promised checkedReport (search (opaque-step, choices) depth 14) (search all-bytes)
 
 opaque-returns-4 : (t : ℕ) → opaque-lts.Need-returns-4 (in-opaque t) (opaque-at t) opaque.Post
-opaque-returns-4 t c = search (opaque-step, choices) depth 14
+opaque-returns-4 t c = promised checkedReport (search (opaque-step, choices) depth 14) (search all-bytes)
 
 opaque-returns-5 : (t : ℕ) → opaque-lts.Need-returns-5 (in-opaque t) (opaque-at t) opaque.Post
-opaque-returns-5 t c = search (opaque-step, choices) depth 14
+opaque-returns-5 t c = promised checkedReport (search (opaque-step, choices) depth 14) (search all-bytes)
 
 pub +elements+opaque-spec : {M : Type 1} → statement M
 +elements+opaque-spec =

@@ -2,6 +2,8 @@
 use native.Mathlib.Omega.{arith}
 use Rattle.der.proofs.Choices.{choices, told-true, told-false}
 use Rattle.der.proofs.Placed.{left-within}
+use Rattle.der.proofs.Promised.{promised, all-bytes}
+use Rattle.der.specs.Report.{elementReport}
 use Rattle.der.specs.Element.{elementAt}
 use borrow.Author.Needs.{needs}
 use Rattle.der.proofs.Cursor.element.Statement.{statement}
@@ -12,18 +14,18 @@ no-byte-left-requires c κs = search needs
 
 returns : tie.Need-returns
 unfolding elementAt
-returns c = search (choices, told-true) depth 14
+returns c = promised elementReport (search (choices, told-true) depth 14) (search all-bytes)
 
 shared-slice-read-tag : tie.Need-shared-slice-read-tag
 shared-slice-read-tag c = omega (arith, left-within _ (c .before .before .before .before .args .self) _ (c .before .before .no-byte-left .ensures) (c .before .if1 .left))
 
 returns-2 : tie.Need-returns-2
 unfolding elementAt
-returns-2 c = search (choices, told-false) depth 14
+returns-2 c = promised elementReport (search (choices, told-false) depth 14) (search all-bytes)
 
 returns-3 : tie.Need-returns-3
 unfolding elementAt
-returns-3 c = search (choices, told-false) depth 14
+returns-3 c = promised elementReport (search (choices, told-false) depth 14) (search all-bytes)
 
 body-of-requires : tie.Need-body-of-requires
 body-of-requires c κs = omega (arith, left-within _ (c .before .before .before .before .before .before .args .self) _ (c .before .before .before .before .no-byte-left .ensures) (c .before .before .before .if1 .left))
@@ -36,11 +38,11 @@ enum-known-body c = search needs
 
 returns-4 : tie.Need-returns-4
 unfolding elementAt
-returns-4 c = search (choices, told-false) depth 14
+returns-4 c = promised elementReport (search (choices, told-false) depth 14) (search all-bytes)
 
 returns-5 : tie.Need-returns-5
 unfolding elementAt
-returns-5 c = search (choices, told-false) depth 14
+returns-5 c = promised elementReport (search (choices, told-false) depth 14) (search all-bytes)
 
 pub element-spec : {M : Type 1} → statement M
 element-spec =

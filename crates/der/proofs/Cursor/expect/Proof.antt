@@ -1,5 +1,7 @@
 -- The tag that is due is compared once the element was found.
 use Rattle.der.proofs.Choices.{choices}
+use Rattle.der.proofs.Promised.{promised, all-bytes}
+use Rattle.der.specs.Report.{elementReport}
 use Rattle.der.specs.Element.{expectAt}
 use borrow.Author.Needs.{needs}
 use Rattle.der.proofs.Cursor.expect.Statement.{statement}
@@ -16,15 +18,15 @@ enum-known-tag c = search needs
 
 returns : tie.Need-returns
 unfolding expectAt
-returns c = search choices depth 14
+returns c = promised elementReport (search choices depth 14) (search all-bytes)
 
 returns-2 : tie.Need-returns-2
 unfolding expectAt
-returns-2 c = search choices depth 14
+returns-2 c = promised elementReport (search choices depth 14) (search all-bytes)
 
 returns-3 : tie.Need-returns-3
 unfolding expectAt
-returns-3 c = search choices depth 14
+returns-3 c = promised elementReport (search choices depth 14) (search all-bytes)
 
 pub expect-spec : {M : Type 1} → statement M
 expect-spec =

@@ -1,6 +1,8 @@
 -- The body is judged once the element was found; it lies within the bytes.
 use Rattle.der.proofs.Choices.{choices, told-true, told-false}
 use Rattle.der.proofs.Placed.{expected-inside}
+use Rattle.der.proofs.Promised.{promised, all-bytes}
+use Rattle.der.specs.Report.{elementReport}
 use Rattle.der.specs.Content.{identifierAt}
 use borrow.Author.Needs.{needs}
 use Rattle.der.proofs.Cursor.identifier.Statement.{statement}
@@ -20,15 +22,15 @@ is-identifier-requires c κs = search expected-inside
 
 returns : tie.Need-returns
 unfolding identifierAt
-returns c = search (choices, told-true) depth 14
+returns c = promised elementReport (search (choices, told-true) depth 14) (search all-bytes)
 
 returns-2 : tie.Need-returns-2
 unfolding identifierAt
-returns-2 c = search choices depth 14
+returns-2 c = promised elementReport (search choices depth 14) (search all-bytes)
 
 returns-3 : tie.Need-returns-3
 unfolding identifierAt
-returns-3 c = search (choices, told-false) depth 14
+returns-3 c = promised elementReport (search (choices, told-false) depth 14) (search all-bytes)
 
 pub identifier-spec : {M : Type 1} → statement M
 identifier-spec =

@@ -2,6 +2,8 @@
 use Rattle.der.proofs.Choices.{choices, told-true, told-false}
 use Rattle.der.proofs.Placed.{expected-inside}
 use Rattle.der.proofs.Content.{integer-at}
+use Rattle.der.proofs.Promised.{promised, all-bytes}
+use Rattle.der.specs.Report.{integerReport}
 use Rattle.der.specs.Content.{integerAt}
 use borrow.Author.Needs.{needs}
 use Rattle.der.proofs.Cursor.integer.Statement.{statement}
@@ -24,15 +26,15 @@ integer-value-requires c κs = search (integer-at, expected-inside)
 
 returns : tie.Need-returns
 unfolding integerAt
-returns c = search (choices, told-true) depth 14
+returns c = promised integerReport (search (choices, told-true) depth 14) (search all-bytes)
 
 returns-2 : tie.Need-returns-2
 unfolding integerAt
-returns-2 c = search choices depth 14
+returns-2 c = promised integerReport (search choices depth 14) (search all-bytes)
 
 returns-3 : tie.Need-returns-3
 unfolding integerAt
-returns-3 c = search (choices, told-false) depth 14
+returns-3 c = promised integerReport (search (choices, told-false) depth 14) (search all-bytes)
 
 pub integer-spec : {M : Type 1} → statement M
 integer-spec =
