@@ -8,6 +8,7 @@ pub mod Valid
 pub mod Elements
 pub mod Values
 pub mod Table
+pub mod Report
 pub mod Walk
 pub mod Laid
 pub mod Accepted

@@ -5,6 +5,7 @@ ghost use Prim.Native.Nat.{min};
 ghost use Rattle.pkcs12.specs.Identifiers.{sameBytes, kindOf};
 ghost use Rattle.pkcs12.specs.Table.{bytesIn, emptyTable};
 ghost use Rattle.pkcs12.specs.Checks.{lies};
+ghost use Rattle.pkcs12.specs.Report.{kindReport};
 use der::Cursor;
 use der::Fault;
 
@@ -226,6 +227,7 @@ impl BagKind {
     // The kind that a bagId's body names, `None` if it names no kind.
     pub fn of(body: &[u8]) -> BagKind
         ensures { λ r. ⌜ r ≡ kindOf (now (body .entry)) ⌝ }
+        ensures { λ r. ⌜ kindReport r ≡ kindReport (kindOf (now (body .entry))) ⌝ }
     {
         if same(body, &BagKind::KEY) {
             return BagKind::Key;

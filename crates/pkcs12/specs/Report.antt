@@ -1,0 +1,62 @@
+-- What each case of an answer reports: "Where an answer is an enum, a definition gives this paper's number and values
+-- for each of the enum's cases." `Report` is that of `der`.
+use mathlib.Core.List.{List, [], _∷_, _++_}
+use Prim.Native.Nat.{ℕ}
+use Rattle.der.specs.Element.{fault}
+use Rattle.der.specs.Report.{Report, passing, refusing}
+use Rattle.der.specs.declared.Cursor.{Cursor}
+use Rattle.pkcs12.specs.declared.Range.{Range}
+use Rattle.pkcs12.specs.declared.Parts.{Parts}
+use Rattle.pkcs12.specs.declared.BagKind.{BagKind}
+use Rattle.pkcs12.specs.declared.BagKind.the-variants.{Key, ShroudedKey, Certificate, Crl, Secret, Nested}
+use Rattle.pkcs12.specs.declared.Mac.{Mac}
+use Rattle.pkcs12.specs.declared.Answer.{Answer}
+use Rattle.pkcs12.specs.declared.Answer.the-variants.{Accepted}
+use Rattle.pkcs12.specs.declared.Written.{Written}
+use Rattle.pkcs12.specs.declared.Written.the-variants.{Length}
+use Rattle.pkcs12.specs.declared.PartsAt.{PartsAt}
+use Rattle.pkcs12.specs.declared.MacAt.{MacAt}
+
+-- reading: an accepted file's values are in its table
+unfoldable pub answerReport : Answer → Report
+answerReport Accepted = passing []
+answerReport (Answer.Refused f) = refusing f
+
+-- writing: "its length is returned"
+unfoldable pub writtenReport : Written → Report
+writtenReport (Length n) = passing (n ∷ [])
+writtenReport (Written.Refused f) = refusing f
+
+-- "01 key", "02 shrouded key", "03 certificate, 04 CRL, 05 secret", "06 nested"; "well-formed bagId of another kind" is 7,
+-- here at 0: the bytes of a bagId alone don't say where it stands in a file
+unfoldable pub kindReport : BagKind → Report
+kindReport Key = passing (1 ∷ [])
+kindReport ShroudedKey = passing (2 ∷ [])
+kindReport Certificate = passing (3 ∷ [])
+kindReport Crl = passing (4 ∷ [])
+kindReport Secret = passing (5 ∷ [])
+kindReport Nested = passing (6 ∷ [])
+kindReport BagKind.None = refusing (fault 7 0)
+
+-- a range, a cursor: from and to
+abbrev pub rangeValues : Range → List ℕ
+rangeValues r = r .start ∷ r .end ∷ []
+
+abbrev pub cursorValues : Cursor → List ℕ
+cursorValues c = c .at ∷ c .end ∷ []
+
+abbrev pub partsValues : Parts → List ℕ
+partsValues p = rangeValues (p .identifier) ++ (rangeValues (p .parameters) ++ rangeValues (p .value))
+
+-- parts of a file: their ranges, the number of elements, what follows them
+unfoldable pub partsReport : PartsAt → Report
+partsReport (PartsAt.Found p m n) = passing (partsValues p ++ (m ∷ cursorValues n))
+partsReport (PartsAt.Refused f) = refusing f
+
+-- "the MAC algorithm, parameters, digest, salt and iterations"; the number of elements, what follows them
+abbrev pub macValues : Mac → List ℕ
+macValues m = partsValues (m .parts) ++ (rangeValues (m .salt) ++ (m .iterations ∷ []))
+
+unfoldable pub macReport : MacAt → Report
+macReport (MacAt.Found x m n) = passing (macValues x ++ (m ∷ cursorValues n))
+macReport (MacAt.Refused f) = refusing f
