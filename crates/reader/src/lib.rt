@@ -1,5 +1,7 @@
 // Reads a PKCS #12 file into a table. `read` answers any bytes; `mac_input` gives the part of the file that the MAC is computed over.
 ghost use mathlib.Core.Path.{_≡_};
+ghost use Rattle.der.specs.Span.{Bytes};
+ghost use Rattle.pkcs12.specs.Report.{answerReport};
 ghost use Rattle.pkcs12.specs.Table.{bytesIn};
 ghost use Rattle.pkcs12.specs.Walk.{refused, readFile};
 
@@ -37,6 +39,8 @@ fn refused(fault: Fault) -> Reading
 // The answer for a file, and its table.
 pub fn read(file: &[u8]) -> Reading
     ensures { λ r. ⌜ r ≡ readFile (now (file .entry)) ⌝ }
+    ensures { λ r. ⌜ answerReport (r .answer) ≡ answerReport (readFile (now (file .entry)) .answer) ⌝ }
+    ensures { λ _. ⌜ Bytes (now (file .entry)) ⌝ }
 {
     let none: Reading;
     if pkcs12::FILE_BYTES < file.len() {
@@ -87,6 +91,7 @@ pub fn read(file: &[u8]) -> Reading
 // The unit's MAC input, that part of the caller's own buffer; empty for a refused file's table.
 pub fn mac_input(file: &[u8], table: Table) -> &[u8]
     ensures { λ r. ⌜ now r ≡ bytesIn (now (file .entry)) (table .«mac_input») ⌝ }
+    ensures { λ _. ⌜ Bytes (now (file .entry)) ⌝ }
 {
     let range = table.mac_input;
     range.part(file)

@@ -1,5 +1,7 @@
 -- Each way out is the definition's (Whole), by what the callees gave.
 use borrow.Author.Needs.{needs}
+use Rattle.der.proofs.Promised.{promised, all-bytes}
+use Rattle.pkcs12.specs.Report.{answerReport}
 use Rattle.reader.proofs.Whole.{read-long, read-refused, input-from, input-to, close-refused, close-fits, close-found}
 use Rattle.reader.proofs.read.Statement.{statement}
 use Rattle.reader.proofs.read.Tie as tie
@@ -8,7 +10,8 @@ refused-requires : tie.Need-refused-requires
 refused-requires c κs = search needs
 
 returns : tie.Need-returns
-returns c = read-long _ _ (c .before .if1 .taken) (c .refused .ensures)
+returns c =
+    promised (λ r. answerReport (r .answer)) (read-long _ _ (c .before .if1 .taken) (c .refused .ensures)) (search all-bytes)
 
 over-requires : tie.Need-over-requires
 over-requires c κs = search needs
@@ -23,7 +26,11 @@ refused-requires-2 : tie.Need-refused-requires-2
 refused-requires-2 c κs = search needs
 
 returns-2 : tie.Need-returns-2
-returns-2 c = read-refused _ (c .before .before .before .before .before .before .if1 .left) _ (c .before .before .before .before .before .over .ensures) _ (c .before .before .before .before .«open» .ensures) _ _ (c .before .before .f .given .1) (c .refused2 .ensures)
+returns-2 c =
+    let o = c .before .before .before .before in
+    promised (λ r. answerReport (r .answer))
+    (read-refused _ (o .before .before .if1 .left) _ (o .before .over .ensures) _ (o .«open» .ensures) _ _ (c .before .before .f .given .1) (c .refused2 .ensures))
+    (search all-bytes)
 
 enum-known-input : tie.Need-enum-known-input
 enum-known-input c = search needs
@@ -41,7 +48,14 @@ refused-requires-3 : tie.Need-refused-requires-3
 refused-requires-3 c κs = search needs
 
 returns-3 : tie.Need-returns-3
-returns-3 c = close-refused _ (c .before .before .before .before .before .before .before .before .before .before .before .if1 .left) _ (c .before .before .before .before .before .before .before .before .before .before .over .ensures) _ (c .before .before .before .before .before .before .before .before .before .«open» .ensures) _ _ _ _ _ _ _ (c .before .before .before .before .before .before .before .input .given .1) _ (c .before .before .before .before .before .safes .ensures) _ (c .before .before .before .before .close .ensures) _ _ (c .before .before .f2 .given .1) (c .refused3 .ensures)
+returns-3 c =
+    let k = c .before .before .before .before in
+    let o = k .before .before .before .before .before in
+    promised (λ r. answerReport (r .answer))
+    (close-refused _ (o .before .before .if1 .left) _ (o .before .over .ensures) _ (o .«open» .ensures) _ _ _ _ _ _ _
+    (k .before .before .before .input .given .1) _ (k .before .safes .ensures) _ (k .close .ensures) _ _
+    (c .before .before .f2 .given .1) (c .refused3 .ensures))
+    (search (all-bytes, o .before .before .before .shared-slice-known .given))
 
 enum-known-fields : tie.Need-enum-known-fields
 enum-known-fields c = search needs
@@ -50,7 +64,14 @@ add-elements : tie.Need-add-elements
 add-elements c = close-fits _ (c .before .before .before .before .before .before .before .before .before .before .before .before .if1 .left) _ (c .before .before .before .before .before .before .before .before .before .before .before .over .ensures) _ (c .before .before .before .before .before .before .before .before .before .before .«open» .ensures) _ _ _ _ _ _ _ (c .before .before .before .before .before .before .before .before .input .given .1) _ (c .before .before .before .before .before .before .safes .ensures) _ (c .before .before .before .before .before .close .ensures) _ _ _ (c .before .before .before .fields .given .1)
 
 returns-4 : tie.Need-returns-4
-returns-4 c = close-found _ (c .before .before .before .before .before .before .before .before .before .before .before .before .if1 .left) _ (c .before .before .before .before .before .before .before .before .before .before .before .over .ensures) _ (c .before .before .before .before .before .before .before .before .before .before .«open» .ensures) _ _ _ _ _ _ _ (c .before .before .before .before .before .before .before .before .input .given .1) _ (c .before .before .before .before .before .before .safes .ensures) _ (c .before .before .before .before .before .close .ensures) _ _ _ (c .before .before .before .fields .given .1)
+returns-4 c =
+    let k = c .before .before .before .before .before in
+    let o = k .before .before .before .before .before in
+    promised (λ r. answerReport (r .answer))
+    (close-found _ (o .before .before .if1 .left) _ (o .before .over .ensures) _ (o .«open» .ensures) _ _ _ _ _ _ _
+    (k .before .before .before .input .given .1) _ (k .before .safes .ensures) _ (k .close .ensures) _ _ _
+    (c .before .before .before .fields .given .1))
+    (search (all-bytes, o .before .before .before .shared-slice-known .given))
 
 pub read-spec : {M : Type 1} → statement M
 read-spec =

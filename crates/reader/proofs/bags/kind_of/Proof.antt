@@ -17,7 +17,7 @@ of-requires : tie.Need-of-requires
 of-requires c κs = search needs
 
 returns : tie.Need-returns
-returns c = rw (← part-slice _ _ _) (c .of .ensures)
+returns c = rw (← part-slice _ _ _) (c .of .ensures .0)
 
 pub kind-of-spec : {M : Type 1} → statement M
 kind-of-spec = tie.close (tie.spec sub-of part-of-start part-of-end of-requires returns)

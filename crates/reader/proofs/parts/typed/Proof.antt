@@ -1,6 +1,6 @@
 -- Each way out is the definition's, by the tests and answers on the way; places have room in a range.
 use borrow.Author.Needs.{needs}
-use Rattle.der.proofs.Choices.{choices}
+use Rattle.der.proofs.Choices.{choices, element-found}
 use Rattle.reader.proofs.Rules.{rooms, typed-step, typed-given}
 use Rattle.reader.proofs.parts.typed.Statement.{statement}
 use Rattle.reader.proofs.parts.typed.Tie as tie
@@ -48,7 +48,15 @@ returns-3 : tie.Need-returns-3
 returns-3 c = typed-step _ _ _ _ (search (choices, typed-given) depth 14)
 
 returns-4 : tie.Need-returns-4
-returns-4 c = typed-step _ _ _ _ (search (choices, typed-given) depth 14)
+returns-4 c =
+    let v = c .before .before .before in
+    let i = v .before .before .before .before in
+    let b = i .before .before .before .before in
+    typed-step _ _ _ _
+    (element-found _ _ _ _ _ _ _ _ (b .before .before .expect .ensures .0) (b .body .given .1)
+    (element-found _ _ _ _ _ _ _ _ (i .before .before .identifier .ensures .0) (i .i .given .1)
+    (element-found _ _ _ _ _ _ _ _ (v .before .before .expect2 .ensures .0) (v .v .given .1)
+    (search (choices, typed-given) depth 14))))
 
 pub typed-spec : {M : Type 1} → statement M
 typed-spec =

@@ -152,7 +152,7 @@ safe-contents-refused-requires : (t : ℕ) → safe-contents-lts.Need-refused-re
 safe-contents-refused-requires t c κs = search needs
 
 safe-contents-returns : (t : ℕ) → safe-contents-lts.Need-returns (in-safe-contents t) (safe-contents-at t) safe-contents.Post safe-contents-Inv-loop safe-contents-μ-loop
-safe-contents-returns t c = contents-refused _ (c .before .before .before .before .before .before .args .level) (c .before .before .before .before .before .before .args .safe) (c .before .before .before .before .before .before .args .enclosing) _ _ (c .before .before .before .before .before .before .pre .1) _ (c .before .before .before .before .expect .ensures) _ _ (c .before .before .f .given .1) (c .refused .ensures)
+safe-contents-returns t c = contents-refused _ (c .before .before .before .before .before .before .args .level) (c .before .before .before .before .before .before .args .safe) (c .before .before .before .before .before .before .args .enclosing) _ _ (c .before .before .before .before .before .before .pre .1) _ (c .before .before .before .before .expect .ensures .0) _ _ (c .before .before .f .given .1) (c .refused .ensures)
 
 safe-contents-enum-known-body : (t : ℕ) → safe-contents-lts.Need-enum-known-body (in-safe-contents t) (safe-contents-at t) safe-contents.Post safe-contents-Inv-loop safe-contents-μ-loop
 safe-contents-enum-known-body t c = search needs
@@ -161,16 +161,16 @@ safe-contents-refused-requires-2 : (t : ℕ) → safe-contents-lts.Need-refused-
 safe-contents-refused-requires-2 t c κs = search needs
 
 safe-contents-returns-2 : (t : ℕ) → safe-contents-lts.Need-returns-2 (in-safe-contents t) (safe-contents-at t) safe-contents.Post safe-contents-Inv-loop safe-contents-μ-loop
-safe-contents-returns-2 t c = contents-deep _ (c .before .before .before .before .before .before .before .args .level) (c .before .before .before .before .before .before .before .args .safe) (c .before .before .before .before .before .before .before .args .enclosing) _ _ (c .before .before .before .before .before .before .before .pre .1) _ (c .before .before .before .before .before .expect .ensures) _ _ _ (c .before .before .before .body .given .1) _ (c .before .if1 .taken) (c .refused2 .ensures)
+safe-contents-returns-2 t c = contents-deep _ (c .before .before .before .before .before .before .before .args .level) (c .before .before .before .before .before .before .before .args .safe) (c .before .before .before .before .before .before .before .args .enclosing) _ _ (c .before .before .before .before .before .before .before .pre .1) _ (c .before .before .before .before .before .expect .ensures .0) _ _ _ (c .before .before .before .body .given .1) _ (c .before .if1 .taken) (c .refused2 .ensures)
 
 safe-contents-sub-below : (t : ℕ) → safe-contents-lts.Need-sub-below (in-safe-contents t) (safe-contents-at t) safe-contents.Post safe-contents-Inv-loop safe-contents-μ-loop
 safe-contents-sub-below t c = search needs
 
 safe-contents-add-first : (t : ℕ) → safe-contents-lts.Need-add-first (in-safe-contents t) (safe-contents-at t) safe-contents.Post safe-contents-Inv-loop safe-contents-μ-loop
-safe-contents-add-first t c = contents-fits _ (c .before .before .before .before .before .before .before .args .level) (c .before .before .before .before .before .before .before .args .safe) (c .before .before .before .before .before .before .before .args .enclosing) _ _ (c .before .before .before .before .before .before .before .pre .1) _ (c .before .before .before .before .before .expect .ensures) _ _ _ (c .before .before .before .body .given .1)
+safe-contents-add-first t c = contents-fits _ (c .before .before .before .before .before .before .before .args .level) (c .before .before .before .before .before .before .before .args .safe) (c .before .before .before .before .before .before .before .args .enclosing) _ _ (c .before .before .before .before .before .before .before .pre .1) _ (c .before .before .before .before .before .expect .ensures .0) _ _ _ (c .before .before .before .body .given .1)
 
 safe-contents-loop-holds : (t : ℕ) → safe-contents-lts.Need-loop-holds (in-safe-contents t) (safe-contents-at t) safe-contents.Post safe-contents-Inv-loop safe-contents-μ-loop
-safe-contents-loop-holds t c = (refl, contents-start _ (c .before .before .before .before .before .before .before .before .args .level) (c .before .before .before .before .before .before .before .before .args .safe) (c .before .before .before .before .before .before .before .before .args .enclosing) _ _ (c .before .before .before .before .before .before .before .before .pre .1) _ (c .before .before .before .before .before .before .expect .ensures) _ _ _ (c .before .before .before .before .body .given .1) (c .before .before .if1 .left))
+safe-contents-loop-holds t c = (refl, contents-start _ (c .before .before .before .before .before .before .before .before .args .level) (c .before .before .before .before .before .before .before .before .args .safe) (c .before .before .before .before .before .before .before .before .args .enclosing) _ _ (c .before .before .before .before .before .before .before .before .pre .1) _ (c .before .before .before .before .before .before .expect .ensures .0) _ _ _ (c .before .before .before .before .body .given .1) (c .before .before .if1 .left))
 
 safe-contents-bag-requires : (t : ℕ) → safe-contents-lts.Need-bag-requires (in-safe-contents t) (safe-contents-at t) safe-contents.Post safe-contents-Inv-loop safe-contents-μ-loop
 safe-contents-bag-requires t c κs = (omega (arith, c .before .before .before .before .before .before .before .before .before .before .pre .0, c .before .before .before .before .if1 .left), c .before .loop .inv .1 .ready)
@@ -179,19 +179,19 @@ safe-contents-enum-told : (t : ℕ) → safe-contents-lts.Need-enum-told (in-saf
 safe-contents-enum-told t c = search needs
 
 safe-contents-returns-3 : (t : ℕ) → safe-contents-lts.Need-returns-3 (in-safe-contents t) (safe-contents-at t) safe-contents.Post safe-contents-Inv-loop safe-contents-μ-loop
-safe-contents-returns-3 t c = bag-stops _ (c .before .before .before .before .before .before .before .before .before .before .before .before .before .args .level) (c .before .before .before .before .before .before .before .before .before .before .before .before .before .args .safe) (c .before .before .before .before .before .before .before .before .before .before .before .before .before .args .enclosing) _ _ (c .before .before .before .before .before .before .before .before .before .before .before .before .before .pre .1) _ (c .before .before .before .before .before .before .before .before .before .before .before .expect .ensures) _ _ _ (c .before .before .before .before .before .before .before .before .before .body .given .1) (c .before .before .before .before .before .before .before .if1 .left) _ _ (c .before .before .before .before .loop .inv .1) _ (c .before .before .before .loop-test .taken) (c .before .before .bag .ensures) _ (c .enum-told .given .1)
+safe-contents-returns-3 t c = bag-stops _ (c .before .before .before .before .before .before .before .before .before .before .before .before .before .args .level) (c .before .before .before .before .before .before .before .before .before .before .before .before .before .args .safe) (c .before .before .before .before .before .before .before .before .before .before .before .before .before .args .enclosing) _ _ (c .before .before .before .before .before .before .before .before .before .before .before .before .before .pre .1) _ (c .before .before .before .before .before .before .before .before .before .before .before .expect .ensures .0) _ _ _ (c .before .before .before .before .before .before .before .before .before .body .given .1) (c .before .before .before .before .before .before .before .if1 .left) _ _ (c .before .before .before .before .loop .inv .1) _ (c .before .before .before .loop-test .taken) (c .before .before .bag .ensures) _ (c .enum-told .given .1)
 
 safe-contents-enum-told-2 : (t : ℕ) → safe-contents-lts.Need-enum-told-2 (in-safe-contents t) (safe-contents-at t) safe-contents.Post safe-contents-Inv-loop safe-contents-μ-loop
 safe-contents-enum-told-2 t c = search needs
 
 safe-contents-loop-less : (t : ℕ) → safe-contents-lts.Need-loop-less (in-safe-contents t) (safe-contents-at t) safe-contents.Post safe-contents-Inv-loop safe-contents-μ-loop
-safe-contents-loop-less t c = bag-less _ (c .before .before .before .before .before .before .before .before .before .before .before .before .before .before .args .level) (c .before .before .before .before .before .before .before .before .before .before .before .before .before .before .args .safe) (c .before .before .before .before .before .before .before .before .before .before .before .before .before .before .args .enclosing) _ _ (c .before .before .before .before .before .before .before .before .before .before .before .before .before .before .pre .1) _ (c .before .before .before .before .before .before .before .before .before .before .before .before .expect .ensures) _ _ _ (c .before .before .before .before .before .before .before .before .before .before .body .given .1) (c .before .before .before .before .before .before .before .before .if1 .left) _ _ (c .before .before .before .before .before .loop .inv .1) _ (c .before .before .before .before .loop-test .taken) (c .before .before .before .bag .ensures) (c .before .enum-told2 .given .1)
+safe-contents-loop-less t c = bag-less _ (c .before .before .before .before .before .before .before .before .before .before .before .before .before .before .args .level) (c .before .before .before .before .before .before .before .before .before .before .before .before .before .before .args .safe) (c .before .before .before .before .before .before .before .before .before .before .before .before .before .before .args .enclosing) _ _ (c .before .before .before .before .before .before .before .before .before .before .before .before .before .before .pre .1) _ (c .before .before .before .before .before .before .before .before .before .before .before .before .expect .ensures .0) _ _ _ (c .before .before .before .before .before .before .before .before .before .before .body .given .1) (c .before .before .before .before .before .before .before .before .if1 .left) _ _ (c .before .before .before .before .before .loop .inv .1) _ (c .before .before .before .before .loop-test .taken) (c .before .before .before .bag .ensures) (c .before .enum-told2 .given .1)
 
 safe-contents-loop-again : (t : ℕ) → safe-contents-lts.Need-loop-again (in-safe-contents t) (safe-contents-at t) safe-contents.Post safe-contents-Inv-loop safe-contents-μ-loop
-safe-contents-loop-again t c = (c .before .enum-told2 .given .1, bag-on _ (c .before .before .before .before .before .before .before .before .before .before .before .before .before .before .args .level) (c .before .before .before .before .before .before .before .before .before .before .before .before .before .before .args .safe) (c .before .before .before .before .before .before .before .before .before .before .before .before .before .before .args .enclosing) _ _ (c .before .before .before .before .before .before .before .before .before .before .before .before .before .before .pre .1) _ (c .before .before .before .before .before .before .before .before .before .before .before .before .expect .ensures) _ _ _ (c .before .before .before .before .before .before .before .before .before .before .body .given .1) (c .before .before .before .before .before .before .before .before .if1 .left) _ _ (c .before .before .before .before .before .loop .inv .1) _ (c .before .before .before .before .loop-test .taken) (c .before .before .before .bag .ensures) (c .before .enum-told2 .given .1))
+safe-contents-loop-again t c = (c .before .enum-told2 .given .1, bag-on _ (c .before .before .before .before .before .before .before .before .before .before .before .before .before .before .args .level) (c .before .before .before .before .before .before .before .before .before .before .before .before .before .before .args .safe) (c .before .before .before .before .before .before .before .before .before .before .before .before .before .before .args .enclosing) _ _ (c .before .before .before .before .before .before .before .before .before .before .before .before .before .before .pre .1) _ (c .before .before .before .before .before .before .before .before .before .before .before .before .expect .ensures .0) _ _ _ (c .before .before .before .before .before .before .before .before .before .before .body .given .1) (c .before .before .before .before .before .before .before .before .if1 .left) _ _ (c .before .before .before .before .before .loop .inv .1) _ (c .before .before .before .before .loop-test .taken) (c .before .before .before .bag .ensures) (c .before .enum-told2 .given .1))
 
 safe-contents-returns-4 : (t : ℕ) → safe-contents-lts.Need-returns-4 (in-safe-contents t) (safe-contents-at t) safe-contents.Post safe-contents-Inv-loop safe-contents-μ-loop
-safe-contents-returns-4 t c = contents-end _ (c .before .before .before .before .before .before .before .before .before .before .args .level) (c .before .before .before .before .before .before .before .before .before .before .args .safe) (c .before .before .before .before .before .before .before .before .before .before .args .enclosing) _ _ (c .before .before .before .before .before .before .before .before .before .before .pre .1) _ (c .before .before .before .before .before .before .before .before .expect .ensures) _ _ _ (c .before .before .before .before .before .before .body .given .1) (c .before .before .before .before .if1 .left) _ _ (c .before .loop .inv .1) _ (c .before .loop .inv .0) (c .loop-test .left)
+safe-contents-returns-4 t c = contents-end _ (c .before .before .before .before .before .before .before .before .before .before .args .level) (c .before .before .before .before .before .before .before .before .before .before .args .safe) (c .before .before .before .before .before .before .before .before .before .before .args .enclosing) _ _ (c .before .before .before .before .before .before .before .before .before .before .pre .1) _ (c .before .before .before .before .before .before .before .before .expect .ensures .0) _ _ _ (c .before .before .before .before .before .before .body .given .1) (c .before .before .before .before .if1 .left) _ _ (c .before .loop .inv .1) _ (c .before .loop .inv .0) (c .loop-test .left)
 
 pub +bag+safe-contents-spec : {M : Type 1} → statement M
 +bag+safe-contents-spec = close μ-bag μ-safe-contents (λ t. bag-lts.spec (in-bag t)

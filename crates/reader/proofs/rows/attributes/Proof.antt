@@ -89,13 +89,13 @@ refused-requires-3 : tie.Need-refused-requires-3 Inv-loop μ-loop
 refused-requires-3 c κs = search needs
 
 returns-4 : tie.Need-returns-4 Inv-loop μ-loop
-returns-4 c = ends-refused _ (c .before .before .before .before .before .before .before .before .before .before .before .before .args .number) _ _ _ (c .before .before .before .before .before .before .before .before .before .before .before .before .args .n) (c .before .before .before .before .before .before .before .before .before .before .before .before .pre) _ (c .before .before .before .before .before .before .before .before .before .before .set-at .ensures) _ _ (c .before .before .before .before .before .before .before .before .body .given .1) _ _ (c .before .before .before .before .before .before .loop .inv) _ _ _ (c .before .before .before .before .before .loop-test .left) (c .before .before .before .before .finish .ensures) (c .before .before .f3 .given .1) (c .refused3 .ensures)
+returns-4 c = ends-refused _ (c .before .before .before .before .before .before .before .before .before .before .before .before .args .number) _ _ _ (c .before .before .before .before .before .before .before .before .before .before .before .before .args .n) (c .before .before .before .before .before .before .before .before .before .before .before .before .pre) _ (c .before .before .before .before .before .before .before .before .before .before .set-at .ensures) _ _ (c .before .before .before .before .before .before .before .before .body .given .1) _ _ (c .before .before .before .before .before .before .loop .inv) _ _ _ (c .before .before .before .before .before .loop-test .left) (c .before .before .before .before .finish .ensures .0) (c .before .before .f3 .given .1) (c .refused3 .ensures)
 
 enum-told-2 : tie.Need-enum-told-2 Inv-loop μ-loop
 enum-told-2 c = search needs
 
 returns-5 : tie.Need-returns-5 Inv-loop μ-loop
-returns-5 c = ends _ (c .before .before .before .before .before .before .before .before .before .before .args .number) _ _ _ (c .before .before .before .before .before .before .before .before .before .before .args .n) (c .before .before .before .before .before .before .before .before .before .before .pre) _ (c .before .before .before .before .before .before .before .before .set-at .ensures) _ _ (c .before .before .before .before .before .before .body .given .1) _ _ (c .before .before .before .before .loop .inv) _ _ _ (c .before .before .before .loop-test .left) (c .before .before .finish .ensures) (c .enum-told2 .given .1)
+returns-5 c = ends _ (c .before .before .before .before .before .before .before .before .before .before .args .number) _ _ _ (c .before .before .before .before .before .before .before .before .before .before .args .n) (c .before .before .before .before .before .before .before .before .before .before .pre) _ (c .before .before .before .before .before .before .before .before .set-at .ensures) _ _ (c .before .before .before .before .before .before .body .given .1) _ _ (c .before .before .before .before .loop .inv) _ _ _ (c .before .before .before .loop-test .left) (c .before .before .finish .ensures .0) (c .enum-told2 .given .1)
 
 pub attributes-spec : {M : Type 1} → statement M
 attributes-spec =
