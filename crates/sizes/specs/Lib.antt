@@ -2,3 +2,4 @@
 pub mod Bodies
 pub mod Picked
 pub mod Sizes
+pub mod Report

@@ -9,6 +9,7 @@ ghost use Rattle.pkcs12.specs.Checks.{both};
 ghost use Rattle.pkcs12.specs.Table.{noSafe, noBag};
 ghost use Rattle.pkcs12.specs.Values.{sameEnclosing};
 ghost use Rattle.sizes.specs.Picked.{formOf, setAt, bagAt, bagsAt, safeAt, safesAt};
+ghost use Rattle.sizes.specs.Report.{formReport};
 ghost use Rattle.sizes.specs.Sizes.{elementSize, bagSize, sizedAs, oneOf, withSafe, presentAs, setSized, oneSized, takenSized, safeSized, safesSized};
 use pkcs12::BagKind;
 use pkcs12::BagRow;
@@ -120,6 +121,7 @@ pub fn belongs(row: BagRow, safe: usize, enclosing: Enclosing) -> bool
 
 pub fn form_of(kind: BagKind) -> Form
     ensures { λ r. ⌜ r ≡ formOf kind ⌝ }
+    ensures { λ r. ⌜ formReport r ≡ formReport (formOf kind) ⌝ }
 {
     match kind {
         BagKind::None => Form::None,

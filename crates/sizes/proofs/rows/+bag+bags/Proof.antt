@@ -73,7 +73,7 @@ bag-enum-told-3 : (t : ℕ) → bag-lts.Need-enum-told-3 (in-bag t) (bag-at t) b
 bag-enum-told-3 t c = search needs
 
 bag-returns : (t : ℕ) → bag-lts.Need-returns (in-bag t) (bag-at t) bag.Post
-bag-returns t c = one-too-deep _ _ _ _ _ _ _ (c .before .before .before .before .before .pre .1 .1) _ (c .before .before .before .form-of .ensures) (c .before .enum-told3 .given .1) (c .if1 .taken)
+bag-returns t c = one-too-deep _ _ _ _ _ _ _ (c .before .before .before .before .before .pre .1 .1) _ (c .before .before .before .form-of .ensures .0) (c .before .enum-told3 .given .1) (c .if1 .taken)
 
 bag-sub-below : (t : ℕ) → bag-lts.Need-sub-below (in-bag t) (bag-at t) bag.Post
 bag-sub-below t c = search needs
@@ -94,13 +94,13 @@ bag-one-bag-requires-2 : (t : ℕ) → bag-lts.Need-one-bag-requires-2 (in-bag t
 bag-one-bag-requires-2 t c κs = search needs
 
 bag-returns-2 : (t : ℕ) → bag-lts.Need-returns-2 (in-bag t) (bag-at t) bag.Post
-bag-returns-2 t c = one-none _ _ (c .before .before .before .before .args .level) (c .before .before .before .before .args .safe) _ _ _ (c .before .before .before .before .pre .1 .1) _ (c .before .before .form-of .ensures) (c .enum-told .given .1)
+bag-returns-2 t c = one-none _ _ (c .before .before .before .before .args .level) (c .before .before .before .before .args .safe) _ _ _ (c .before .before .before .before .pre .1 .1) _ (c .before .before .form-of .ensures .0) (c .enum-told .given .1)
 
 bag-returns-3 : (t : ℕ) → bag-lts.Need-returns-3 (in-bag t) (bag-at t) bag.Post
-bag-returns-3 t c = one-leaf _ _ (c .before .before .before .before .before .before .before .before .args .level) (c .before .before .before .before .before .before .before .before .args .safe) _ _ _ (c .before .before .before .before .before .before .before .before .pre .1 .1) _ (c .before .before .before .before .before .before .form-of .ensures) _ _ _ (c .before .before .before .before .enum-told2 .given .1) (c .before .before .content .ensures) (c .before .set .ensures) (c .one-bag .ensures)
+bag-returns-3 t c = one-leaf _ _ (c .before .before .before .before .before .before .before .before .args .level) (c .before .before .before .before .before .before .before .before .args .safe) _ _ _ (c .before .before .before .before .before .before .before .before .pre .1 .1) _ (c .before .before .before .before .before .before .form-of .ensures .0) _ _ _ (c .before .before .before .before .enum-told2 .given .1) (c .before .before .content .ensures) (c .before .set .ensures) (c .one-bag .ensures)
 
 bag-returns-4 : (t : ℕ) → bag-lts.Need-returns-4 (in-bag t) (bag-at t) bag.Post
-bag-returns-4 t c = one-nest _ _ _ _ _ _ _ (c .before .before .before .before .before .before .before .before .before .pre .1 .1) _ (c .before .before .before .before .before .before .before .form-of .ensures) (c .before .before .before .before .before .enum-told3 .given .1) _ _ _ _ (c .before .before .before .before .if1 .left) (c .before .before .before .bags .ensures) (c .before .before .element .ensures) (c .before .set2 .ensures) (c .one-bag2 .ensures)
+bag-returns-4 t c = one-nest _ _ _ _ _ _ _ (c .before .before .before .before .before .before .before .before .before .pre .1 .1) _ (c .before .before .before .before .before .before .before .form-of .ensures .0) (c .before .before .before .before .before .enum-told3 .given .1) _ _ _ _ (c .before .before .before .before .if1 .left) (c .before .before .before .bags .ensures) (c .before .before .element .ensures) (c .before .set2 .ensures) (c .one-bag2 .ensures)
 
 abbrev bags-Inv-loop : bags-lts.InvT-loop
 bags-Inv-loop bytes safe enclosing first from level table end taken₀ taken = BagsGoing table bytes level safe enclosing first from end taken

@@ -61,13 +61,13 @@ bag-enum-told-2 : (t : ℕ) → bag-lts.Need-enum-told-2 (in-bag t) (bag-at t) b
 bag-enum-told-2 t c = search needs
 
 bag-leaf-requires : (t : ℕ) → bag-lts.Need-leaf-requires (in-bag t) (bag-at t) bag.Post
-bag-leaf-requires t c κs = (c .before .before .before .before .before .before .pre .1 .0, leaf-form _ (c .before .before .before .before .before .before .args .row .kind) (c .before .before .before .form-of .ensures) (c .before .enum-told2 .given .1))
+bag-leaf-requires t c κs = (c .before .before .before .before .before .before .pre .1 .0, leaf-form _ (c .before .before .before .before .before .before .args .row .kind) (c .before .before .before .form-of .ensures .0) (c .before .enum-told2 .given .1))
 
 bag-enum-told-3 : (t : ℕ) → bag-lts.Need-enum-told-3 (in-bag t) (bag-at t) bag.Post
 bag-enum-told-3 t c = search needs
 
 bag-returns : (t : ℕ) → bag-lts.Need-returns (in-bag t) (bag-at t) bag.Post
-bag-returns t c = bag-deep _ _ _ _ _ _ _ (c .before .before .before .before .before .before .pre .1 .1) _ (c .before .before .before .form-of .ensures) (c .before .enum-told3 .given .1) _ _ (c .if1 .taken)
+bag-returns t c = bag-deep _ _ _ _ _ _ _ (c .before .before .before .before .before .before .pre .1 .1) _ (c .before .before .before .form-of .ensures .0) (c .before .enum-told3 .given .1) _ _ (c .if1 .taken)
 
 bag-sub-below : (t : ℕ) → bag-lts.Need-sub-below (in-bag t) (bag-at t) bag.Post
 bag-sub-below t c = search needs
@@ -97,22 +97,22 @@ bag-bags-requires-2 : (t : ℕ) → bag-lts.Need-bags-requires-2 (in-bag t) (bag
 bag-bags-requires-2 t c κs = search needs
 
 bag-set-requires-2 : (t : ℕ) → bag-lts.Need-set-requires-2 (in-bag t) (bag-at t) bag.Post
-bag-set-requires-2 t c κs = nest-body _ _ _ _ _ _ _ (c .before .before .before .before .before .before .before .before .before .before .before .before .before .before .before .before .before .before .before .before .before .before .pre .1 .1) _ (c .before .before .before .before .before .before .before .before .before .before .before .before .before .before .before .before .before .before .before .form-of .ensures) (c .before .before .before .before .before .before .before .before .before .before .before .before .before .before .before .before .before .enum-told3 .given .1) _ (c .before .before .before .before .before .before .before .before .before .before .before .before .before .before .before .bags .ensures) _ (c .before .before .before .before .before .before .before .before .before .before .before .before .before .set .ensures) _ _ _ _ (c .before .before .before .bags2 .ensures)
+bag-set-requires-2 t c κs = nest-body _ _ _ _ _ _ _ (c .before .before .before .before .before .before .before .before .before .before .before .before .before .before .before .before .before .before .before .before .before .before .pre .1 .1) _ (c .before .before .before .before .before .before .before .before .before .before .before .before .before .before .before .before .before .before .before .form-of .ensures .0) (c .before .before .before .before .before .before .before .before .before .before .before .before .before .before .before .before .before .enum-told3 .given .1) _ (c .before .before .before .before .before .before .before .before .before .before .before .before .before .before .before .bags .ensures) _ (c .before .before .before .before .before .before .before .before .before .before .before .before .before .set .ensures) _ _ _ _ (c .before .before .before .bags2 .ensures)
 
 bag-returns-2 : (t : ℕ) → bag-lts.Need-returns-2 (in-bag t) (bag-at t) bag.Post
-bag-returns-2 t c = bag-nothing _ _ (c .before .before .before .before .before .args .level) (c .before .before .before .before .before .args .safe) _ _ _ (c .before .before .before .before .before .pre .1 .1) _ (c .before .before .form-of .ensures) _ _ (c .enum-told .given .1)
+bag-returns-2 t c = bag-nothing _ _ (c .before .before .before .before .before .args .level) (c .before .before .before .before .before .args .safe) _ _ _ (c .before .before .before .before .before .pre .1 .1) _ (c .before .before .form-of .ensures .0) _ _ (c .enum-told .given .1)
 
 bag-same-length : (t : ℕ) → bag-lts.Need-same-length (in-bag t) (bag-at t) bag.Post
 bag-same-length t c = search needs
 
 bag-returns-3 : (t : ℕ) → bag-lts.Need-returns-3 (in-bag t) (bag-at t) bag.Post
-bag-returns-3 t c = bag-of-leaf _ _ (c .before .before .before .before .before .before .before .before .before .args .level) (c .before .before .before .before .before .before .before .before .before .args .safe) _ _ _ (c .before .before .before .before .before .before .before .before .before .pre .1 .1) _ (c .before .before .before .before .before .before .form-of .ensures) _ _ _ _ (c .before .before .before .before .enum-told2 .given .1) (c .before .before .leaf .ensures)
+bag-returns-3 t c = bag-of-leaf _ _ (c .before .before .before .before .before .before .before .before .before .args .level) (c .before .before .before .before .before .before .before .before .before .args .safe) _ _ _ (c .before .before .before .before .before .before .before .before .before .pre .1 .1) _ (c .before .before .before .before .before .before .form-of .ensures .0) _ _ _ _ (c .before .before .before .before .enum-told2 .given .1) (c .before .before .leaf .ensures)
 
 bag-same-length-2 : (t : ℕ) → bag-lts.Need-same-length-2 (in-bag t) (bag-at t) bag.Post
 bag-same-length-2 t c = search needs
 
 bag-returns-4 : (t : ℕ) → bag-lts.Need-returns-4 (in-bag t) (bag-at t) bag.Post
-bag-returns-4 t c = nest-put _ _ _ _ _ _ _ (c .before .before .before .before .before .before .before .before .before .before .before .before .before .before .before .before .before .before .before .before .before .before .before .before .before .pre .1 .1) _ (c .before .before .before .before .before .before .before .before .before .before .before .before .before .before .before .before .before .before .before .before .before .before .form-of .ensures) (c .before .before .before .before .before .before .before .before .before .before .before .before .before .before .before .before .before .before .before .before .enum-told3 .given .1) _ (c .before .before .before .before .before .before .before .before .before .before .before .before .before .before .before .before .before .before .bags .ensures) _ (c .before .before .before .before .before .before .before .before .before .before .before .before .before .before .before .before .set .ensures) _ _ _ _ (c .before .before .before .before .before .before .bags2 .ensures) _ _ _ _ _ _ _ (c .before .before .before .before .before .before .before .before .before .before .before .before .before .before .before .before .before .before .before .if1 .left) (c .before .before .before .before .before .before .before .before .before .before .before .before .before .before .before .before .before .element .ensures) (c .before .before .before .before .before .before .before .before .before .before .before .before .before .before .bag-head .ensures) (c .before .before .before .before .before .before .before .before .before .before .header .ensures) (c .before .before .set2 .ensures)
+bag-returns-4 t c = nest-put _ _ _ _ _ _ _ (c .before .before .before .before .before .before .before .before .before .before .before .before .before .before .before .before .before .before .before .before .before .before .before .before .before .pre .1 .1) _ (c .before .before .before .before .before .before .before .before .before .before .before .before .before .before .before .before .before .before .before .before .before .before .form-of .ensures .0) (c .before .before .before .before .before .before .before .before .before .before .before .before .before .before .before .before .before .before .before .before .enum-told3 .given .1) _ (c .before .before .before .before .before .before .before .before .before .before .before .before .before .before .before .before .before .before .bags .ensures) _ (c .before .before .before .before .before .before .before .before .before .before .before .before .before .before .before .before .set .ensures) _ _ _ _ (c .before .before .before .before .before .before .bags2 .ensures) _ _ _ _ _ _ _ (c .before .before .before .before .before .before .before .before .before .before .before .before .before .before .before .before .before .before .before .if1 .left) (c .before .before .before .before .before .before .before .before .before .before .before .before .before .before .before .before .before .element .ensures) (c .before .before .before .before .before .before .before .before .before .before .before .before .before .before .bag-head .ensures) (c .before .before .before .before .before .before .before .before .before .before .header .ensures) (c .before .before .set2 .ensures)
 
 abbrev bags-Inv-loop : bags-lts.InvT-loop
 bags-Inv-loop out₀ at bytes safe enclosing first from level table end so-far₀ out so-far = BagsPutting table bytes level safe enclosing first from end out₀ (so-far₀ .at) out so-far
