@@ -1,2 +1,3 @@
 -- What measuring a table gives.
 pub mod Measured
+pub mod Report

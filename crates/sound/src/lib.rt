@@ -1,6 +1,8 @@
 // Whether a table is sound for the bytes that its ranges point into, and the size of the file that it makes.
 ghost use mathlib.Core.Path.{_≡_};
+ghost use Rattle.der.specs.Span.{Bytes};
 ghost use Rattle.sound.specs.Measured.{measured};
+ghost use Rattle.sound.specs.Report.{measuredReport};
 
 mod checks;
 
@@ -15,6 +17,8 @@ pub enum Measured {
 // What a table makes of bytes.
 pub fn measure(table: Table, bytes: &[u8]) -> Measured
     ensures { λ r. ⌜ r ≡ measured table (now (bytes .entry)) ⌝ }
+    ensures { λ r. ⌜ measuredReport r ≡ measuredReport (measured table (now (bytes .entry))) ⌝ }
+    ensures { λ _. ⌜ Bytes (now (bytes .entry)) ⌝ }
 {
     if !checks::rules(table, bytes) {
         return Measured::Unsound;
