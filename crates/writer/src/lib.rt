@@ -1,6 +1,8 @@
 // Writes the file of a table into a lent buffer.
 ghost use mathlib.Core.Path.{_≡_};
 ghost use Rattle.der.specs.Element.{fault};
+ghost use Rattle.der.specs.Span.{Bytes};
+ghost use Rattle.pkcs12.specs.Report.{writtenReport};
 ghost use Rattle.pkcs12.specs.Written.{writeFile};
 ghost use Rattle.pkcs12.specs.declared.Written.{Written};
 
@@ -24,7 +26,9 @@ fn refused(number: u8) -> Written
 // file isn't too long and that the buffer has room for it.
 pub fn write(table: Table, bytes: &[u8], out: &mut [u8]) -> Written
     ensures { λ r. ⌜ r ≡ writeFile table (now (bytes .entry)) (now (out .entry)) .answer ⌝ }
+    ensures { λ r. ⌜ writtenReport r ≡ writtenReport (writeFile table (now (bytes .entry)) (now (out .entry)) .answer) ⌝ }
     ensures { λ _. ⌜ now (out .exit) ≡ writeFile table (now (bytes .entry)) (now (out .entry)) .buffer ⌝ }
+    ensures { λ _. ⌜ Bytes (now (bytes .entry)) ⌝ }
 {
     match sound::measure(table, bytes) {
         Measured::Unsound => refused(pkcs12::NOT_SOUND),
