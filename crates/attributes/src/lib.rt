@@ -1,7 +1,9 @@
 // Gives the attributes of one bag in turn. `Attributes` keeps the file and a position; the work is done on the position, which is plain.
 ghost use mathlib.Core.Path.{_≡_};
 ghost use Prim.Native.Nat.{_+_};
+ghost use Rattle.der.specs.Span.{Bytes};
 ghost use Rattle.pkcs12.specs.Table.{bytesIn};
+ghost use Rattle.attributes.specs.Report.{itemReport};
 ghost use Rattle.attributes.specs.Reader.{refusedBy, openingOf, nextRow, movedTo, nextOf, itemAfter, readerOf, isLast};
 ghost use Rattle.attributes.specs.Elements.{elementRanges, countedOf, chosenOf};
 use der::Cursor;
@@ -57,6 +59,8 @@ fn refused(number: u8) -> Position
 // The position before the first attribute of a bag.
 pub fn opening(table: Table, file: &[u8], bag: usize) -> Position
     ensures { λ r. ⌜ r ≡ openingOf table (now (file .entry)) bag ⌝ }
+    ensures { λ r. ⌜ itemReport (r .item) ≡ itemReport (openingOf table (now (file .entry)) bag .item) ⌝ }
+    ensures { λ _. ⌜ Bytes (now (file .entry)) ⌝ }
 {
     match sound::measure(table, file) {
         Measured::Unsound => refused(pkcs12::NOT_SOUND),
@@ -128,6 +132,7 @@ impl Position {
     // One call: the next attribute, or the word that there are no more. A refused opening stays so.
     pub fn next(self) -> Position
         ensures { λ r. ⌜ r ≡ nextOf self ⌝ }
+        ensures { λ r. ⌜ itemReport (r .item) ≡ itemReport (nextOf self .item) ⌝ }
     {
         let item = self.item;
         match item {
@@ -142,6 +147,8 @@ impl Position {
 // A reader of the attributes of one bag.
 pub fn open<'a>(table: Table, file: &'a [u8], bag: usize) -> Attributes<'a>
     ensures { λ r. ⌜ r ≡ readerOf (file .entry) (openingOf table (now (file .entry)) bag) ⌝ }
+    ensures { λ r. ⌜ itemReport (r .position .item) ≡ itemReport (openingOf table (now (file .entry)) bag .item) ⌝ }
+    ensures { λ _. ⌜ Bytes (now (file .entry)) ⌝ }
 {
     let position = opening(table, file, bag);
     Attributes { file, position }
@@ -150,6 +157,7 @@ pub fn open<'a>(table: Table, file: &'a [u8], bag: usize) -> Attributes<'a>
 // One call: the same reader, with what the call gave.
 pub fn next<'a>(r: Attributes<'a>) -> Attributes<'a>
     ensures { λ q. ⌜ q ≡ readerOf (r .entry .file) (nextOf (r .entry .position)) ⌝ }
+    ensures { λ q. ⌜ itemReport (q .position .item) ≡ itemReport (nextOf (r .entry .position) .item) ⌝ }
 {
     let position = r.position.next();
     Attributes {
@@ -161,6 +169,7 @@ pub fn next<'a>(r: Attributes<'a>) -> Attributes<'a>
 // What the last call gave.
 pub fn given<'a>(r: Attributes<'a>) -> Item
     ensures { λ x. ⌜ x ≡ r .entry .position .item ⌝ }
+    ensures { λ x. ⌜ itemReport x ≡ itemReport (r .entry .position .item) ⌝ }
 {
     r.position.item
 }
@@ -187,6 +196,8 @@ fn is_last(item: Item) -> bool
 // What call i gives, counted from 0, of a reader that is opened for it.
 pub fn attribute(table: Table, file: &[u8], bag: usize, i: usize) -> Item
     ensures { λ r. ⌜ r ≡ itemAfter i (openingOf table (now (file .entry)) bag) ⌝ }
+    ensures { λ r. ⌜ itemReport r ≡ itemReport (itemAfter i (openingOf table (now (file .entry)) bag)) ⌝ }
+    ensures { λ _. ⌜ Bytes (now (file .entry)) ⌝ }
 {
     let mut position = opening(table, file, bag).next();
     let mut left = i;
@@ -214,6 +225,7 @@ fn chosen(n: usize, i: usize, found: Range, here: Range) -> Range
 // The number of elements in an attribute's values, and element i, whole; 0..0 where there is none.
 pub fn element(bytes: &[u8], values: Range, i: usize) -> Counted
     ensures { λ r. ⌜ r ≡ countedOf (elementRanges (now (bytes .entry)) values) i ⌝ }
+    ensures { λ _. ⌜ Bytes (now (bytes .entry)) ⌝ }
 {
     let end = values.end as usize;
     let mut at = values.start as usize;

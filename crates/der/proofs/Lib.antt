@@ -1,5 +1,6 @@
 -- The laws of `der`, and the rules that close most needs of its functions.
 pub mod Promised
+pub mod Exits
 pub mod Choices
 pub mod Octets
 pub mod Integers

@@ -2,6 +2,7 @@
 use Prim.Native.Nat.{_-_}
 use native.Mathlib.Omega.{arith}
 use borrow.Author.Needs.{needs}
+use Rattle.der.proofs.Promised.{all-bytes}
 use Rattle.attributes.specs.Elements.{elementRanges}
 use Rattle.attributes.proofs.Siblings.{Walking, walking-start, walking-ends, walking-stops, stop-fits, walking-less, walking-on}
 use Rattle.attributes.proofs.element.Statement.{statement}
@@ -30,7 +31,7 @@ enum-told c = search needs
 
 returns : tie.Need-returns Inv-loop μ-loop
 unfolding elementRanges
-returns c = walking-stops _ _ _ _ _ _ _ (c .before .before .before .before .loop .inv) (c .before .before .before .loop-test .taken) _ (c .before .before .element .ensures) _ (c .enum-told .given .1)
+returns c = (walking-stops _ _ _ _ _ _ _ (c .before .before .before .before .loop .inv) (c .before .before .before .loop-test .taken) _ (c .before .before .element .ensures .0) _ (c .enum-told .given .1), search all-bytes)
 
 enum-known-next : tie.Need-enum-known-next Inv-loop μ-loop
 enum-known-next c = search needs
@@ -39,7 +40,7 @@ cast-start16 : tie.Need-cast-start16 Inv-loop μ-loop
 cast-start16 c = omega (arith, c .before .before .before .before .before .loop .inv .small)
 
 cast-stop16 : tie.Need-cast-stop16 Inv-loop μ-loop
-cast-stop16 c = omega (arith, stop-fits _ _ _ _ _ _ _ (c .before .before .before .before .before .loop .inv) (c .before .before .before .before .loop-test .taken) _ (c .before .before .before .element .ensures) _ _ _ (c .before .next .given .1))
+cast-stop16 c = omega (arith, stop-fits _ _ _ _ _ _ _ (c .before .before .before .before .before .loop .inv) (c .before .before .before .before .loop-test .taken) _ (c .before .before .before .element .ensures .0) _ _ _ (c .before .next .given .1))
 
 chosen-requires : tie.Need-chosen-requires Inv-loop μ-loop
 chosen-requires c κs = search needs
@@ -48,14 +49,14 @@ add-count : tie.Need-add-count Inv-loop μ-loop
 add-count c = omega (arith, c .before .before .before .before .before .before .loop .inv .few, c .before .before .before .before .before .before .loop .inv .small)
 
 loop-less : tie.Need-loop-less Inv-loop μ-loop
-loop-less c = walking-less _ _ _ _ _ _ _ (c .before .before .before .before .before .before .loop .inv) (c .before .before .before .before .before .loop-test .taken) _ (c .before .before .before .before .element .ensures) _ _ _ (c .before .before .next .given .1)
+loop-less c = walking-less _ _ _ _ _ _ _ (c .before .before .before .before .before .before .loop .inv) (c .before .before .before .before .before .loop-test .taken) _ (c .before .before .before .before .element .ensures .0) _ _ _ (c .before .before .next .given .1)
 
 loop-again : tie.Need-loop-again Inv-loop μ-loop
-loop-again c = walking-on _ _ _ _ _ _ _ (c .before .before .before .before .before .before .loop .inv) (c .before .before .before .before .before .loop-test .taken) _ (c .before .before .before .before .element .ensures) _ _ _ (c .before .before .next .given .1) _ (c .chosen .ensures)
+loop-again c = walking-on _ _ _ _ _ _ _ (c .before .before .before .before .before .before .loop .inv) (c .before .before .before .before .before .loop-test .taken) _ (c .before .before .before .before .element .ensures .0) _ _ _ (c .before .before .next .given .1) _ (c .chosen .ensures)
 
 returns-2 : tie.Need-returns-2 Inv-loop μ-loop
 unfolding elementRanges
-returns-2 c = walking-ends _ _ _ _ _ _ _ (c .before .loop .inv) (c .loop-test .left)
+returns-2 c = (walking-ends _ _ _ _ _ _ _ (c .before .loop .inv) (c .loop-test .left), search all-bytes)
 
 pub element-spec : {M : Type 1} → statement M
 element-spec =

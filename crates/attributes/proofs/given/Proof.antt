@@ -25,8 +25,10 @@ use denote.Struct.Laws as LL
 use denote.Triple.Entry.{onEntry}
 use denote.Triple.Spec.{Meets, tripleOf}
 use denote.Triple.Table.{entered}
-use denote.Triple.Walked.{says, Stays, stay-none, walkOf, goes-none, Walks, ends-at, walked, walk-meets}
+use denote.Triple.Walked.{Stays, stay-none, walkOf, goes-none, Walks, ends-at, walked, walk-meets}
 use denote.Exit.{yes}
+use Rattle.der.proofs.Exits.{says-both}
+use Rattle.attributes.specs.Report.{itemReport}
 use Rattle.attributes.specs.declared.Attributes.{Attributes}
 use Rattle.attributes.proofs.Item as I
 use Rattle.attributes.proofs.Item.Laws as I′
@@ -52,7 +54,7 @@ module _ {M : Type 1} (𝓤 : URA M) (H : Heap 𝓤) (A : Atoms 𝓤) (W : Given
   exits : Is I.the-row (d .position .item) (w ∷ []) → ent 𝓤 (onEntry 𝓤 H A given-fn.signature (κ, tt) (q, tt) (d, tt) (m ∷ [], tt)) (Post w)
   exits is =
       qed W ((‵ (flft κ q) ⊛ ‵ ftrue) ∷ ‵ (owns (B (κ, tt) ∷ []) (d, tt) (m ∷ [], tt)) ∷ []) ∵
-      suffices ! _ (ends-at 𝓤 H A given-fn.ended stayed (given-fn.clauses 𝓤 H A mem run) W (((κ, tt), (q, tt), tt, (d, tt), (m ∷ [], tt)), tt) w (d .position .item) (tt, tt) (tt, tt)) $ says ! refl $
+      suffices ! _ (ends-at 𝓤 H A given-fn.ended stayed (given-fn.clauses 𝓤 H A mem run) W (((κ, tt), (q, tt), tt, (d, tt), (m ∷ [], tt)), tt) w (d .position .item) (tt, tt) (tt, tt)) $ says-both ! refl refl $
       frame ! $ frame ! $ owned ! I.the-row (Is I.the-row) (EL.makes I.the-type I′.the-plain 𝓤 H A) (d .position .item) _ is $ done !
 
   module _ (C : Calls 𝓤 H) (Λ : Loops 𝓤 H) where

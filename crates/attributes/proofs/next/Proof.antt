@@ -29,9 +29,11 @@ use denote.Triple.Call.{calls-at}
 use denote.Triple.Entry.{onEntry}
 use denote.Triple.Spec.{Meets, tripleOf}
 use denote.Triple.Table.{entered, cited}
-use denote.Triple.Walked.{says, Stays, stay-none, walkOf, goes-none, Walks, ends-at, walked, walk-meets}
+use denote.Triple.Walked.{Stays, stay-none, walkOf, goes-none, Walks, ends-at, walked, walk-meets}
 use denote.Triple.Clauses.{ensured, lasts}
 use denote.Exit.{yes}
+use Rattle.der.proofs.Exits.{says-both}
+use Rattle.attributes.specs.Report.{itemReport}
 use Rattle.attributes.specs.Reader.{nextOf, readerOf}
 use Rattle.attributes.specs.declared.Attributes.{Attributes}
 use Rattle.attributes.specs.declared.Position.{Position}
@@ -80,12 +82,14 @@ module _ {M : Type 1} (𝓤 : URA M) (H : Heap 𝓤) (A : Atoms 𝓤) (W : Given
   asked = qed W (‵ ftrue ∷ ‵ (owns (P.the-row ∷ []) (d .position, tt) (w ∷ [], tt)) ∷ []) ∵ join ! $ frame ! $ done !
 
   said : (p : Position) → ent 𝓤 (ensured 𝓤 H A step.ended (step.clauses 𝓤 H A mem run) tt (d .position, tt) tt p) (fact 𝓤 (Said p))
-  said p = exE 𝓤 _ (λ ws. snd∗ 𝓤 (sem 𝓤 H A (lasts step.ended tt (d .position, tt) ws)) (fact 𝓤 (Said p)))
+  said p =
+      exE 𝓤 _ (λ ws. via 𝓤 _ (snd∗ 𝓤 (sem 𝓤 H A (lasts step.ended tt (d .position, tt) ws)) _)
+      (fst∗ 𝓤 (fact 𝓤 (Said p)) (fact 𝓤 (itemReport (p .item) ≡ itemReport (nextOf (d .position) .item)))))
 
   exits : (p : Position) (u : Val) → Said p → ent 𝓤 (⋆ 𝓤 H A (‵ (P.the-row .own p (u ∷ [])) ∷ raw (onEntry 𝓤 H A next.signature (κ, tt) (q, tt) (d, tt) (m ∷ [], tt)) ∷ [])) (Post (made-val κ (d .file) p u))
   exits p u e =
       qed W (‵ (P.the-row .own p (u ∷ [])) ∷ ((‵ (flft κ q) ⊛ ‵ ftrue) ⊛ ‵ (owns (B (κ, tt) ∷ []) (d, tt) (m ∷ [], tt))) ∷ []) ∵
-      suffices ! _ (ends-at 𝓤 H A next.ended stayed (next.clauses 𝓤 H A mem run) W (((κ, tt), (q, tt), tt, (d, tt), (m ∷ [], tt)), tt) (made-val κ (d .file) p u) (readerOf (d .file) p) (tt, tt) (tt, tt)) $ says ! (ap (readerOf (d .file)) e) $
+      suffices ! _ (ends-at 𝓤 H A next.ended stayed (next.clauses 𝓤 H A mem run) W (((κ, tt), (q, tt), tt, (d, tt), (m ∷ [], tt)), tt) (made-val κ (d .file) p u) (readerOf (d .file) p) (tt, tt) (tt, tt)) $ says-both ! (ap (readerOf (d .file)) e) (ap (λ (z : Position). itemReport (z .item)) e) $
       move ! (1 ∷ []) $ split ! $ frame ! $ fsplit ! $ use1 W (‵ (Lent κ (d .file)) ⊛ ‵ (Own κ d)) (file-out κ d 𝓤 H A W) $ split ! $
       -- [the file; the reader; nothing; the position]
       move ! (1 ∷ 2 ∷ []) $ fjoin ! $ frame ! $ by ! (made-own κ (d .file) p u 𝓤 H A W)

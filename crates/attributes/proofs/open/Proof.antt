@@ -33,12 +33,15 @@ use denote.Triple.Call.{calls-at}
 use denote.Triple.Entry.{Args, Vals, onEntry}
 use denote.Triple.Spec.{Meets, tripleOf}
 use denote.Triple.Table.{entered, cited}
-use denote.Triple.Walked.{says, Stays, stay-none, stay-none-slice, walkOf, goes-none, goes-none-slice, Walks, ends-at, walked, walk-meets}
+use denote.Triple.Walked.{Stays, stay-none, stay-none-slice, walkOf, goes-none, goes-none-slice, Walks, ends-at, walked, walk-meets}
 use denote.Triple.Clauses.{ensured, lasts}
 use denote.Exit.{yes}
+use Rattle.der.specs.Span.{Bytes}
 use Rattle.pkcs12.specs.declared.Table.{Table}
 use Rattle.pkcs12.proofs.Table as Tb
 use Rattle.pkcs12.proofs.Table.Laws as Tb′
+use Rattle.der.proofs.Exits.{says-three, ends-said}
+use Rattle.attributes.specs.Report.{itemReport}
 use Rattle.attributes.specs.Reader.{openingOf, readerOf}
 use Rattle.attributes.specs.declared.Position.{Position}
 use Rattle.attributes.proofs.Position as P
@@ -80,7 +83,7 @@ module _ {M : Type 1} (𝓤 : URA M) (H : Heap 𝓤) (A : Atoms 𝓤) (W : Given
   Post = walkOf 𝓤 H A open-fn.ended stayed (open-fn.clauses 𝓤 H A mem run) .post (((κ, tt), (q, tt), tt, args, at), tt)
 
   abbrev Said : Position → Type 0
-  Said p = p ≡ openingOf table (now f) bag
+  Said p = (p ≡ openingOf table (now f) bag) × Bytes (now f)
 
   abbrev to : Opened 𝓤 H A mem run .Ghost
   to = (((κ, tt), (q, tt), tt, args, at), tt)
@@ -98,14 +101,14 @@ module _ {M : Type 1} (𝓤 : URA M) (H : Heap 𝓤) (A : Atoms 𝓤) (W : Given
 
   -- what the call's answer says
   said : (p : Position) → ent 𝓤 (ensured 𝓤 H A opening.ended (opening.clauses 𝓤 H A mem run) (κ, tt) args tt p) (fact 𝓤 (Said p))
-  said p = exE 𝓤 _ (λ ws. snd∗ 𝓤 (sem 𝓤 H A (lasts opening.ended (κ, tt) args ws)) (fact 𝓤 (Said p)))
+  said p = exE 𝓤 _ (λ ws. via 𝓤 _ (snd∗ 𝓤 (sem 𝓤 H A (lasts opening.ended (κ, tt) args ws)) _) (ends-said 𝓤 _ _ _))
 
   -- what is known of the parameters
   module _ (table-is : Is Tb.the-row table (t ∷ [])) (f-is : Is (ShrSlice (named 0) κ u8) f (v ∷ [])) (fits : bag < 2 ^ 64) where
     exits : (p : Position) (u : Val) → Said p → ent 𝓤 (⋆ 𝓤 H A (‵ (P.the-row .own p (u ∷ [])) ∷ (‵ (flft κ q) ⊛ ‵ ftrue) ∷ ‵ (Lent κ f) ∷ [])) (Post (made-val κ f p u))
     exits p u e =
         qed W (‵ (P.the-row .own p (u ∷ [])) ∷ (‵ (flft κ q) ⊛ ‵ ftrue) ∷ ‵ (Lent κ f) ∷ []) ∵
-        suffices ! _ (ends-at 𝓤 H A open-fn.ended stayed (open-fn.clauses 𝓤 H A mem run) W (((κ, tt), (q, tt), tt, args, at), tt) (made-val κ f p u) (readerOf f p) (tt, (tt, (tt, tt))) (tt, (tt, (tt, tt)))) $ says ! (ap (readerOf f) e) $
+        suffices ! _ (ends-at 𝓤 H A open-fn.ended stayed (open-fn.clauses 𝓤 H A mem run) W (((κ, tt), (q, tt), tt, args, at), tt) (made-val κ f p u) (readerOf f p) (tt, (tt, (tt, tt))) (tt, (tt, (tt, tt)))) $ says-three ! (ap (readerOf f) (e .0)) (ap (λ (z : Position). itemReport (z .item)) (e .0)) (e .1) $
         move ! (1 ∷ []) $ frame ! $ move ! (1 ∷ []) $ use1 W (‵ (Lent κ f) ⊛ ‵ (Lent κ f)) (shr-slice-copy 𝓤 H A W (named 0) κ u8 .twice f (v ∷ [])) $ split ! $
         -- [the file; the file; the position]
         nothing ! $ owned ! usize (Is usize) (uint-makes 𝓤 H A W w64) bag _ (refl, fits) $ fjoin ! $ move ! (1 ∷ 0 ∷ []) $ fjoin ! $

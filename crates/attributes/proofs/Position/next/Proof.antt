@@ -1,4 +1,6 @@
 -- By what the last call gave.
+use Rattle.der.proofs.Promised.{reported}
+use Rattle.attributes.specs.Report.{itemReport}
 use Rattle.attributes.specs.Reader.{nextOf}
 use borrow.Author.Needs.{needs}
 use Rattle.attributes.proofs.Position.next.Statement.{statement}
@@ -27,19 +29,19 @@ enum-told-4 c = search needs
 
 returns : tie.Need-returns
 unfolding nextOf
-returns c = cc
+returns c = reported (λ p. itemReport (p .item)) (cc)
 
 returns-2 : tie.Need-returns-2
 unfolding nextOf
-returns-2 c = cc
+returns-2 c = reported (λ p. itemReport (p .item)) (cc)
 
 returns-3 : tie.Need-returns-3
 unfolding nextOf
-returns-3 c = cc
+returns-3 c = reported (λ p. itemReport (p .item)) (cc)
 
 returns-4 : tie.Need-returns-4
 unfolding nextOf
-returns-4 c = cc
+returns-4 c = reported (λ p. itemReport (p .item)) (cc)
 
 pub next-spec : {M : Type 1} → statement M
 next-spec =
