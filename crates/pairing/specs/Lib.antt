@@ -1,4 +1,5 @@
 -- Pairing: what it answers (`Pairs`), what the answers say (`Only`), and how the code goes over the rows (`Search`, for its private functions).
 pub mod Pairs
+pub mod Report
 pub mod Only
 pub mod Search

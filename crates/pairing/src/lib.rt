@@ -1,8 +1,10 @@
 // Pairs keys with certificates by their ids. `pair` works over the caller's own list of identity rows; each row is judged by value.
 ghost use mathlib.Core.Path.{_≡_};
 ghost use Rattle.der.specs.Element.{fault};
+ghost use Rattle.der.specs.Span.{Bytes};
 ghost use Rattle.pkcs12.specs.Checks.{both};
 ghost use Rattle.pairing.specs.Pairs.{isKey, isCertificate, idLies, sameId, pairsWith, paired};
+ghost use Rattle.pairing.specs.Report.{pairedReport};
 ghost use Rattle.pairing.specs.Search.{keyAt, tallied, firstAt, visited, passed, begun, again, answered};
 use der::Fault;
 use pkcs12::BagKind;
@@ -241,6 +243,8 @@ fn answer(state: Search) -> Paired
 // The only certificate row with the id of the key in row `key`.
 pub fn pair(rows: &[IdentityRow], bytes: &[u8], key: usize) -> Paired
     ensures { λ r. ⌜ r ≡ paired (now (bytes .entry)) (now (rows .entry)) key ⌝ }
+    ensures { λ r. ⌜ pairedReport r ≡ pairedReport (paired (now (bytes .entry)) (now (rows .entry)) key) ⌝ }
+    ensures { λ _. ⌜ Bytes (now (bytes .entry)) ⌝ }
 {
     let start = begin(key);
     let first = pass(rows, bytes, start);
@@ -252,6 +256,8 @@ pub fn pair(rows: &[IdentityRow], bytes: &[u8], key: usize) -> Paired
 // The same of as many rows as a table has bags, by value: a caller of this is proved without a walk.
 pub fn pair_all(rows: [IdentityRow; pkcs12::BAG_ROWS], bytes: &[u8], key: usize) -> Paired
     ensures { λ r. ⌜ r ≡ paired (now (bytes .entry)) rows key ⌝ }
+    ensures { λ r. ⌜ pairedReport r ≡ pairedReport (paired (now (bytes .entry)) rows key) ⌝ }
+    ensures { λ _. ⌜ Bytes (now (bytes .entry)) ⌝ }
 {
     pair(&rows, bytes, key)
 }

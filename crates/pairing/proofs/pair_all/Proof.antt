@@ -46,11 +46,13 @@ use denote.Triple.Entry.{onEntry}
 use denote.Triple.Spec.{Meets, tripleOf}
 use denote.Triple.Statement.{Contract, Triple}
 use denote.Triple.Table.{entered, cited}
-use denote.Triple.Walked.{says, Stays, stay-dropped, stay-none-slice, walkOf, goes-dropped, goes-none-slice, Walks, ends-at, walked, walk-meets}
+use denote.Triple.Walked.{Stays, stay-dropped, stay-none-slice, walkOf, goes-dropped, goes-none-slice, Walks, ends-at, walked, walk-meets}
 use Rattle.pkcs12.specs.Numbers.{bagRows}
 use Rattle.pairing.specs.declared.IdentityRow.{IdentityRow}
 use Rattle.pairing.specs.declared.Paired.{Paired}
 use Rattle.pairing.specs.Pairs.{paired}
+use Rattle.der.specs.Span.{Bytes}
+use Rattle.der.proofs.Exits.{says-three, ends-said}
 use Rattle.pairing.proofs.IdentityRow as I
 use Rattle.pairing.proofs.IdentityRow.Laws as I′
 use Rattle.pairing.proofs.Paired as P
@@ -147,10 +149,10 @@ module _ {M : Type 1} (𝓤 : URA M) (H : Heap 𝓤) (A : Atoms 𝓤) (W : Given
       qed W (Tok ∷ ‵ (owns (Rows ∷ ShrSlice (named 0) κ u8 ∷ usize ∷ []) a vals) ∷ []) ∵
       move ! (1 ∷ []) $ fsplit ! $ frame ! $ fsplit ! $ keep ! (2 ∷ 0 ∷ []) $ done !
 
-  exits : (u : Val) → ent 𝓤 (⋆ 𝓤 H A (‵ (P.the-row .own ans (u ∷ [])) ∷ Tok ∷ ‵ OwnB ∷ [])) (Post u)
-  exits u =
+  exits : Bytes (now bytes) → (u : Val) → ent 𝓤 (⋆ 𝓤 H A (‵ (P.the-row .own ans (u ∷ [])) ∷ Tok ∷ ‵ OwnB ∷ [])) (Post u)
+  exits h u =
       qed W (‵ (P.the-row .own ans (u ∷ [])) ∷ Tok ∷ ‵ OwnB ∷ []) ∵
-      suffices ! _ (ends-at 𝓤 H A pair-all.ended stayed (pair-all.clauses 𝓤 H A mem run) W (((κ, tt), (q, tt), tt, a, vals), tt) u ans (tt, (tt, (tt, tt))) (tt, (tt, (tt, tt)))) $ says ! refl $
+      suffices ! _ (ends-at 𝓤 H A pair-all.ended stayed (pair-all.clauses 𝓤 H A mem run) W (((κ, tt), (q, tt), tt, a, vals), tt) u ans (tt, (tt, (tt, tt))) (tt, (tt, (tt, tt)))) $ says-three ! refl refl h $
       move ! (1 ∷ []) $ frame ! $ nothing ! $ nothing ! $ fjoin ! $ move ! (2 ∷ 0 ∷ []) $ fjoin ! $ nothing ! $ fjoin ! $ frame ! $ done !
 
   -- the call of `pair` on the local at block l, lent for α under the name γ
@@ -169,9 +171,12 @@ module _ {M : Type 1} (𝓤 : URA M) (H : Heap 𝓤) (A : Atoms 𝓤) (W : Given
         nothing ! $ owned ! usize (Is usize) (uint-makes 𝓤 H A W w64) k _ (refl, k-fits) $ fjoin ! $ move ! (1 ∷ 0 ∷ []) $ fjoin ! $ move ! (3 ∷ 0 ∷ []) $ fjoin ! $ move ! (2 ∷ 0 ∷ []) $ join ! $
         nothing ! $ move ! (1 ∷ 0 ∷ []) $ join ! $ frame ! $ done !
 
-    -- of `pair`'s `ensured`, the clause alone: it has no `&mut`, so what is said of last values is dropped
-    said : (r : Paired) → ent 𝓤 (ensured 𝓤 H A pair.ended (pair.clauses 𝓤 H A mem run) (α ∷ [], (κ, tt)) (borrowed-as rows l γ, (bytes, (k, tt))) tt r) (fact 𝓤 (r ≡ ans))
-    said r = exE 𝓤 _ (λ ws. snd∗ 𝓤 (sem 𝓤 H A (lasts pair.ended (α ∷ [], (κ, tt)) (borrowed-as rows l γ, (bytes, (k, tt))) ws)) (fact 𝓤 (r ≡ ans)))
+    -- of `pair`'s `ensured`, the clauses alone: it has no `&mut`, so what is said of last values is dropped
+    abbrev Said : Paired → Type 0
+    Said r = (r ≡ ans) × Bytes (now bytes)
+
+    said : (r : Paired) → ent 𝓤 (ensured 𝓤 H A pair.ended (pair.clauses 𝓤 H A mem run) (α ∷ [], (κ, tt)) (borrowed-as rows l γ, (bytes, (k, tt))) tt r) (fact 𝓤 (Said r))
+    said r = exE 𝓤 _ (λ ws. via 𝓤 _ (snd∗ 𝓤 (sem 𝓤 H A (lasts pair.ended (α ∷ [], (κ, tt)) (borrowed-as rows l γ, (bytes, (k, tt))) ws)) _) (ends-said 𝓤 _ _ _))
 
   module _ (C : Calls 𝓤 H) (Λ : Loops 𝓤 H) (fm : FmC 𝓤 H (W .laws) C) (known : Triple 𝓤 (C #pairing·pair) (Pair 𝓤 H A mem run)) where
     walk : Holds (hasTy rows-ty va) × WT va → Is (ShrSlice (named 0) κ u8) bytes (vb ∷ [])
@@ -195,14 +200,14 @@ module _ {M : Type 1} (𝓤 : URA M) (H : Heap 𝓤) (A : Atoms 𝓤) (W : Given
         move ! (0 ∷ 2 ∷ 3 ∷ []) $ use3 W (raw (Pair 𝓤 H A mem run .pre (to-pair l₄ α γ)) ⊛ ‵ OwnB) (goes-pair l₄ α γ) $ split ! $
         calls-at ! fm (Pair 𝓤 H A mem run) known (to-pair l₄ α γ) (and-then ! (load ! (from ! (stop !)) (look ! 3 refl)) (and-then ! (load ! (from ! (stop !)) (look ! 10 refl)) (and-then ! (load ! (from ! (stop !)) (look ! 8 refl)) (no-more !)))) (λ u.
         use1 W (later (some (λ (r : Paired). ((‵ (flft (α ∷ []) fullShare) ⊛ Tok) ⊛ ‵ (P.the-row .own r (u ∷ []))) ⊛ raw (ensured 𝓤 H A pair.ended (pair.clauses 𝓤 H A mem run) (α ∷ [], (κ, tt)) (borrowed-as rows l₄ γ, (bytes, (k, tt))) tt r)))) (id⊢ 𝓤 _) $ await ! tt $ pick ! (λ r.
-        split ! $ move ! (1 ∷ []) $ use1 W (raw (fact 𝓤 (r ≡ ans))) (said l₄ α γ r) $ heard ! (r ≡ ans) (λ e. split ! $ rewrite ! 1 (λ (z : Paired). ‵ (P.the-row .own z (u ∷ []))) e refl $ move ! (1 ∷ []) $
+        split ! $ move ! (1 ∷ []) $ use1 W (raw (fact 𝓤 (Said l₄ α γ r))) (said l₄ α γ r) $ heard ! (Said l₄ α γ r) (λ e. split ! $ rewrite ! 1 (λ (z : Paired). ‵ (P.the-row .own z (u ∷ []))) (e .0) refl $ move ! (1 ∷ []) $
         peeks ! P.the-row (Is P.the-row) (shows 𝓤 H A P.the-row) ans (u ∷ []) (λ is. land ! (from ! (stop !)) (init ! 15 refl (EL.lawful P.the-type P′.the-laws 𝓤 H A W tt .typed ans _ is .0)) $
         -- the new lifetime is ended, and the array's memory is back: [the result; the tokens; what bytes owns; the lender's part; _6; …]
         move ! (1 ∷ []) $ split ! $ lft-end ! tt $ move ! (0 ∷ 4 ∷ []) $ lent-back ! tt $ use1 W (some (λ (v : Val). ‵ (fat fullShare rows-ty l₄ 0 v))) (back 𝓤 H A W rows long l₄) $ pick ! (λ w. move ! (2 ∷ 1 ∷ 3 ∷ []) $
         -- [the result; the token; what bytes owns; _4; _6; …; _5; …; …; _3; …; _2; …; _1; …; _0; …]
         returns ! (look ! 15 refl) $ forget ! 3 refl $ forget ! 4 refl $ forget ! 6 refl $ forget ! 9 refl $ forget ! 11 refl $ forget ! 13 refl $ forget ! 15 refl $
         move ! (15 ∷ 16 ∷ []) $ free1 ! $ move ! (13 ∷ 14 ∷ []) $ free1 ! $ move ! (11 ∷ 12 ∷ []) $ free1 ! $ move ! (9 ∷ 10 ∷ []) $ free1 ! $ move ! (3 ∷ 8 ∷ []) $ free1 ! $ move ! (5 ∷ 6 ∷ []) $ free1 ! $ move ! (3 ∷ 4 ∷ []) $ free1 ! $ free0 ! $
-        by ! (exits u)))))))))))))))
+        by ! (exits (e .1) u)))))))))))))))
 
 module _ {M : Type 1} (𝓤 : URA M) (H : Heap 𝓤) (A : Atoms 𝓤) (W : Given 𝓤 H A) (mem : Memory → SProp 𝓤) (run : Routine → Fun 𝓤) where
   pair-all-walks : (C : Calls 𝓤 H) (Λ : Loops 𝓤 H) → FmC 𝓤 H (W .laws) C → Triple 𝓤 (C #pairing·pair) (Pair 𝓤 H A mem run)
