@@ -1,14 +1,14 @@
 -- What each case of an answer reports: "Where an answer is an enum, a definition gives this paper's number and values
 -- for each of the enum's cases." `Report` is that of `der`.
-use mathlib.Core.List.{[], _∷_, _++_}
+use mathlib.Core.List.{[]}
 use Rattle.der.specs.Report.{Report, passing, refusing}
-use Rattle.pkcs12.specs.Report.{rangeValues}
+use Rattle.pkcs12.specs.Report.{attributeValues}
 use Rattle.attributes.specs.declared.Item.{Item}
 use Rattle.attributes.specs.declared.Item.the-variants.{Ready, Done}
 
 -- what a call gave: of an attribute its bag, its identifier and its values from and to
 unfoldable pub itemReport : Item → Report
 itemReport Ready = passing []
-itemReport (Item.Attribute r) = passing (r .bag ∷ (rangeValues (r .identifier) ++ rangeValues (r .values)))
+itemReport (Item.Attribute r) = passing (attributeValues r)
 itemReport Done = passing []
 itemReport (Item.Refused f) = refusing f

@@ -1,9 +1,13 @@
 // The identity rows of a table's bags, and the certificate for a key's bag.
 ghost use mathlib.Core.Path.{_≡_};
 ghost use lib.ListN.{getD};
+ghost use Rattle.der.specs.Span.{Bytes};
+ghost use Rattle.pkcs12.specs.Report.{writtenReport};
 ghost use Rattle.pkcs12.specs.Table.{noBag};
 ghost use Rattle.pairing.specs.Pairs.{noIdentity};
+ghost use Rattle.pairing.specs.Report.{pairedReport};
 ghost use Rattle.identities.specs.Identities.{isLocalKey, keyRow, idIn, idOf, identityOf, identityAt, identityRows, certificateFor};
+ghost use Rattle.identities.specs.Report.{identityReport};
 ghost use Rattle.identities.specs.Filling.{refusedFilling, fillingOf, fillOf};
 use attributes::Item;
 use der::Cursor;
@@ -141,6 +145,8 @@ fn row_of(table: Table, bytes: &[u8], bag: usize) -> IdentityRow
 // The identity row of a bag of a table over bytes; refused as opening its attributes is.
 pub fn identity_of(table: Table, bytes: &[u8], bag: usize) -> Identity
     ensures { λ r. ⌜ r ≡ identityAt table (now (bytes .entry)) bag ⌝ }
+    ensures { λ r. ⌜ identityReport r ≡ identityReport (identityAt table (now (bytes .entry)) bag) ⌝ }
+    ensures { λ _. ⌜ Bytes (now (bytes .entry)) ⌝ }
 {
     let position = attributes::opening(table, bytes, bag);
     let item = position.item;
@@ -169,6 +175,8 @@ fn rows_of(table: Table, bytes: &[u8]) -> [IdentityRow; pkcs12::BAG_ROWS]
 // The certificate for the key in bag row `key` of a table over bytes, by its bag row.
 pub fn certificate_for(table: Table, bytes: &[u8], key: usize) -> Paired
     ensures { λ r. ⌜ r ≡ certificateFor table (now (bytes .entry)) key ⌝ }
+    ensures { λ r. ⌜ pairedReport r ≡ pairedReport (certificateFor table (now (bytes .entry)) key) ⌝ }
+    ensures { λ _. ⌜ Bytes (now (bytes .entry)) ⌝ }
 {
     match sound::measure(table, bytes) {
         Measured::Unsound => Paired::Refused(Fault {
@@ -226,8 +234,10 @@ fn row_at(filling: Filling, i: usize) -> IdentityRow
 
 // Stores the identity rows of all bags at the front of the caller's rows.
 pub fn fill(table: Table, bytes: &[u8], out: &mut [IdentityRow]) -> Written
-    ensures answer { λ r. ⌜ r ≡ fillOf table (now (bytes .entry)) (now (out .entry)) .answer ⌝ }
-    ensures rows { λ r. ⌜ now (out .exit) ≡ fillOf table (now (bytes .entry)) (now (out .entry)) .rows ⌝ }
+    ensures { λ r. ⌜ r ≡ fillOf table (now (bytes .entry)) (now (out .entry)) .answer ⌝ }
+    ensures { λ r. ⌜ writtenReport r ≡ writtenReport (fillOf table (now (bytes .entry)) (now (out .entry)) .answer) ⌝ }
+    ensures { λ _. ⌜ now (out .exit) ≡ fillOf table (now (bytes .entry)) (now (out .entry)) .rows ⌝ }
+    ensures { λ _. ⌜ Bytes (now (bytes .entry)) ⌝ }
 {
     let found = prepared(table, bytes, out.len());
     let n = found.count;

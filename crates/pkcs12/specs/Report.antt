@@ -9,6 +9,7 @@ use Rattle.pkcs12.specs.declared.Range.{Range}
 use Rattle.pkcs12.specs.declared.Parts.{Parts}
 use Rattle.pkcs12.specs.declared.BagKind.{BagKind}
 use Rattle.pkcs12.specs.declared.BagKind.the-variants.{Key, ShroudedKey, Certificate, Crl, Secret, Nested}
+use Rattle.pkcs12.specs.declared.AttributeRow.{AttributeRow}
 use Rattle.pkcs12.specs.declared.Mac.{Mac}
 use Rattle.pkcs12.specs.declared.Answer.{Answer}
 use Rattle.pkcs12.specs.declared.Answer.the-variants.{Accepted}
@@ -38,12 +39,26 @@ kindReport Secret = passing (5 ∷ [])
 kindReport Nested = passing (6 ∷ [])
 kindReport BagKind.None = refusing (fault 7 0)
 
+-- the number of a kind, 0 for none
+abbrev pub bagNumber : BagKind → ℕ
+bagNumber BagKind.None = 0
+bagNumber Key = 1
+bagNumber ShroudedKey = 2
+bagNumber Certificate = 3
+bagNumber Crl = 4
+bagNumber Secret = 5
+bagNumber Nested = 6
+
 -- a range, a cursor: from and to
 abbrev pub rangeValues : Range → List ℕ
 rangeValues r = r .start ∷ r .end ∷ []
 
 abbrev pub cursorValues : Cursor → List ℕ
 cursorValues c = c .at ∷ c .end ∷ []
+
+-- an attribute row: its bag, its identifier, its values
+abbrev pub attributeValues : AttributeRow → List ℕ
+attributeValues r = r .bag ∷ (rangeValues (r .identifier) ++ rangeValues (r .values))
 
 abbrev pub partsValues : Parts → List ℕ
 partsValues p = rangeValues (p .identifier) ++ (rangeValues (p .parameters) ++ rangeValues (p .value))

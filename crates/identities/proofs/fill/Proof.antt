@@ -24,7 +24,7 @@ use ghost.Atoms.{Atoms, sem}
 use contract.Lifetimes.{Lfts}
 use contract.Monad.{Fun}
 use contract.Running.{givenOf, tables, tablesOf}
-use types.Kit.{Given, Item, ‵, raw, _⊛_, ⋆, later, runs, prop, post, anyQ, atRet, Sq, _$_, _∵_, !, qed, by, move, keep, drop, use0, use1, use2, split, join, rewrite, fsplit, fjoin, suffices, frame, await, done}
+use types.Kit.{Given, Item, ‵, raw, _⊛_, ⋆, later, given, runs, prop, post, anyQ, atRet, Sq, _$_, _∵_, !, qed, by, move, keep, drop, use0, use1, use2, split, join, learn, rewrite, fsplit, fjoin, suffices, frame, await, done}
 use types.Part.{whole, sub, look-in}
 use types.Run.{look, store, store-raw, init, forget, stop, hop, fld, from, load, lit, of-opd, bin, and-then, no-more, assigns, assigns-last, land, first, blocks, returns, enter, alloc1, alloc0, params1, pass1, pass0, free1, free0, exec, Below, again, loops}
 use sound.WpLaws.{fmOf, WpFn-mono}
@@ -49,6 +49,9 @@ use denote.Triple.Spec.{Meets, tripleOf}
 use denote.Triple.Table.{entered, cited}
 use denote.Triple.Walked.{Stays, stay-dropped, stay-none-slice, stay-slice, walkOf, AllGo, goes-dropped, goes-none-slice, goes-slice, Walks, ends-at, walked, walk-meets}
 use denote.Exit.{yes}
+use Rattle.der.specs.Span.{Bytes}
+use Rattle.der.proofs.Exits.{says-four}
+use Rattle.pkcs12.specs.Report.{writtenReport}
 use Rattle.pkcs12.specs.declared.Table.{Table}
 use Rattle.pkcs12.specs.declared.Written.{Written}
 use Rattle.pkcs12.proofs.Table as Tb
@@ -57,7 +60,7 @@ use Rattle.pkcs12.proofs.Written as Wr
 use Rattle.pkcs12.proofs.Written.Laws as Wr′
 use Rattle.pairing.specs.Pairs.{noIdentity}
 use Rattle.pairing.specs.declared.IdentityRow.{IdentityRow}
-use Rattle.pairing.proofs.Walks.{tests, says-both, gave}
+use Rattle.pairing.proofs.Walks.{tests, slice-bytes, gave}
 use Rattle.pairing.proofs.Folds.{offset-fits}
 use Rattle.pairing.proofs.IdentityRow as I
 use Rattle.pairing.proofs.IdentityRow.Laws as I′
@@ -179,12 +182,12 @@ module _ {M : Type 1} (𝓤 : URA M) (H : Heap 𝓤) (A : Atoms 𝓤) (W : Given
   Seen zs = fobs γ (codedHoleys I.the-row .code (heres I.the-row zs))
 
   -- from what is had at exit to what the walk owes: the rows' last list is zs, which is as long as the one passed
-  exits : (r : Written) (zs : List IdentityRow) → Room I.the-row n → length zs ≡ n → r ≡ fillOf table (now ys) xs .answer → zs ≡ fillOf table (now ys) xs .rows → Is Wr.the-row r (lowAnswer r ∷ [])
+  exits : (r : Written) (zs : List IdentityRow) → Room I.the-row n → length zs ≡ n → r ≡ fillOf table (now ys) xs .answer → zs ≡ fillOf table (now ys) xs .rows → Bytes (now ys) → Is Wr.the-row r (lowAnswer r ∷ [])
       → ent 𝓤 (⋆ 𝓤 H A (‵ (Seen zs) ∷ ‵ (fbor κ′ (Held I.the-row (length zs) b o γ)) ∷ ‵ (flft κ′ q′) ∷ ‵ (flft κ q) ∷ ‵ OwnBytes ∷ [])) (Post (lowAnswer r))
-  exits r zs room long e e′ is =
+  exits r zs room long e e′ h is =
       qed W (‵ (Seen zs) ∷ ‵ (fbor κ′ (Held I.the-row (length zs) b o γ)) ∷ ‵ (flft κ′ q′) ∷ ‵ (flft κ q) ∷ ‵ OwnBytes ∷ []) ∵
       suffices ! _ (ends-at 𝓤 H A fill.ended stayed (fill.clauses 𝓤 H A mem run) W bound (lowAnswer r) r (tt, (tt, (zs, tt))) (tt, (tt, (long, tt)))) $
-      says-both ! e e′ $
+      says-four ! e (ap writtenReport e) e′ h $
       -- the tokens
       nothing ! $ move ! (3 ∷ 0 ∷ []) $ join ! $ move ! (3 ∷ 0 ∷ []) $ join ! $ frame ! $
       -- [obs; the borrow; what the bytes own]: with the fact on the machine value it is what the rows own
@@ -245,7 +248,7 @@ module _ {M : Type 1} (𝓤 : URA M) (H : Heap 𝓤) (A : Atoms 𝓤) (W : Given
     abbrev next : (x : Now) → x .pos < m → Now
     next x l = record { pos = x .pos + 1; le = add-one-le l }
 
-    module _ (𝓣 : Tables 𝓤 H) (room : Room I.the-row n) (few : m ≤ n) (e : found .answer ≡ fillOf table (now ys) xs .answer) (e′ : cur m ≡ fillOf table (now ys) xs .rows)
+    module _ (𝓣 : Tables 𝓤 H) (room : Room I.the-row n) (few : m ≤ n) (e : found .answer ≡ fillOf table (now ys) xs .answer) (e′ : cur m ≡ fillOf table (now ys) xs .rows) (h : Bytes (now ys))
         (known : Triple 𝓤 (𝓣 .C #row-at) (RowAt 𝓤 H A mem run)) (l₀ l₁ l₂ l₃ l₄ l₅ l₆ l₇ l₈ l₉ l₁₀ l₁₁ : ℕ) where
       abbrev C : Calls 𝓤 H
       C = 𝓣 .C
@@ -294,7 +297,7 @@ module _ {M : Type 1} (𝓤 : URA M) (H : Heap 𝓤) (A : Atoms 𝓤) (W : Given
           returns ! (look ! 25 refl) $ forget ! 9 refl $ forget ! 11 refl $ forget ! 13 refl $ forget ! 15 refl $ forget ! 17 refl $ forget ! 19 refl $ forget ! 21 refl $ forget ! 23 refl $ forget ! 25 refl $
           move ! (25 ∷ 26 ∷ []) $ free1 ! $ move ! (23 ∷ 24 ∷ []) $ free1 ! $ move ! (21 ∷ 22 ∷ []) $ free1 ! $ move ! (19 ∷ 20 ∷ []) $ free1 ! $ move ! (17 ∷ 18 ∷ []) $ free1 ! $
           move ! (15 ∷ 16 ∷ []) $ free1 ! $ move ! (13 ∷ 14 ∷ []) $ free1 ! $ move ! (11 ∷ 12 ∷ []) $ free1 ! $ move ! (9 ∷ 10 ∷ []) $ free1 ! $ move ! (7 ∷ 8 ∷ []) $ free1 ! $
-          move ! (5 ∷ 6 ∷ []) $ free1 ! $ move ! (3 ∷ 4 ∷ []) $ free1 ! $ free0 ! $ by ! (exits (found .answer) (cur m) room long e e′ is-answer)
+          move ! (5 ∷ 6 ∷ []) $ free1 ! $ move ! (3 ∷ 4 ∷ []) $ free1 ! $ free0 ! $ by ! (exits (found .answer) (cur m) room long e e′ h is-answer)
         where
           all-of : x .pos ≡ m
           all-of = le-antisymm (x .le) (nltb→le (x .pos) m over)
@@ -409,7 +412,9 @@ module _ {M : Type 1} (𝓤 : URA M) (H : Heap 𝓤) (A : Atoms 𝓤) (W : Given
         -- the tokens and what the parameters own are taken apart
         move ! (24 ∷ []) $ split ! $ move ! (1 ∷ []) $ split ! $ move ! (1 ∷ []) $ drop ! $ move ! (26 ∷ []) $ fsplit ! $ drop ! $ fsplit ! $ move ! (1 ∷ []) $ fsplit ! $ fsplit ! $ drop ! $ fsplit ! $
         -- [obs; the borrow; true; what the bytes own; κ′'s token; κ's token; _11; …]
-        move ! (3 ∷ 5 ∷ []) $ use2 W (raw (Prepared 𝓤 H A mem run .pre to-prepared) ⊛ ‵ OwnBytes) (gives (room .0) is-table) $ split ! $
+        move ! (3 ∷ 5 ∷ []) $
+        use2 W (later (given (Bytes (now ys)) (‵ OwnBytes ⊛ ‵ (flft κ q)))) (slice-bytes 𝓤 H A W (named 0) κ q ys) $ await ! tt $ learn ! (λ h. split ! $
+        use2 W (raw (Prepared 𝓤 H A mem run .pre to-prepared) ⊛ ‵ OwnBytes) (gives (room .0) is-table) $ split ! $
         calls-at ! (fmOf 𝓤 H (W .laws) 𝓣) (Prepared 𝓤 H A mem run) known-prepared to-prepared
         (and-then ! (load ! (from ! (stop !)) (look ! 26 refl)) (and-then ! (load ! (from ! (stop !)) (look ! 24 refl)) (and-then ! (load ! (from ! (stop !)) (look ! 14 refl)) (no-more !)))) (λ v.
         use1 W (later ((‵ (flft κ q) ⊛ ‵ ftrue) ⊛ ‵ (F.the-row .own found₀ (v ∷ [])))) (gave 𝓤 H A W prepared.ended (prepared.clauses 𝓤 H A mem run) to-prepared found₀ v (λ r e. id⊢ 𝓤 _)) $ await ! tt $ split ! $ split ! $ move ! (2 ∷ []) $
@@ -419,7 +424,7 @@ module _ {M : Type 1} (𝓤 : URA M) (H : Heap 𝓤) (A : Atoms 𝓤) (W : Given
         rewrite ! 21 (λ (u : Val). ‵ (fat fullShare F′.mir l₄ 0 u)) (ap only (LL.tells F.the-type F′.the-laws found₀ (v ∷ []) is)) refl $
         keep ! (7 ∷ 8 ∷ 9 ∷ 10 ∷ 11 ∷ 12 ∷ 13 ∷ 14 ∷ 15 ∷ 16 ∷ 17 ∷ 18 ∷ 19 ∷ 20 ∷ 21 ∷ 22 ∷ 23 ∷ 24 ∷ 25 ∷ 26 ∷ 27 ∷ 28 ∷ 29 ∷ 30 ∷ 3 ∷ 4 ∷ 6 ∷ 0 ∷ 2 ∷ []) $
         opened found₀ (subst (Is F.the-row found₀) (LL.tells F.the-type F′.the-laws found₀ (v ∷ []) is) is) 𝓣 room
-        (fill-count table (now ys) xs) (fill-answer table (now ys) xs) (fill-rows table (now ys) xs) known-row l₀ l₁ l₂ l₃ l₄ l₅ l₆ l₇ l₈ l₉ l₁₀ l₁₁))
+        (fill-count table (now ys) xs) (fill-answer table (now ys) xs) (fill-rows table (now ys) xs) h known-row l₀ l₁ l₂ l₃ l₄ l₅ l₆ l₇ l₈ l₉ l₁₀ l₁₁)))
 
   walk : (𝓣 : Tables 𝓤 H) → Room I.the-row n → Is Tb.the-row table (tableVal ∷ []) → Is (ShrSlice (named 0) κ u8) ys (bytesVal ∷ []) → Triple 𝓤 (𝓣 .C #prepared) (Prepared 𝓤 H A mem run) → Triple 𝓤 (𝓣 .C #row-at) (RowAt 𝓤 H A mem run)
       → ent 𝓤 (onEntry 𝓤 H A fill.signature κs (q, (q′, tt)) args at) (WpFn 𝓤 H (𝓣 .C) (𝓣 .Λ) code.function (tableVal ∷ bytesVal ∷ outVal ∷ []) Post)

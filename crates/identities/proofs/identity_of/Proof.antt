@@ -1,4 +1,6 @@
 -- Opening the bag's attributes was refused or not.
+use Rattle.der.proofs.Promised.{promised}
+use Rattle.identities.specs.Report.{identityReport}
 use Rattle.identities.proofs.Rules.{opened-refused, opened-ready, opened-given, opened-done}
 use borrow.Author.Needs.{needs}
 use Rattle.identities.proofs.identity_of.Statement.{statement}
@@ -29,16 +31,24 @@ row-of-requires-3 : tie.Need-row-of-requires-3
 row-of-requires-3 c κs = search needs
 
 returns : tie.Need-returns
-returns c = opened-refused _ _ _ _ (c .before .before .before .opening .ensures) _ (c .before .item .given .1)
+returns c =
+    let o = c .before .before .before .opening .ensures in
+    promised identityReport (opened-refused _ _ _ _ (o .0) _ (c .before .item .given .1)) (o .1 .1)
 
 returns-2 : tie.Need-returns-2
-returns-2 c = opened-ready _ _ _ _ (c .before .before .before .opening .ensures) _ (c .row-of .ensures) (c .before .enum-told .given .1)
+returns-2 c =
+    let o = c .before .before .before .opening .ensures in
+    promised identityReport (opened-ready _ _ _ _ (o .0) _ (c .row-of .ensures) (c .before .enum-told .given .1)) (o .1 .1)
 
 returns-3 : tie.Need-returns-3
-returns-3 c = opened-given _ _ _ _ (c .before .before .before .opening .ensures) _ (c .row-of2 .ensures) _ (c .before .enum-told2 .given .1)
+returns-3 c =
+    let o = c .before .before .before .opening .ensures in
+    promised identityReport (opened-given _ _ _ _ (o .0) _ (c .row-of2 .ensures) _ (c .before .enum-told2 .given .1)) (o .1 .1)
 
 returns-4 : tie.Need-returns-4
-returns-4 c = opened-done _ _ _ _ (c .before .before .before .opening .ensures) _ (c .row-of3 .ensures) (c .before .enum-told3 .given .1)
+returns-4 c =
+    let o = c .before .before .before .opening .ensures in
+    promised identityReport (opened-done _ _ _ _ (o .0) _ (c .row-of3 .ensures) (c .before .enum-told3 .given .1)) (o .1 .1)
 
 pub identity-of-spec : {M : Type 1} → statement M
 identity-of-spec =
