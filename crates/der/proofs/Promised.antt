@@ -21,3 +21,7 @@ reported report e = (e, ap report e)
 -- the same with a further promise
 pub promised : {A B : Type 0} {r x : A} (report : A → Report) → r ≡ x → B → (r ≡ x) × ((report r ≡ report x) × B)
 promised report e h = (e, (ap report e, h))
+
+-- the same of both at once
+pub reporting : {A B : Type 0} {r x : A} (report : A → Report) → (r ≡ x) × B → (r ≡ x) × ((report r ≡ report x) × B)
+reporting report p = promised report (p .0) (p .1)

@@ -1,6 +1,7 @@
 // Writes the listing of a file into a lent buffer: three lines and one for each row, or the line of a refusal. docs/TESTS.md has the forms.
 ghost use mathlib.Core.Path.{_≡_};
 ghost use lib.ListN.{length};
+ghost use Rattle.pkcs12.specs.Report.{writtenReport};
 ghost use Rattle.listing.specs.Lines.{headLines, acceptedLines, answered, listing};
 ghost use Rattle.listing.specs.Listed.{listed};
 ghost use Rattle.listing.specs.Put.{Put};
@@ -57,6 +58,7 @@ fn measured(size: usize, reading: Reading) -> usize
 // Writes the listing of a file of this size. Nothing is written before it is known that the buffer has room.
 pub fn list(size: usize, reading: Reading, out: &mut [u8]) -> Written
     ensures { λ r. ⌜ r ≡ listed size reading (now (out .entry)) .answer ⌝ }
+    ensures { λ r. ⌜ writtenReport r ≡ writtenReport (listed size reading (now (out .entry)) .answer) ⌝ }
     ensures { λ _. ⌜ now (out .exit) ≡ listed size reading (now (out .entry)) .buffer ⌝ }
 {
     let n = measured(size, reading);

@@ -23,6 +23,8 @@ use Rattle.pkcs12.specs.declared.AttributeRow.{AttributeRow}
 use Rattle.pkcs12.specs.declared.Mac.{Mac}
 use Rattle.pkcs12.specs.declared.Table.{Table}
 use Rattle.words.specs.Layout.{safeWidth, bagWidth, attributeWidth, tableWords, greatestWord}
+-- the words of these are the values that they report
+pub use Rattle.pkcs12.specs.Report.{bagNumber, rangeValues as rangeWords, partsValues as partsWords, attributeValues as attributeWords, macValues as macWords}
 
 -- a count that doesn't fit a word is the greatest word
 abbrev pub countWord : ℕ → ℕ
@@ -33,15 +35,6 @@ safeNumber SafeKind.None = 0
 safeNumber Plain = 1
 safeNumber Encrypted = 2
 
-abbrev pub bagNumber : BagKind → ℕ
-bagNumber BagKind.None = 0
-bagNumber Key = 1
-bagNumber ShroudedKey = 2
-bagNumber Certificate = 3
-bagNumber Crl = 4
-bagNumber Secret = 5
-bagNumber Nested = 6
-
 abbrev pub enclosingNumber : Enclosing → ℕ
 enclosingNumber Enclosing.None = 0
 enclosingNumber (Bag n) = n + 1
@@ -50,23 +43,11 @@ abbrev pub setNumber : Bool → ℕ
 setNumber false = 0
 setNumber true = 1
 
-abbrev pub rangeWords : Range → List ℕ
-rangeWords r = r .start ∷ r .end ∷ []
-
-abbrev pub partsWords : Parts → List ℕ
-partsWords p = rangeWords (p .identifier) ++ (rangeWords (p .parameters) ++ rangeWords (p .value))
-
 abbrev pub safeWords : SafeRow → List ℕ
 safeWords r = safeNumber (r .kind) ∷ partsWords (r .parts)
 
 abbrev pub bagWords : BagRow → List ℕ
 bagWords r = bagNumber (r .kind) ∷ r .safe ∷ enclosingNumber (r .enclosing) ∷ (partsWords (r .parts) ++ (setNumber (r .«has_set») ∷ []))
-
-abbrev pub attributeWords : AttributeRow → List ℕ
-attributeWords r = r .bag ∷ (rangeWords (r .identifier) ++ rangeWords (r .values))
-
-abbrev pub macWords : Mac → List ℕ
-macWords m = partsWords (m .parts) ++ (rangeWords (m .salt) ++ (m .iterations ∷ []))
 
 abbrev pub countWords : ℕ → ℕ → ℕ → ℕ → List ℕ
 countWords n i j k = countWord n ∷ countWord i ∷ countWord j ∷ countWord k ∷ []

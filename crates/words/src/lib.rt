@@ -2,6 +2,7 @@
 ghost use mathlib.Core.Path.{_≡_};
 ghost use Rattle.der.specs.Element.{fault};
 ghost use Rattle.pkcs12.specs.Numbers.{noRoom};
+ghost use Rattle.pkcs12.specs.Report.{writtenReport};
 ghost use Rattle.pkcs12.specs.declared.Written.{Written};
 ghost use Rattle.words.specs.Stored.{stored, storedRow};
 ghost use Rattle.words.specs.Loaded.{rangeOf, tableIn};
@@ -88,6 +89,7 @@ fn too_few() -> Written
 // Stores a table as words at the front of the memory, and gives their number; 10 if there are fewer.
 pub fn store(table: Table, out: &mut [u32]) -> Written
     ensures { λ r. ⌜ r ≡ stored table (now (out .entry)) .answer ⌝ }
+    ensures { λ r. ⌜ writtenReport r ≡ writtenReport (stored table (now (out .entry)) .answer) ⌝ }
     ensures { λ _. ⌜ now (out .exit) ≡ stored table (now (out .entry)) .buffer ⌝ }
 {
     if out.len() < TABLE_WORDS {
@@ -100,6 +102,7 @@ pub fn store(table: Table, out: &mut [u32]) -> Written
 // Stores one attribute row as words, as it stands in a table; 10 if there are fewer.
 pub fn store_row(row: AttributeRow, out: &mut [u32]) -> Written
     ensures { λ r. ⌜ r ≡ storedRow row (now (out .entry)) .answer ⌝ }
+    ensures { λ r. ⌜ writtenReport r ≡ writtenReport (storedRow row (now (out .entry)) .answer) ⌝ }
     ensures { λ _. ⌜ now (out .exit) ≡ storedRow row (now (out .entry)) .buffer ⌝ }
 {
     if out.len() < ATTRIBUTE_WIDTH {

@@ -1,5 +1,7 @@
 -- The refusal first; then the listing is written.
 use native.Mathlib.Omega.{arith}
+use Rattle.der.proofs.Promised.{reporting}
+use Rattle.pkcs12.specs.Report.{writtenReport}
 use Rattle.listing.specs.Lines.{listing}
 use Rattle.listing.proofs.Short.{short}
 use Rattle.listing.proofs.Whole.{no-room, wrote}
@@ -11,7 +13,7 @@ measured-requires : tie.Need-measured-requires
 measured-requires c κs = search needs
 
 returns : tie.Need-returns
-returns c = no-room _ _ _ (c .before .measured .ensures) (omega (arith, c .if1 .taken))
+returns c = reporting writtenReport (no-room _ _ _ (c .before .measured .ensures) (omega (arith, c .if1 .taken)))
 
 answered-requires : tie.Need-answered-requires
 answered-requires c κs = search needs
@@ -23,8 +25,8 @@ returns-2 : tie.Need-returns-2
 unfolding listing
 returns-2 c =
     let a = c .before .before .before .before in
-    wrote _ _ _ (a .before .measured .ensures) (a .if1 .left) (short _ _) _ _
-    (c .before .before .answered .ensures)
+    reporting writtenReport
+    (wrote _ _ _ (a .before .measured .ensures) (a .if1 .left) (short _ _) _ _ (c .before .before .answered .ensures))
 
 pub list-spec : {M : Type 1} → statement M
 list-spec = tie.close (tie.spec measured-requires returns answered-requires same-length returns-2)

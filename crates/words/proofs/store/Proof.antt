@@ -1,4 +1,6 @@
 -- Refused where there are too few words; else the whole is stored (Whole).
+use Rattle.der.proofs.Promised.{promised}
+use Rattle.pkcs12.specs.Report.{writtenReport}
 use Rattle.pkcs12.proofs.Placing.{refusal-answer, refusal-buffer}
 use native.Mathlib.Omega.{arith}
 use Rattle.words.proofs.Whole.{few-for-table, table-answer, table-memory}
@@ -10,7 +12,11 @@ too-few-requires : tie.Need-too-few-requires
 too-few-requires c κs = search needs
 
 returns : tie.Need-returns
-returns c = (refusal-answer _ _ _ (few-for-table (c .before .before .before .args .table) _ (omega (arith, c .before .if1 .taken))) _ (c .too-few .ensures), refusal-buffer _ _ _ (few-for-table (c .before .before .before .args .table) _ (omega (arith, c .before .if1 .taken))))
+returns c =
+    let x = c .before .before .before .args .table in
+    promised writtenReport
+    (refusal-answer _ _ _ (few-for-table x _ (omega (arith, c .before .if1 .taken))) _ (c .too-few .ensures))
+    (refusal-buffer _ _ _ (few-for-table x _ (omega (arith, c .before .if1 .taken))))
 
 all-requires : tie.Need-all-requires
 all-requires c κs = search needs
@@ -19,7 +25,12 @@ same-length : tie.Need-same-length
 same-length c = search needs
 
 returns-2 : tie.Need-returns-2
-returns-2 c = (table-answer (c .before .before .before .before .before .before .args .table) _ (omega (arith, c .before .before .before .before .if1 .left)) _ (omega arith), table-memory (c .before .before .before .before .before .before .args .table) _ (omega (arith, c .before .before .before .before .if1 .left)) _ _ (c .before .before .all .ensures))
+returns-2 c =
+    let f = c .before .before .before .before in
+    let x = f .before .before .args .table in
+    promised writtenReport
+    (table-answer x _ (omega (arith, f .if1 .left)) _ (omega arith))
+    (table-memory x _ (omega (arith, f .if1 .left)) _ _ (c .before .before .all .ensures))
 
 pub store-spec : {M : Type 1} → statement M
 store-spec = tie.close (tie.spec too-few-requires returns all-requires same-length returns-2)
