@@ -25,3 +25,7 @@ promised report e h = (e, (ap report e, h))
 -- the same of both at once
 pub reporting : {A B : Type 0} {r x : A} (report : A → Report) → (r ≡ x) × B → (r ≡ x) × ((report r ≡ report x) × B)
 reporting report p = promised report (p .0) (p .1)
+
+pub reporting-with : {A B C : Type 0} {r x : A} (report : A → Report) → (r ≡ x) × B → C
+    → (r ≡ x) × ((report r ≡ report x) × (B × C))
+reporting-with report p h = promised report (p .0) (p .1, h)

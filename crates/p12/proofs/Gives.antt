@@ -33,6 +33,13 @@ use Rattle.pair_lines.specs.Listed.{pairsListed}
 use Rattle.p12.specs.Calls.{done, readNumber, readOffset, writtenNumber, Called, called, wrote, put, readCall, onTable, writeCall, itemAs, attributeCall, certificateCall, listCall}
 use Rattle.p12.specs.Calls.{pairsCall}
 
+-- two or three promises of a call, and that its slice holds bytes
+pub two-and : {A B C : Type 0} → A × B → C → A × (B × C)
+two-and p h = (p .0, (p .1, h))
+
+pub three-and : {A B C D : Type 0} → A × (B × C) → D → A × (B × (C × D))
+three-and p h = (p .0, (p .1 .0, (p .1 .1, h)))
+
 -- what a call gives is this
 abbrev pub Gives : Called → ℕ → List ℕ → ℕ → Type 0
 Gives c n m v = (n ≡ c .number) × ((m ≡ c .memory) × (v ≡ c .value))

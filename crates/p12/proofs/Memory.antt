@@ -9,6 +9,7 @@ use Rattle.der.specs.declared.Fault.{Fault}
 use Rattle.der.proofs.Choices.{at-lt, at-not-lt}
 use Rattle.pkcs12.specs.Numbers.{noRoom}
 use Rattle.pkcs12.specs.Accepted.{IsAccepted, tableFrom}
+use Rattle.pkcs12.specs.Report.{answerReport, writtenReport}
 use Rattle.pkcs12.specs.Walk.{readFile}
 use Rattle.pkcs12.specs.Written.{writeFile}
 use Rattle.pkcs12.specs.declared.Answer.{Answer}
@@ -42,10 +43,12 @@ module _ (f words : List ℕ) (h : tableWords ≤ length words) where
       rw told-is (omega (arith, a, words-count (tableFrom f)))
 
   pub read-stores : IsAccepted f → readCall f words ≡ called ok (wordsOf (tableFrom f) ++ drop tableWords words) 0
+  unfolding answerReport
   read-stores a = told-is ∙ ap (λ (x : Answer). told x (tableFrom f)) a
 
   pub refused-is-cleared : (x : Fault) → readFile f .answer ≡ Answer.Refused x
       → readCall f words ≡ called (x .number) (replicate tableWords 0 ++ drop tableWords words) (x .offset)
+  unfolding answerReport
   refused-is-cleared x e =
       told-is
       ∙ ap (λ (y : Answer). told y (tableFrom f)) e
@@ -68,7 +71,7 @@ module _ (f words : List ℕ) (h : tableWords ≤ length words) where
 
     pub read-then-write : IsAccepted f → (room : List ℕ) → length f ≤ length room
         → writeCall (readCall f words .memory) f room ≡ called ok (f ++ drop (length f) room) (length f)
-    unfolding writeCall
+    unfolding writeCall writtenReport
     read-then-write a room k =
         sym (at-not-lt _ _ _ _ _ still-long refl)
         ∙ ap (λ (t : Table). wrote (writeFile t f room)) read-is-loaded

@@ -12,6 +12,7 @@ use Rattle.der.proofs.Choices.{at-lt, at-not-lt}
 use Rattle.pkcs12.specs.Numbers.{notSound}
 use Rattle.pkcs12.specs.Table.{noMac, rowsIn, tableOf, emptyTable}
 use Rattle.pkcs12.specs.Checks.{countsFit, all, lies, namesType, isSealed, macTest, rowsTest, keepsRules}
+use Rattle.pkcs12.specs.Report.{writtenReport}
 use Rattle.pkcs12.specs.Written.{fileOf, writeFile}
 use Rattle.pkcs12.specs.declared.Table.{Table}
 use Rattle.attributes.specs.Reader.{refusedBy, openingOf, itemAfter}
@@ -48,7 +49,7 @@ module _ (words s : List ℕ) where
     table-is none good = sym (at-not-lt _ _ _ _ _ h refl)
 
     write-is-11 : (room : List ℕ) → writeCall words s room ≡ called notSound room 0
-    unfolding writeCall writeFile
+    unfolding writeCall writeFile writtenReport
     write-is-11 room = table-is _ (λ (t : Table). wrote (writeFile t s room)) ∙ rw e refl
 
     opening-is-11 : (bag : ℕ) → openingOf (tableIn words) s bag .item ≡ Item.Refused (fault notSound 0)

@@ -3,22 +3,21 @@ use mathlib.Core.Path.{_≡_}
 use mathlib.Core.List.{List, _++_}
 use Prim.Native.Nat.{ℕ}
 use lib.Dec.{ltb}
-use lib.ListN.{length, drop}
+use lib.ListN.{length, getD, drop}
 use Rattle.der.specs.Choice.{if_then_else_}
 use Rattle.pkcs12.specs.Numbers.{noRoom, notSound}
+use Rattle.pkcs12.specs.Report.{answerReport, writtenReport}
 use Rattle.pkcs12.specs.Walk.{readFile}
 use Rattle.pkcs12.specs.Written.{Outcome, lengthOf, writeFile}
 use Rattle.pkcs12.specs.declared.Table.{Table}
 use Rattle.pkcs12.specs.declared.Answer.{Answer}
-use Rattle.pkcs12.specs.declared.Answer.the-variants.{Accepted}
 use Rattle.pkcs12.specs.declared.Written.{Written}
-use Rattle.pkcs12.specs.declared.Written.the-variants.{Length}
 use Rattle.attributes.specs.Reader.{openingOf, itemAfter}
 use Rattle.attributes.specs.declared.Item.{Item}
 use Rattle.attributes.specs.declared.Item.the-variants.{Ready, Done}
 use Rattle.pairing.specs.Pairs.{refusedBy}
+use Rattle.pairing.specs.Report.{pairedReport}
 use Rattle.pairing.specs.declared.Paired.{Paired}
-use Rattle.pairing.specs.declared.Paired.the-variants.{Certificate}
 use Rattle.identities.specs.Identities.{certificateFor}
 use Rattle.words.specs.Layout.{tableWords}
 use Rattle.words.specs.Stored.{wordsOf, storedRow}
@@ -34,27 +33,23 @@ ok = 0
 abbrev pub done : ℕ
 done = 255
 
+-- the number and the offset that an answer of reading reports
 abbrev pub readNumber : Answer → ℕ
-readNumber Accepted = ok
-readNumber (Answer.Refused f) = f .number
+readNumber a = answerReport a .number
 
--- the offset of a refusal, 0 where there is none
 abbrev pub readOffset : Answer → ℕ
-readOffset Accepted = 0
-readOffset (Answer.Refused f) = f .offset
+readOffset a = answerReport a .place
 
+-- the number that an answer of writing reports
 abbrev pub writtenNumber : Written → ℕ
-writtenNumber (Length n) = ok
-writtenNumber (Written.Refused f) = f .number
+writtenNumber w = writtenReport w .number
 
+-- the number that an answer of pairing reports, and the row of a certificate, 0 where there is none
 abbrev pub pairedNumber : Paired → ℕ
-pairedNumber (Certificate n) = ok
-pairedNumber (Paired.Refused f) = f .number
+pairedNumber p = pairedReport p .number
 
--- the row of a certificate, 0 where there is none
 abbrev pub pairedRow : Paired → ℕ
-pairedRow (Certificate n) = n
-pairedRow (Paired.Refused f) = 0
+pairedRow p = getD (pairedReport p .values) 0 0
 
 -- what a call gives: its number, the memory that it writes to, and the value behind a pointer
 pub record Called : Type 0 where

@@ -1,6 +1,7 @@
 // The calls for programs in C; include/p12.h says in C's words what each does. A slice is a pointer and a length there.
 ghost use mathlib.Core.Path.{_≡_};
 ghost use lib.Dec.{ltb};
+ghost use Rattle.der.specs.Span.{Bytes};
 ghost use Rattle.pkcs12.specs.Walk.{readFile};
 ghost use Rattle.pkcs12.specs.Written.{lengthOf};
 ghost use Rattle.attributes.specs.Elements.{elementRanges, countedOf};
@@ -100,6 +101,7 @@ pub extern "C" fn p12_read(file: &[u8], table: &mut [u32], offset: &mut usize) -
     ensures { λ r. ⌜ r ≡ readCall (now (file .entry)) (now (table .entry)) .number ⌝ }
     ensures { λ _. ⌜ now (table .exit) ≡ readCall (now (file .entry)) (now (table .entry)) .memory ⌝ }
     ensures { λ _. ⌜ now (offset .exit) ≡ readCall (now (file .entry)) (now (table .entry)) .value ⌝ }
+    ensures { λ _. ⌜ Bytes (now (file .entry)) ⌝ }
 {
     if is_short(table.len()) {
         *offset = 0;
@@ -117,6 +119,7 @@ pub extern "C" fn p12_mac_input(file: &[u8], start: &mut usize, end: &mut usize)
     ensures { λ r. ⌜ r ≡ readNumber (readFile (now (file .entry)) .answer) ⌝ }
     ensures { λ _. ⌜ now (start .exit) ≡ readFile (now (file .entry)) .table .«mac_input» .start ⌝ }
     ensures { λ _. ⌜ now (end .exit) ≡ readFile (now (file .entry)) .table .«mac_input» .end ⌝ }
+    ensures { λ _. ⌜ Bytes (now (file .entry)) ⌝ }
 {
     let reading = reader::read(file);
     let answer = reading.answer;
@@ -133,6 +136,7 @@ pub extern "C" fn p12_write(table: &[u32], bytes: &[u8], out: &mut [u8], written
     ensures { λ r. ⌜ r ≡ writeCall (now (table .entry)) (now (bytes .entry)) (now (out .entry)) .number ⌝ }
     ensures { λ _. ⌜ now (out .exit) ≡ writeCall (now (table .entry)) (now (bytes .entry)) (now (out .entry)) .memory ⌝ }
     ensures { λ _. ⌜ now (written .exit) ≡ writeCall (now (table .entry)) (now (bytes .entry)) (now (out .entry)) .value ⌝ }
+    ensures { λ _. ⌜ Bytes (now (bytes .entry)) ⌝ }
 {
     if is_short(table.len()) {
         *written = 0;
@@ -154,6 +158,7 @@ pub extern "C" fn p12_attribute(
 ) -> u8
     ensures { λ r. ⌜ r ≡ attributeCall (now (table .entry)) (now (bytes .entry)) bag i (now (row .entry)) .number ⌝ }
     ensures { λ _. ⌜ now (row .exit) ≡ attributeCall (now (table .entry)) (now (bytes .entry)) bag i (now (row .entry)) .memory ⌝ }
+    ensures { λ _. ⌜ Bytes (now (bytes .entry)) ⌝ }
 {
     if is_short(table.len()) {
         return pkcs12::NOT_SOUND;
@@ -179,6 +184,7 @@ pub extern "C" fn p12_element(
     ensures { λ r. ⌜ r ≡ countedOf (elementRanges (now (bytes .entry)) (rangeOf from to)) i .count ⌝ }
     ensures { λ _. ⌜ now (start .exit) ≡ countedOf (elementRanges (now (bytes .entry)) (rangeOf from to)) i .element .start ⌝ }
     ensures { λ _. ⌜ now (end .exit) ≡ countedOf (elementRanges (now (bytes .entry)) (rangeOf from to)) i .element .end ⌝ }
+    ensures { λ _. ⌜ Bytes (now (bytes .entry)) ⌝ }
 {
     let counted = attributes::element(bytes, words::range_of(from, to), i);
     let range = counted.element;
@@ -197,6 +203,7 @@ pub extern "C" fn p12_certificate_for(
 ) -> u8
     ensures { λ r. ⌜ r ≡ pairedNumber (certificateCall (now (table .entry)) (now (bytes .entry)) key) ⌝ }
     ensures { λ _. ⌜ now (bag .exit) ≡ pairedRow (certificateCall (now (table .entry)) (now (bytes .entry)) key) ⌝ }
+    ensures { λ _. ⌜ Bytes (now (bytes .entry)) ⌝ }
 {
     if is_short(table.len()) {
         *bag = 0;
@@ -213,6 +220,7 @@ pub extern "C" fn p12_list(file: &[u8], out: &mut [u8], written: &mut usize) -> 
     ensures { λ r. ⌜ r ≡ listCall (now (file .entry)) (now (out .entry)) .number ⌝ }
     ensures { λ _. ⌜ now (out .exit) ≡ listCall (now (file .entry)) (now (out .entry)) .memory ⌝ }
     ensures { λ _. ⌜ now (written .exit) ≡ listCall (now (file .entry)) (now (out .entry)) .value ⌝ }
+    ensures { λ _. ⌜ Bytes (now (file .entry)) ⌝ }
 {
     let size = file.len();
     let answer = listing::list(size, reader::read(file), out);
@@ -226,6 +234,7 @@ pub extern "C" fn p12_pairs(file: &[u8], out: &mut [u8], written: &mut usize) ->
     ensures { λ r. ⌜ r ≡ pairsCall (now (file .entry)) (now (out .entry)) .number ⌝ }
     ensures { λ _. ⌜ now (out .exit) ≡ pairsCall (now (file .entry)) (now (out .entry)) .memory ⌝ }
     ensures { λ _. ⌜ now (written .exit) ≡ pairsCall (now (file .entry)) (now (out .entry)) .value ⌝ }
+    ensures { λ _. ⌜ Bytes (now (file .entry)) ⌝ }
 {
     let text = pair_lines::list(file, reader::read(file), out);
     *written = length_of(text);

@@ -1,6 +1,8 @@
 // Writes the pairs of a file into a lent buffer: a line for each key bag with the row of its certificate, or with the
 // refusal; of a refused file the line of its refusal. docs/TESTS.md has the forms.
 ghost use mathlib.Core.Path.{_≡_};
+ghost use Rattle.der.specs.Span.{Bytes};
+ghost use Rattle.pkcs12.specs.Report.{writtenReport};
 ghost use Rattle.listing.specs.Put.{Put};
 ghost use Rattle.identities.specs.Identities.{certificateFor};
 ghost use Rattle.pair_lines.specs.Lines.{answerText, pairLine, bagLine, pairLines, answered};
@@ -85,7 +87,9 @@ fn answered(out: &mut [u8], answer: Answer, table: Table, file: &[u8]) -> usize
 // once, and nothing of `out` is written before it is known that the text fits.
 pub fn list(file: &[u8], reading: Reading, out: &mut [u8]) -> Written
     ensures { λ r. ⌜ r ≡ pairsListed (now (file .entry)) reading (now (out .entry)) .answer ⌝ }
+    ensures { λ r. ⌜ writtenReport r ≡ writtenReport (pairsListed (now (file .entry)) reading (now (out .entry)) .answer) ⌝ }
     ensures { λ _. ⌜ now (out .exit) ≡ pairsListed (now (file .entry)) reading (now (out .entry)) .buffer ⌝ }
+    ensures { λ _. ⌜ Bytes (now (file .entry)) ⌝ }
 {
     let mut text = [0u8; TEXT_BYTES];
     let answer = reading.answer;

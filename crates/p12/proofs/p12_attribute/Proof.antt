@@ -1,5 +1,6 @@
 -- Words that are too few; else by what the call gave: a row is stored, or nothing is.
-use Rattle.p12.proofs.Gives.{attribute-short, attribute-stored, attribute-ready, attribute-done, attribute-refused}
+use Rattle.der.proofs.Promised.{all-bytes}
+use Rattle.p12.proofs.Gives.{two-and, attribute-short, attribute-stored, attribute-ready, attribute-done, attribute-refused}
 use borrow.Author.Needs.{needs}
 use Rattle.p12.proofs.p12_attribute.Statement.{statement}
 use Rattle.p12.proofs.p12_attribute.Tie as tie
@@ -8,7 +9,10 @@ is-short-requires : tie.Need-is-short-requires
 is-short-requires c κs = search needs
 
 returns : tie.Need-returns
-returns c = attribute-short _ _ _ (c .before .is-short .ensures) (c .if1 .taken) _ _ _
+returns c =
+    two-and
+    (attribute-short _ _ _ (c .before .is-short .ensures) (c .if1 .taken) _ _ _)
+    (search all-bytes)
 
 load-requires : tie.Need-load-requires
 load-requires c κs = search needs
@@ -43,30 +47,38 @@ returns-2 c =
     let d = a .before .before .before in
     let b = d .before .before .before in
     let t = b .before in
-    attribute-stored _ _ _ (t .before .is-short .ensures) (t .if1 .left) _ (b .load .ensures) _ _ _ _
-    (d .before .before .attribute .ensures) _ (d .a .given .1) _ _
-    (a .store-row .ensures .0) (a .store-row .ensures .1) _ (c .written-number .ensures)
+    two-and
+    (attribute-stored _ _ _ (t .before .is-short .ensures) (t .if1 .left) _ (b .load .ensures) _ _ _ _
+    (d .before .before .attribute .ensures .0) _ (d .a .given .1) _ _
+    (a .store-row .ensures .0) (a .store-row .ensures .1 .1) _ (c .written-number .ensures))
+    (search all-bytes)
 
 returns-3 : tie.Need-returns-3
 returns-3 c =
     let b = c .before .before .before in
     let t = b .before in
-    attribute-ready _ _ _ (t .before .is-short .ensures) (t .if1 .left) _ (b .load .ensures) _ _ _ _
-    (c .before .before .attribute .ensures) (c .enum-told .given .1)
+    two-and
+    (attribute-ready _ _ _ (t .before .is-short .ensures) (t .if1 .left) _ (b .load .ensures) _ _ _ _
+    (c .before .before .attribute .ensures .0) (c .enum-told .given .1))
+    (search all-bytes)
 
 returns-4 : tie.Need-returns-4
 returns-4 c =
     let b = c .before .before .before in
     let t = b .before in
-    attribute-done _ _ _ (t .before .is-short .ensures) (t .if1 .left) _ (b .load .ensures) _ _ _ _
-    (c .before .before .attribute .ensures) (c .enum-told2 .given .1)
+    two-and
+    (attribute-done _ _ _ (t .before .is-short .ensures) (t .if1 .left) _ (b .load .ensures) _ _ _ _
+    (c .before .before .attribute .ensures .0) (c .enum-told2 .given .1))
+    (search all-bytes)
 
 returns-5 : tie.Need-returns-5
 returns-5 c =
     let b = c .before .before .before .before in
     let t = b .before in
-    attribute-refused _ _ _ (t .before .is-short .ensures) (t .if1 .left) _ (b .load .ensures) _ _ _ _
-    (c .before .before .before .attribute .ensures) _ (c .before .f .given .1)
+    two-and
+    (attribute-refused _ _ _ (t .before .is-short .ensures) (t .if1 .left) _ (b .load .ensures) _ _ _ _
+    (c .before .before .before .attribute .ensures .0) _ (c .before .f .given .1))
+    (search all-bytes)
 
 pub p12-attribute-spec : {M : Type 1} → statement M
 p12-attribute-spec =

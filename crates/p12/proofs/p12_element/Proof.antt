@@ -1,5 +1,6 @@
 -- The elements of the range that was loaded.
-use Rattle.p12.proofs.Gives.{element-gives}
+use Rattle.der.proofs.Promised.{all-bytes}
+use Rattle.p12.proofs.Gives.{three-and, element-gives}
 use borrow.Author.Needs.{needs}
 use Rattle.p12.proofs.p12_element.Statement.{statement}
 use Rattle.p12.proofs.p12_element.Tie as tie
@@ -17,7 +18,10 @@ cast-end : tie.Need-cast-end
 cast-end c = search needs
 
 returns : tie.Need-returns
-returns c = element-gives _ _ _ _ _ (c .before .before .before .before .range-of .ensures) (c .before .before .before .element .ensures)
+returns c =
+    three-and
+    (element-gives _ _ _ _ _ (c .before .before .before .before .range-of .ensures) (c .before .before .before .element .ensures .0))
+    (search all-bytes)
 
 pub p12-element-spec : {M : Type 1} → statement M
 p12-element-spec =

@@ -1,5 +1,6 @@
 -- What listing wrote, of what reading gave.
-use Rattle.p12.proofs.Gives.{list-wrote}
+use Rattle.der.proofs.Promised.{all-bytes}
+use Rattle.p12.proofs.Gives.{three-and, list-wrote}
 use borrow.Author.Needs.{needs}
 use Rattle.p12.proofs.p12_list.Statement.{statement}
 use Rattle.p12.proofs.p12_list.Tie as tie
@@ -20,7 +21,10 @@ same-length : tie.Need-same-length
 same-length c = search needs
 
 returns : tie.Need-returns
-returns c = list-wrote _ _ _ (c .before .before .before .before .before .before .read .ensures) _ _ (c .before .before .before .before .list .ensures .0) (c .before .before .before .before .list .ensures .1) _ (c .written-number .ensures) _ (c .before .length-of .ensures)
+returns c =
+    three-and
+    (list-wrote _ _ _ (c .before .before .before .before .before .before .read .ensures .0) _ _ (c .before .before .before .before .list .ensures .0) (c .before .before .before .before .list .ensures .1 .1) _ (c .written-number .ensures) _ (c .before .length-of .ensures))
+    (search all-bytes)
 
 pub p12-list-spec : {M : Type 1} → statement M
 p12-list-spec =

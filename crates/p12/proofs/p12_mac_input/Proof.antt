@@ -1,5 +1,6 @@
 -- The range in the table that reading gave.
-use Rattle.p12.proofs.Gives.{input-gives}
+use Rattle.der.proofs.Promised.{all-bytes}
+use Rattle.p12.proofs.Gives.{three-and, input-gives}
 use borrow.Author.Needs.{needs}
 use Rattle.p12.proofs.p12_mac_input.Statement.{statement}
 use Rattle.p12.proofs.p12_mac_input.Tie as tie
@@ -17,7 +18,10 @@ read-number-requires : tie.Need-read-number-requires
 read-number-requires c κs = search needs
 
 returns : tie.Need-returns
-returns c = input-gives _ _ (c .before .before .before .before .before .read .ensures) _ (c .read-number .ensures)
+returns c =
+    three-and
+    (input-gives _ _ (c .before .before .before .before .before .read .ensures .0) _ (c .read-number .ensures))
+    (search all-bytes)
 
 pub p12-mac-input-spec : {M : Type 1} → statement M
 p12-mac-input-spec =

@@ -1,5 +1,6 @@
 -- What pairing wrote, of what reading gave.
-use Rattle.p12.proofs.Gives.{pairs-wrote}
+use Rattle.der.proofs.Promised.{all-bytes}
+use Rattle.p12.proofs.Gives.{three-and, pairs-wrote}
 use borrow.Author.Needs.{needs}
 use Rattle.p12.proofs.p12_pairs.Statement.{statement}
 use Rattle.p12.proofs.p12_pairs.Tie as tie
@@ -22,8 +23,10 @@ same-length c = search needs
 returns : tie.Need-returns
 returns c =
     let a = c .before .before .before .before in
-    pairs-wrote _ _ _ (a .before .before .read .ensures) _ _ (a .list .ensures .0) (a .list .ensures .1)
-    _ (c .written-number .ensures) _ (c .before .length-of .ensures)
+    three-and
+    (pairs-wrote _ _ _ (a .before .before .read .ensures .0) _ _ (a .list .ensures .0) (a .list .ensures .1 .1 .0)
+    _ (c .written-number .ensures) _ (c .before .length-of .ensures))
+    (search all-bytes)
 
 pub p12-pairs-spec : {M : Type 1} → statement M
 p12-pairs-spec =

@@ -1,5 +1,6 @@
 -- Memory that is too short; else what reading gave, with its table stored.
-use Rattle.p12.proofs.Gives.{read-short, read-stored}
+use Rattle.der.proofs.Promised.{all-bytes}
+use Rattle.p12.proofs.Gives.{three-and, read-short, read-stored}
 use borrow.Author.Needs.{needs}
 use Rattle.p12.proofs.p12_read.Statement.{statement}
 use Rattle.p12.proofs.p12_read.Tie as tie
@@ -8,7 +9,10 @@ is-short-requires : tie.Need-is-short-requires
 is-short-requires c κs = search needs
 
 returns : tie.Need-returns
-returns c = read-short _ _ _ (c .before .is-short .ensures) (c .if1 .taken)
+returns c =
+    three-and
+    (read-short _ _ _ (c .before .is-short .ensures) (c .if1 .taken))
+    (search all-bytes)
 
 read-requires : tie.Need-read-requires
 read-requires c κs = search needs
@@ -27,8 +31,10 @@ returns-2 c =
     let a = c .before .before in
     let b = a .before .before .before in
     let t = b .before in
-    read-stored _ _ _ (t .before .is-short .ensures) (t .if1 .left) _ (b .read .ensures) _
-    (a .store-reading .ensures .0) _ (a .store-reading .ensures .1) _ (a .before .before .read-offset .ensures)
+    three-and
+    (read-stored _ _ _ (t .before .is-short .ensures) (t .if1 .left) _ (b .read .ensures .0) _
+    (a .store-reading .ensures .0) _ (a .store-reading .ensures .1) _ (a .before .before .read-offset .ensures))
+    (search all-bytes)
 
 pub p12-read-spec : {M : Type 1} → statement M
 p12-read-spec =

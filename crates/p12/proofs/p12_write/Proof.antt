@@ -1,5 +1,6 @@
 -- Words that are too few; else what writing wrote, of the table that was loaded.
-use Rattle.p12.proofs.Gives.{write-short, write-wrote}
+use Rattle.der.proofs.Promised.{all-bytes}
+use Rattle.p12.proofs.Gives.{three-and, write-short, write-wrote}
 use borrow.Author.Needs.{needs}
 use Rattle.p12.proofs.p12_write.Statement.{statement}
 use Rattle.p12.proofs.p12_write.Tie as tie
@@ -8,7 +9,10 @@ is-short-requires : tie.Need-is-short-requires
 is-short-requires c κs = search needs
 
 returns : tie.Need-returns
-returns c = write-short _ _ _ (c .before .is-short .ensures) (c .if1 .taken) _
+returns c =
+    three-and
+    (write-short _ _ _ (c .before .is-short .ensures) (c .if1 .taken) _)
+    (search all-bytes)
 
 load-requires : tie.Need-load-requires
 load-requires c κs = search needs
@@ -30,8 +34,10 @@ returns-2 c =
     let a = c .before .before .before .before in
     let b = a .before .before in
     let t = b .before in
-    write-wrote _ _ _ (t .before .is-short .ensures) (t .if1 .left) _ (b .load .ensures) _ _ _
-    (a .write .ensures .0) (a .write .ensures .1) _ (c .written-number .ensures) _ (c .before .length-of .ensures)
+    three-and
+    (write-wrote _ _ _ (t .before .is-short .ensures) (t .if1 .left) _ (b .load .ensures) _ _ _
+    (a .write .ensures .0) (a .write .ensures .1 .1 .0) _ (c .written-number .ensures) _ (c .before .length-of .ensures))
+    (search all-bytes)
 
 pub p12-write-spec : {M : Type 1} → statement M
 p12-write-spec =

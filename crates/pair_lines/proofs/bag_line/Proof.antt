@@ -19,7 +19,7 @@ same-length c = search needs
 returns : tie.Need-returns
 returns c =
     let a = c .before .before .before .before in
-    is-line _ _ _ _ (a .before .before .is-key .ensures) _ _ (a .before .if1 .taken) _ _ _ (a .certificate-for .ensures)
+    is-line _ _ _ _ (a .before .before .is-key .ensures) _ _ (a .before .if1 .taken) _ _ _ (a .certificate-for .ensures .0)
     (c .before .before .pair-line .ensures)
 
 returns-2 : tie.Need-returns-2

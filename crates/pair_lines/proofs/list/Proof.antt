@@ -1,5 +1,7 @@
 -- The text is made whole; then the refusal, or the text is written.
 use native.Mathlib.Omega.{arith}
+use Rattle.der.proofs.Promised.{reporting-with, all-bytes}
+use Rattle.pkcs12.specs.Report.{writtenReport}
 use Rattle.pair_lines.specs.Lines.{pairsText}
 use Rattle.pair_lines.proofs.Ways.{made-most, list-refused, list-wrote}
 use borrow.Author.Needs.{needs}
@@ -14,7 +16,10 @@ answered-requires c κs = search needs
 
 returns : tie.Need-returns
 unfolding pairsText
-returns c = list-refused _ _ _ _ _ (c .before .before .answered .ensures) _ (omega (arith, c .if1 .taken))
+returns c =
+    reporting-with writtenReport
+    (list-refused _ _ _ _ _ (c .before .before .answered .ensures) _ (omega (arith, c .if1 .taken)))
+    (search all-bytes)
 
 sub-text : tie.Need-sub-text
 sub-text c = search needs
@@ -36,8 +41,10 @@ returns-2 : tie.Need-returns-2
 unfolding pairsText
 returns-2 c =
     let a = c .before .before .before .before .before .before in
-    list-wrote _ _ _ _ _ (a .before .before .answered .ensures) _ (a .if1 .left) (omega arith) _ _
-    (c .before .before .text4 .ensures)
+    reporting-with writtenReport
+    (list-wrote _ _ _ _ _ (a .before .before .answered .ensures) _ (a .if1 .left) (omega arith) _ _
+    (c .before .before .text4 .ensures))
+    (search all-bytes)
 
 pub list-spec : {M : Type 1} → statement M
 list-spec =

@@ -1,0 +1,22 @@
+-- The number that the answer reports.
+use Rattle.pkcs12.specs.Report.{answerReport}
+use borrow.Author.Needs.{needs}
+use Rattle.p12.proofs.read_number.Statement.{statement}
+use Rattle.p12.proofs.read_number.Tie as tie
+
+enum-told : tie.Need-enum-told
+enum-told c = search needs
+
+enum-known-answer : tie.Need-enum-known-answer
+enum-known-answer c = search needs
+
+returns : tie.Need-returns
+unfolding answerReport
+returns c = cc
+
+returns-2 : tie.Need-returns-2
+unfolding answerReport
+returns-2 c = cc
+
+pub read-number-spec : {M : Type 1} → statement M
+read-number-spec = tie.close (tie.spec enum-told enum-known-answer returns returns-2)

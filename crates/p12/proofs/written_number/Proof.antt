@@ -1,0 +1,22 @@
+-- The number that the answer reports.
+use Rattle.pkcs12.specs.Report.{writtenReport}
+use borrow.Author.Needs.{needs}
+use Rattle.p12.proofs.written_number.Statement.{statement}
+use Rattle.p12.proofs.written_number.Tie as tie
+
+enum-told : tie.Need-enum-told
+enum-told c = search needs
+
+enum-known-written : tie.Need-enum-known-written
+enum-known-written c = search needs
+
+returns : tie.Need-returns
+unfolding writtenReport
+returns c = cc
+
+returns-2 : tie.Need-returns-2
+unfolding writtenReport
+returns-2 c = cc
+
+pub written-number-spec : {M : Type 1} → statement M
+written-number-spec = tie.close (tie.spec enum-told enum-known-written returns returns-2)
