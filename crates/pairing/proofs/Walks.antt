@@ -1,4 +1,5 @@
--- Steps that walks by hand share: the test of a `while`, that a `&[u8]` holds bytes, what a call gave, what a callee with one plain parameter asks.
+-- Steps that walks by hand share: the test of a `while`, that a `&[u8]` holds bytes, what a call gave, what a callee with
+-- one plain parameter asks.
 use types.Kit as Kit
 use mathlib.Core.Path.{_≡_, refl}
 use Prim.Native.Nat.{ℕ, _-_}
@@ -42,16 +43,20 @@ fitting-bytes [] h = tt
 fitting-bytes (b ∷ s) h = (omega (arith, h .0), fitting-bytes s (h .1))
 
 -- what a `&[u8]` owns, with a token: it holds bytes, and both stay
-module _ {M : Type 1} (𝓤 : URA M) (H : Heap 𝓤) (A : Atoms 𝓤) (W : Given 𝓤 H A) (ℓ : Lifetime) (κ : Lft) (q : Share) (x : RefT (List ℕ)) where
+module _ {M : Type 1} (𝓤 : URA M) (H : Heap 𝓤) (A : Atoms 𝓤) (W : Given 𝓤 H A)
+    (ℓ : Lifetime) (κ : Lft) (q : Share) (x : RefT (List ℕ)) where
   abbrev Lent : Fml
   Lent = ShrSlice ℓ κ u8 .own x (slice-vals x)
 
-  pub slice-bytes : ent 𝓤 (sep 𝓤 (sem 𝓤 H A Lent) (A .lft κ q)) (H .⇛ (guard 𝓤 (Bytes (now x)) (sep 𝓤 (sem 𝓤 H A Lent) (A .lft κ q))))
+  pub slice-bytes : ent 𝓤 (sep 𝓤 (sem 𝓤 H A Lent) (A .lft κ q))
+      (H .⇛ (guard 𝓤 (Bytes (now x)) (sep 𝓤 (sem 𝓤 H A Lent) (A .lft κ q))))
   slice-bytes =
       qed W (‵ Lent ∷ ‵ (flft κ q) ∷ []) ∵ updating ! $ fsplit ! $ fsplit ! $ drop ! $ fjoin ! $
-      use2 W (later (given (AllWT (fInt w8) (now x)) (‵ (OwnH 𝓤 H A W (fInt w8) κ q (x .ptr .0) (x .ptr .1) (x .name) (now x)) ⊛ ‵ (flft κ q))))
+      use2 W (later (given (AllWT (fInt w8) (now x)) (‵ (OwnH 𝓤 H A W (fInt w8) κ q (x .ptr .0) (x .ptr .1) (x .name) (now x))
+      ⊛ ‵ (flft κ q))))
       (shs-known 𝓤 H A W (fInt w8) κ q (x .ptr .0) (x .ptr .1) (x .name) (now x)) $ await ! tt $ learn ! (λ a. split ! $
-      fsplit ! $ feqI ! (List Val) (slice-vals x) (slice-vals x) refl $ fjoin ! $ fjoin ! $ at-once ! $ check ! (fitting-bytes (now x) a) $ frame ! $ done !)
+      fsplit ! $ feqI ! (List Val) (slice-vals x) (slice-vals x) refl $ fjoin ! $ fjoin ! $
+      at-once ! $ check ! (fitting-bytes (now x) a) $ frame ! $ done !)
 
 module _ {M : Type 1} (𝓤 : URA M) (H : Heap 𝓤) (A : Atoms 𝓤) (W : Given 𝓤 H A) where
   -- what a caller has of a callee with no `&mut` that says its result by an equation: the tokens, and the result at what it equals

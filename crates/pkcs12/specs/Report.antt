@@ -28,8 +28,8 @@ unfoldable pub writtenReport : Written → Report
 writtenReport (Length n) = passing (n ∷ [])
 writtenReport (Written.Refused f) = refusing f
 
--- "01 key", "02 shrouded key", "03 certificate, 04 CRL, 05 secret", "06 nested"; "well-formed bagId of another kind" is 7,
--- here at 0: the bytes of a bagId alone don't say where it stands in a file
+-- "01 key", "02 shrouded key", "03 certificate, 04 CRL, 05 secret", "06 nested"; "well-formed bagId of another kind"
+-- is 7, here at 0: the body of a bagId doesn't say where it stands in a file
 unfoldable pub kindReport : BagKind → Report
 kindReport Key = passing (1 ∷ [])
 kindReport ShroudedKey = passing (2 ∷ [])

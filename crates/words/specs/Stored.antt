@@ -24,7 +24,8 @@ use Rattle.pkcs12.specs.declared.Mac.{Mac}
 use Rattle.pkcs12.specs.declared.Table.{Table}
 use Rattle.words.specs.Layout.{safeWidth, bagWidth, attributeWidth, tableWords, greatestWord}
 -- the words of these are the values that they report
-pub use Rattle.pkcs12.specs.Report.{bagNumber, rangeValues as rangeWords, partsValues as partsWords, attributeValues as attributeWords, macValues as macWords}
+pub use Rattle.pkcs12.specs.Report.{bagNumber, rangeValues as rangeWords, partsValues as partsWords}
+pub use Rattle.pkcs12.specs.Report.{attributeValues as attributeWords, macValues as macWords}
 
 -- a count that doesn't fit a word is the greatest word
 abbrev pub countWord : ℕ → ℕ

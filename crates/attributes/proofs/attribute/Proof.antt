@@ -51,7 +51,8 @@ returns-2 c =
     let n = c .before .before in
     let o = n .before .opening .ensures in
     promised itemReport
-    (calling-ends _ _ _ _ (c .before .loop .inv) (c .loop-test .left) ∙ first-call _ _ _ (rw (o .0) at (n .next .ensures .0)))
+    (calling-ends _ _ _ _ (c .before .loop .inv) (c .loop-test .left)
+    ∙ first-call _ _ _ (rw (o .0) at (n .next .ensures .0)))
     (o .1 .1)
 
 pub attribute-spec : {M : Type 1} → statement M

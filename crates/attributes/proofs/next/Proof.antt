@@ -89,7 +89,8 @@ module _ {M : Type 1} (𝓤 : URA M) (H : Heap 𝓤) (A : Atoms 𝓤) (W : Given
   exits : (p : Position) (u : Val) → Said p → ent 𝓤 (⋆ 𝓤 H A (‵ (P.the-row .own p (u ∷ [])) ∷ raw (onEntry 𝓤 H A next.signature (κ, tt) (q, tt) (d, tt) (m ∷ [], tt)) ∷ [])) (Post (made-val κ (d .file) p u))
   exits p u e =
       qed W (‵ (P.the-row .own p (u ∷ [])) ∷ ((‵ (flft κ q) ⊛ ‵ ftrue) ⊛ ‵ (owns (B (κ, tt) ∷ []) (d, tt) (m ∷ [], tt))) ∷ []) ∵
-      suffices ! _ (ends-at 𝓤 H A next.ended stayed (next.clauses 𝓤 H A mem run) W (((κ, tt), (q, tt), tt, (d, tt), (m ∷ [], tt)), tt) (made-val κ (d .file) p u) (readerOf (d .file) p) (tt, tt) (tt, tt)) $ says-both ! (ap (readerOf (d .file)) e) (ap (λ (z : Position). itemReport (z .item)) e) $
+      suffices ! _ (ends-at 𝓤 H A next.ended stayed (next.clauses 𝓤 H A mem run) W (((κ, tt), (q, tt), tt, (d, tt), (m ∷ [], tt)), tt) (made-val κ (d .file) p u) (readerOf (d .file) p) (tt, tt) (tt, tt)) $
+      says-both ! (ap (readerOf (d .file)) e) (ap (λ (z : Position). itemReport (z .item)) e) $
       move ! (1 ∷ []) $ split ! $ frame ! $ fsplit ! $ use1 W (‵ (Lent κ (d .file)) ⊛ ‵ (Own κ d)) (file-out κ d 𝓤 H A W) $ split ! $
       -- [the file; the reader; nothing; the position]
       move ! (1 ∷ 2 ∷ []) $ fjoin ! $ frame ! $ by ! (made-own κ (d .file) p u 𝓤 H A W)

@@ -108,7 +108,8 @@ module _ {M : Type 1} (𝓤 : URA M) (H : Heap 𝓤) (A : Atoms 𝓤) (W : Given
     exits : (p : Position) (u : Val) → Said p → ent 𝓤 (⋆ 𝓤 H A (‵ (P.the-row .own p (u ∷ [])) ∷ (‵ (flft κ q) ⊛ ‵ ftrue) ∷ ‵ (Lent κ f) ∷ [])) (Post (made-val κ f p u))
     exits p u e =
         qed W (‵ (P.the-row .own p (u ∷ [])) ∷ (‵ (flft κ q) ⊛ ‵ ftrue) ∷ ‵ (Lent κ f) ∷ []) ∵
-        suffices ! _ (ends-at 𝓤 H A open-fn.ended stayed (open-fn.clauses 𝓤 H A mem run) W (((κ, tt), (q, tt), tt, args, at), tt) (made-val κ f p u) (readerOf f p) (tt, (tt, (tt, tt))) (tt, (tt, (tt, tt)))) $ says-three ! (ap (readerOf f) (e .0)) (ap (λ (z : Position). itemReport (z .item)) (e .0)) (e .1) $
+        suffices ! _ (ends-at 𝓤 H A open-fn.ended stayed (open-fn.clauses 𝓤 H A mem run) W (((κ, tt), (q, tt), tt, args, at), tt) (made-val κ f p u) (readerOf f p) (tt, (tt, (tt, tt))) (tt, (tt, (tt, tt)))) $
+        says-three ! (ap (readerOf f) (e .0)) (ap (λ (z : Position). itemReport (z .item)) (e .0)) (e .1) $
         move ! (1 ∷ []) $ frame ! $ move ! (1 ∷ []) $ use1 W (‵ (Lent κ f) ⊛ ‵ (Lent κ f)) (shr-slice-copy 𝓤 H A W (named 0) κ u8 .twice f (v ∷ [])) $ split ! $
         -- [the file; the file; the position]
         nothing ! $ owned ! usize (Is usize) (uint-makes 𝓤 H A W w64) bag _ (refl, fits) $ fjoin ! $ move ! (1 ∷ 0 ∷ []) $ fjoin ! $

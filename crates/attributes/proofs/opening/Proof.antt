@@ -37,7 +37,8 @@ returns-3 : tie.Need-returns-3
 returns-3 c =
     let m = c .before .before .before .before .before .measure .ensures in
     promised (λ p. itemReport (p .item))
-    (open-missing _ _ _ _ (m .0) _ (c .before .before .before .enum-told2 .given .1) _ (c .before .if1 .left) (c .refused2 .ensures))
+    (open-missing _ _ _ _ (m .0) _ (c .before .before .before .enum-told2 .given .1) _ (c .before .if1 .left)
+    (c .refused2 .ensures))
     (m .1 .1)
 
 pub opening-spec : {M : Type 1} → statement M

@@ -30,7 +30,8 @@ returns-2 : tie.Need-returns-2
 returns-2 c =
     let m = c .before .before .before .before .measure .ensures in
     promised pairedReport
-    (certificate-paired _ _ _ (m .0) _ (c .before .before .enum-told2 .given .1) _ _ _ (c .before .rows-of .ensures) (c .pair-all .ensures .0))
+    (certificate-paired _ _ _ (m .0) _ (c .before .before .enum-told2 .given .1) _ _ _
+    (c .before .rows-of .ensures) (c .pair-all .ensures .0))
     (m .1 .1)
 
 pub certificate-for-spec : {M : Type 1} → statement M

@@ -413,7 +413,8 @@ module _ {M : Type 1} (𝓤 : URA M) (H : Heap 𝓤) (A : Atoms 𝓤) (W : Given
         move ! (24 ∷ []) $ split ! $ move ! (1 ∷ []) $ split ! $ move ! (1 ∷ []) $ drop ! $ move ! (26 ∷ []) $ fsplit ! $ drop ! $ fsplit ! $ move ! (1 ∷ []) $ fsplit ! $ fsplit ! $ drop ! $ fsplit ! $
         -- [obs; the borrow; true; what the bytes own; κ′'s token; κ's token; _11; …]
         move ! (3 ∷ 5 ∷ []) $
-        use2 W (later (given (Bytes (now ys)) (‵ OwnBytes ⊛ ‵ (flft κ q)))) (slice-bytes 𝓤 H A W (named 0) κ q ys) $ await ! tt $ learn ! (λ h. split ! $
+        use2 W (later (given (Bytes (now ys)) (‵ OwnBytes ⊛ ‵ (flft κ q)))) (slice-bytes 𝓤 H A W (named 0) κ q ys) $
+        await ! tt $ learn ! (λ h. split ! $
         use2 W (raw (Prepared 𝓤 H A mem run .pre to-prepared) ⊛ ‵ OwnBytes) (gives (room .0) is-table) $ split ! $
         calls-at ! (fmOf 𝓤 H (W .laws) 𝓣) (Prepared 𝓤 H A mem run) known-prepared to-prepared
         (and-then ! (load ! (from ! (stop !)) (look ! 26 refl)) (and-then ! (load ! (from ! (stop !)) (look ! 24 refl)) (and-then ! (load ! (from ! (stop !)) (look ! 14 refl)) (no-more !)))) (λ v.

@@ -33,22 +33,26 @@ row-of-requires-3 c κs = search needs
 returns : tie.Need-returns
 returns c =
     let o = c .before .before .before .opening .ensures in
-    promised identityReport (opened-refused _ _ _ _ (o .0) _ (c .before .item .given .1)) (o .1 .1)
+    promised identityReport
+    (opened-refused _ _ _ _ (o .0) _ (c .before .item .given .1)) (o .1 .1)
 
 returns-2 : tie.Need-returns-2
 returns-2 c =
     let o = c .before .before .before .opening .ensures in
-    promised identityReport (opened-ready _ _ _ _ (o .0) _ (c .row-of .ensures) (c .before .enum-told .given .1)) (o .1 .1)
+    promised identityReport
+    (opened-ready _ _ _ _ (o .0) _ (c .row-of .ensures) (c .before .enum-told .given .1)) (o .1 .1)
 
 returns-3 : tie.Need-returns-3
 returns-3 c =
     let o = c .before .before .before .opening .ensures in
-    promised identityReport (opened-given _ _ _ _ (o .0) _ (c .row-of2 .ensures) _ (c .before .enum-told2 .given .1)) (o .1 .1)
+    promised identityReport
+    (opened-given _ _ _ _ (o .0) _ (c .row-of2 .ensures) _ (c .before .enum-told2 .given .1)) (o .1 .1)
 
 returns-4 : tie.Need-returns-4
 returns-4 c =
     let o = c .before .before .before .opening .ensures in
-    promised identityReport (opened-done _ _ _ _ (o .0) _ (c .row-of3 .ensures) (c .before .enum-told3 .given .1)) (o .1 .1)
+    promised identityReport
+    (opened-done _ _ _ _ (o .0) _ (c .row-of3 .ensures) (c .before .enum-told3 .given .1)) (o .1 .1)
 
 pub identity-of-spec : {M : Type 1} → statement M
 identity-of-spec =

@@ -139,13 +139,17 @@ module _ {M : Type 1} (𝓤 : URA M) (H : Heap 𝓤) (A : Atoms 𝓤) (W : Given
   Post = walkOf 𝓤 H A pair.ended stayed (pair.clauses 𝓤 H A mem run) .post ((κs, (q, (q′, tt)), tt, a, vals), tt)
 
   -- on entry: the key's number owns nothing that has to be kept, and the slice of bytes holds bytes
-  opened : ent 𝓤 (onEntry 𝓤 H A pair.signature κs (q, (q′, tt)) a vals) (H .⇛ (guard 𝓤 (Bytes (now bytes)) (⋆ 𝓤 H A (Toks ∷ ‵ Slices ∷ []))))
+  opened : ent 𝓤 (onEntry 𝓤 H A pair.signature κs (q, (q′, tt)) a vals)
+      (H .⇛ (guard 𝓤 (Bytes (now bytes)) (⋆ 𝓤 H A (Toks ∷ ‵ Slices ∷ []))))
   opened =
-      qed W (Toks ∷ ‵ (owns (ShrSlice (named 0) κ I.the-row ∷ ShrSlice (named 1) κ′ u8 ∷ usize ∷ []) a vals) ∷ []) ∵ updating ! $
+      qed W (Toks ∷ ‵ (owns (ShrSlice (named 0) κ I.the-row ∷ ShrSlice (named 1) κ′ u8 ∷ usize ∷ []) a vals) ∷ []) ∵
+      updating ! $
       split ! $ move ! (1 ∷ []) $ split ! $ move ! (3 ∷ []) $ fsplit ! $ move ! (1 ∷ []) $ fsplit ! $
       -- [bytes; the number; rows; the token for bytes; nothing; the token for rows]
-      move ! (0 ∷ 3 ∷ []) $ use2 W (later (given (Bytes (now bytes)) (‵ OwnB ⊛ ‵ (flft κ′ q′)))) (slice-bytes 𝓤 H A W (named 1) κ′ q′ bytes) $ await ! tt $ learn ! (λ h. split ! $
-      at-once ! $ check ! h $ keep ! (1 ∷ 4 ∷ 5 ∷ 3 ∷ 0 ∷ []) $ join ! $ move ! (1 ∷ 0 ∷ []) $ join ! $ frame ! $ fjoin ! $ done !)
+      move ! (0 ∷ 3 ∷ []) $ use2 W (later (given (Bytes (now bytes)) (‵ OwnB ⊛ ‵ (flft κ′ q′))))
+      (slice-bytes 𝓤 H A W (named 1) κ′ q′ bytes) $ await ! tt $ learn ! (λ h. split ! $
+      at-once ! $ check ! h $ keep ! (1 ∷ 4 ∷ 5 ∷ 3 ∷ 0 ∷ []) $ join ! $
+      move ! (1 ∷ 0 ∷ []) $ join ! $ frame ! $ fjoin ! $ done !)
 
   -- what each callee's triple binds outside, and that the caller has what it asks
   abbrev to-begin : Begin 𝓤 H A mem run .Ghost
@@ -190,7 +194,8 @@ module _ {M : Type 1} (𝓤 : URA M) (H : Heap 𝓤) (A : Atoms 𝓤) (W : Given
         qed W (raw (onEntry 𝓤 H A pair.signature κs (q, (q′, tt)) a vals) ∷ []) ∵ enter ! C Λ code.function (vr ∷ vb ∷ vint w64 k ∷ []) _ $
         alloc1 ! (λ l₀. alloc1 ! (λ l₁. alloc1 ! (λ l₂. alloc1 ! (λ l₃. alloc1 ! (λ l₄. alloc1 ! (λ l₅. alloc1 ! (λ l₆. alloc1 ! (λ l₇. alloc0 ! $ params1 ! $
         pass1 ! (init ! 12 refl (shr-slice-lawful 𝓤 H A W (named 0) κ I.the-row .typed rows (vr ∷ []) is-rows .0)) $ pass1 ! (init ! 10 refl (shr-slice-lawful 𝓤 H A W (named 1) κ′ u8 .typed bytes (vb ∷ []) is-bytes .0)) $ pass1 ! (init ! 8 refl (tt, record { fits = k-fits })) $ pass0 ! $
-        move ! (16 ∷ []) $ use1 W (later (given (Bytes (now bytes)) (Toks ⊛ ‵ Slices))) opened $ await ! tt $ learn ! (λ h. split ! $
+        move ! (16 ∷ []) $ use1 W (later (given (Bytes (now bytes)) (Toks ⊛ ‵ Slices))) opened $ await ! tt $
+        learn ! (λ h. split ! $
         -- [the tokens; the slices; _7; …; _6; …; _5; …; _4; …; _3; …; _2; …; _1; …; room for _0; …]
         use0 W (raw (Begin 𝓤 H A mem run .pre to-begin)) goes-begin $
         calls-at ! fm (Begin 𝓤 H A mem run) known-begin to-begin (and-then ! (load ! (from ! (stop !)) (look ! 11 refl)) (no-more !)) (λ v₄.

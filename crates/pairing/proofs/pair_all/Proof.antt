@@ -152,7 +152,8 @@ module _ {M : Type 1} (𝓤 : URA M) (H : Heap 𝓤) (A : Atoms 𝓤) (W : Given
   exits : Bytes (now bytes) → (u : Val) → ent 𝓤 (⋆ 𝓤 H A (‵ (P.the-row .own ans (u ∷ [])) ∷ Tok ∷ ‵ OwnB ∷ [])) (Post u)
   exits h u =
       qed W (‵ (P.the-row .own ans (u ∷ [])) ∷ Tok ∷ ‵ OwnB ∷ []) ∵
-      suffices ! _ (ends-at 𝓤 H A pair-all.ended stayed (pair-all.clauses 𝓤 H A mem run) W (((κ, tt), (q, tt), tt, a, vals), tt) u ans (tt, (tt, (tt, tt))) (tt, (tt, (tt, tt)))) $ says-three ! refl refl h $
+      suffices ! _ (ends-at 𝓤 H A pair-all.ended stayed (pair-all.clauses 𝓤 H A mem run) W (((κ, tt), (q, tt), tt, a, vals), tt) u ans (tt, (tt, (tt, tt))) (tt, (tt, (tt, tt)))) $
+      says-three ! refl refl h $
       move ! (1 ∷ []) $ frame ! $ nothing ! $ nothing ! $ fjoin ! $ move ! (2 ∷ 0 ∷ []) $ fjoin ! $ nothing ! $ fjoin ! $ frame ! $ done !
 
   -- the call of `pair` on the local at block l, lent for α under the name γ

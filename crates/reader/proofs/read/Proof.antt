@@ -11,7 +11,9 @@ refused-requires c κs = search needs
 
 returns : tie.Need-returns
 returns c =
-    promised (λ r. answerReport (r .answer)) (read-long _ _ (c .before .if1 .taken) (c .refused .ensures)) (search all-bytes)
+    promised (λ r. answerReport (r .answer))
+    (read-long _ _ (c .before .if1 .taken) (c .refused .ensures))
+    (search all-bytes)
 
 over-requires : tie.Need-over-requires
 over-requires c κs = search needs
@@ -29,7 +31,8 @@ returns-2 : tie.Need-returns-2
 returns-2 c =
     let o = c .before .before .before .before in
     promised (λ r. answerReport (r .answer))
-    (read-refused _ (o .before .before .if1 .left) _ (o .before .over .ensures) _ (o .«open» .ensures) _ _ (c .before .before .f .given .1) (c .refused2 .ensures))
+    (read-refused _ (o .before .before .if1 .left) _ (o .before .over .ensures) _ (o .«open» .ensures) _ _
+    (c .before .before .f .given .1) (c .refused2 .ensures))
     (search all-bytes)
 
 enum-known-input : tie.Need-enum-known-input

@@ -42,7 +42,8 @@ returns-4 c =
     promised measuredReport
     (attribute-left _ _ _ (a .before .before .rules .ensures) (a .before .if1 .left)
     (arrays _ _ _ _ _ _ _ (g .0 .1 .0 .1) (g .1 .1 .0 .1 .0 .1) (g .1 .1 .1 .1 .0 .1 .0 .1))
-    _ (a .all-safes .ensures) (c .before .before .before .before .before .before .if2 .left) (c .before .before .before .if3 .left) (c .if4 .taken))
+    _ (a .all-safes .ensures) (c .before .before .before .before .before .before .if2 .left)
+    (c .before .before .before .if3 .left) (c .if4 .taken))
     (search (all-bytes, a .before .before .before .shared-slice-known .given))
 
 mac-requires : tie.Need-mac-requires
@@ -61,9 +62,11 @@ returns-5 c =
     promised measuredReport
     (all-measured _ _ _ (a .before .before .rules .ensures) (a .before .if1 .left)
     (arrays _ _ _ _ _ _ _ (g .0 .1 .0 .1) (g .1 .1 .0 .1 .0 .1) (g .1 .1 .1 .1 .0 .1 .0 .1))
-    _ (a .all-safes .ensures) (c .before .before .before .before .before .before .before .before .before .before .if2 .left)
-    (c .before .before .before .before .before .before .before .if3 .left) (c .before .before .before .before .if4 .left) _ _ _ (c .before .before .mac .ensures) (c .before .pfx .ensures)
-    (c .element .ensures))
+    _ (a .all-safes .ensures)
+    (c .before .before .before .before .before .before .before .before .before .before .if2 .left)
+    (c .before .before .before .before .before .before .before .if3 .left)
+    (c .before .before .before .before .if4 .left) _ _ _
+    (c .before .before .mac .ensures) (c .before .pfx .ensures) (c .element .ensures))
     (search (all-bytes, a .before .before .before .shared-slice-known .given))
 
 pub measure-spec : {M : Type 1} → statement M
