@@ -22,23 +22,28 @@ LOCAL_KEY_ID = bytes.fromhex("2A864886F70D010915")
 
 
 def elements(data, span):
-    """(tag, body) of each element in a range."""
-    walk, result = p12_reader.Parent(data, p12_reader.empty_reading(len(data)), *span), []
+    """The elements in a range."""
+    walk, found = p12_reader.Parent(data, p12_reader.empty_reading(len(data)), *span), []
     while walk.left():
-        element = walk.element()
-        result.append((element.tag, walk.bytes_of(element)))
-    return result
+        found.append(walk.element())
+    return found
 
 
-def id_of(data, result, number):
-    """The id of a bag, or None."""
+def id_range(data, result, number):
+    """The range of a bag's id, or None."""
     # "A bag's id comes from its first localKeyID attribute": of the rows that name this bag, which stand in file order
     for row in result.attributes:
         if row.bag == number and data[slice(*row.type)] == LOCAL_KEY_ID:
             found = elements(data, row.values)
             # "if that holds exactly one element and it is an OCTET STRING; otherwise the bag has none". "OCTET STRING is tag 04 only"
-            return found[0][1] if len(found) == 1 and found[0][0] == 0x04 else None
+            return found[0].body if len(found) == 1 and found[0].tag == 0x04 else None
     return None
+
+
+def id_of(data, result, number):
+    """The id of a bag, or None."""
+    span = id_range(data, result, number)
+    return None if span is None else data[slice(*span)]
 
 
 def answer(data, result, number):

@@ -1,7 +1,8 @@
 #!/usr/bin/env python3
 """Writes crates/vectors/stdin, a frame for each file, and crates/vectors/stdout, the listings that p12_reader.py gives, each of an
-accepted file with the pairs that p12_pairs.py gives and the line that it is written back the same; crates/list/stdin and stdout, M and its
-listing; crates/rewrite/stdin and stdout, a file of a common tool, twice; and crates/pairs/stdin and stdout, a file and its pairs.
+accepted file with the pairs that p12_pairs.py gives, what p12_runs.py says of calls on its table, and the line that it is written back
+the same; crates/list/stdin and stdout, M and its listing; crates/rewrite/stdin and stdout, a file of a common tool, twice; and
+crates/pairs/stdin and stdout, a file and its pairs.
 
     p12_vectors.py                       # writes these files
     p12_vectors.py --check               # says whether they are what the files give
@@ -19,6 +20,7 @@ import p12_make
 import p12_pairs
 import p12_pairs_make
 import p12_reader
+import p12_runs
 import p12_sources
 import p12_tools
 
@@ -67,8 +69,10 @@ def kinds():
 
 def lines(data, result):
     """What `vectors` prints of a file. Reading and writing undo each other, so an accepted one comes back as it was."""
-    refused = isinstance(result, p12_reader.Refusal)
-    return p12_reader.listing(result) + ("" if refused else p12_pairs.pairs(data, result) + "written back, the same\n")
+    listed = p12_reader.listing(result)
+    if isinstance(result, p12_reader.Refusal):
+        return listed
+    return listed + p12_pairs.pairs(data, result) + p12_runs.lines(data, result) + "written back, the same\n"
 
 
 def stored(frames, listings):

@@ -2,6 +2,8 @@
 // the same bytes of its table.
 // Each stands in a frame: its length in four bytes, high first, then its bytes.
 // A frame that is cut, or longer than the buffer, is answered by the line `cut`, and nothing after it is read.
+mod runs;
+
 ghost use Prim.Native.Nat.{_<_};
 use pkcs12::Answer;
 use pkcs12::Reading;
@@ -70,6 +72,7 @@ fn list(file: &[u8], out: &mut [u8]) {
     match answer {
         Answer::Accepted => {
             show_pairs(file, reading);
+            runs::show(reading.table, file);
             write_back(reading.table, file, out);
         }
         Answer::Refused(_) => {}
