@@ -14,6 +14,7 @@
  *   p12_attribute   with P12_OK the first P12_ATTRIBUTE_WORDS words of `row`; every other number
  *                   leaves `row` as it was
  *   p12_list        the first *written bytes of `out`; a refusal leaves `out` as it was
+ *   p12_pairs       the same
  *
  * p12_mac_input, p12_element and p12_certificate_for change nothing else. Memory behind what is
  * written stays as it was, and no call changes a file, the bytes or a table that it only reads.
@@ -25,10 +26,10 @@
  *
  * The stack that one call takes on x86-64, in bytes, measured and not proved:
  *
- *   p12_read         109,900       p12_certificate_for    74,200
+ *   p12_read         109,900       p12_certificate_for    77,300
  *   p12_mac_input    107,200       p12_write              74,000
  *   p12_list         107,200       p12_attribute          70,500
- *   p12_element          100
+ *   p12_pairs        114,500       p12_element               100
  *
  * That is for a file as deep as one can be; 307 bytes are enough for such a file, so a thread that
  * reads files of unknown origin needs that much. */
@@ -73,7 +74,7 @@ enum p12_number {
  *   - p12_read: `table`, for fewer than P12_TABLE_WORDS words, before the file is looked at;
  *   - p12_write: `out`, for fewer bytes than the file has, after 11 and 9;
  *   - p12_attribute: `row`, for fewer than P12_ATTRIBUTE_WORDS words, if the attribute exists;
- *   - p12_list: `out`, for fewer bytes than the listing has. */
+ *   - p12_list, p12_pairs: `out`, for fewer bytes than the text has. */
 
 /* A table is P12_TABLE_WORDS words. The struct names them; its members are all words, so it has
  * no padding: p12_words(&table) is the same memory. Rows past the counts are 0. A range start..end
@@ -145,8 +146,8 @@ static inline uint32_t *p12_words(struct p12_table *table) { return (uint32_t *)
  * other case *offset is 0. */
 uint8_t p12_read(const uint8_t *file, size_t length, uint32_t *table, size_t words, size_t *offset);
 
-/* The range of the MAC input in a file: the body of the outer OCTET STRING, without its header. 1 to 9 for a file that is refused, with the
- * range 0..0. */
+/* The range of the MAC input in a file: the body of the outer OCTET STRING, without its header.
+ * 1 to 9 for a file that is refused, with the range 0..0. */
 uint8_t p12_mac_input(const uint8_t *file, size_t length, size_t *start, size_t *end);
 
 /* Writes the file of a table into a buffer, and its length into *written. 11 if the table has
@@ -172,14 +173,16 @@ size_t p12_element(const uint8_t *bytes, size_t length, uint32_t from, uint32_t 
  * no localKeyID, 14 if more than one fits; *bag is 0 then. */
 uint8_t p12_certificate_for(const uint32_t *table, size_t words, const uint8_t *bytes, size_t length, size_t key, size_t *bag);
 
-/* The listing of a file as text, without a final 0, and its length in *written. A refused file lists as the one line `refused N at P`, and the call
- * gives P12_OK. 10 for a buffer that is too short; *written is 0 then. */
+/* The listing of a file as text, without a final 0, and its length in *written. A refused file
+ * lists as the one line `refused N at P`, and the call returns P12_OK. 10 for a buffer that is too
+ * short, which one of P12_LISTING_BYTES bytes never is; *written is 0 then. */
 uint8_t p12_list(const uint8_t *file, size_t length, uint8_t *out, size_t capacity, size_t *written);
 
-/* The pairs of a file as text, without a final 0, and its length in *written: a line for each key bag, in the order of
- * the bag rows, `key bag N: certificate bag M`, or `key bag N: refused K` where p12_certificate_for gives K (13 or 14).
- * A file with no key bag has an empty text. A refused file has the one line `refused N at P`, and the call gives
- * P12_OK. 10 for a buffer that is too short, which one of P12_PAIRS_BYTES bytes never is; *written is 0 then. */
+/* The pairs of a file as text, without a final 0, and its length in *written: a line for each key
+ * bag, in the order of the bag rows, `key bag N: certificate bag M`, or `key bag N: refused K`
+ * where p12_certificate_for returns K (13 or 14). A file with no key bag has an empty text. A
+ * refused file has the one line `refused N at P`, and the call returns P12_OK. 10 for a buffer that
+ * is too short, which one of P12_PAIRS_BYTES bytes never is; *written is 0 then. */
 uint8_t p12_pairs(const uint8_t *file, size_t length, uint8_t *out, size_t capacity, size_t *written);
 
 #ifdef __cplusplus
