@@ -1,5 +1,6 @@
-"""What `vectors` prints of the calls on the table of an accepted file, by the models alone: rows by p12_reader.py, ids by
-p12_pairs.py, soundness by p12_writer.py. docs/TESTS.md has the form of the lines; the comments quote the scope (document 01).
+"""What `vectors` prints of the calls on the table of an accepted file, by the models alone: rows by p12_reader.py, ids
+by p12_pairs.py, soundness by p12_writer.py. docs/TESTS.md has the form of the lines; the comments quote the scope
+(document 01).
 
     lines(data, result)     for a file and what p12_reader.read gave for it
 """

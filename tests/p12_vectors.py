@@ -1,8 +1,8 @@
 #!/usr/bin/env python3
-"""Writes crates/vectors/stdin, a frame for each file, and crates/vectors/stdout, the listings that p12_reader.py gives, each of an
-accepted file with the pairs that p12_pairs.py gives, what p12_runs.py says of calls on its table, and the line that it is written back
-the same; crates/list/stdin and stdout, M and its listing; crates/rewrite/stdin and stdout, a file of a common tool, twice; and
-crates/pairs/stdin and stdout, a file and its pairs.
+"""Writes crates/vectors/stdin, a frame for each file, and crates/vectors/stdout, the listings that p12_reader.py gives,
+each of an accepted file with the pairs that p12_pairs.py gives, what p12_runs.py gives for calls on its table, and the
+line that it is written back the same; crates/list/stdin and stdout, M and its listing; crates/rewrite/stdin and stdout,
+a file of a common tool, twice; and crates/pairs/stdin and stdout, a file and its pairs.
 
     p12_vectors.py                       # writes these files
     p12_vectors.py --check               # says whether they are what the files give

@@ -1,4 +1,5 @@
--- Walks by hand of functions whose contract says nothing: each is a row of calls, and of each call only its result is used, whatever it ensures.
+-- Walks by hand of functions whose contracts say nothing: each is a row of calls, and of each call only the result is
+-- used, whatever it ensures.
 use types.Kit as Kit
 use Prim.Native.Nat.{ℕ}
 use mathlib.Core.List.{List, [], _∷_}
@@ -10,8 +11,8 @@ use prog.Wp.{Heap, Env, Calls, Loops}
 use ghost.Atoms.{Atoms, sem}
 use contract.Lifetimes.{Lfts}
 use sound.WpLaws.{FmC}
-use types.Kit.{Given, Item, ‵, raw, _⊛_, ⋆, some, later, _$_, _∵_, !, qed, by, move, drop, use0, use1, split, join, pick}
-use types.Kit.{fjoin, suffices, frame, await, done, prop, runs, lands, Seq, Step, step}
+use types.Kit.{Given, Item, ‵, raw, _⊛_, ⋆, some, later, _$_, _∵_, !, qed, by, move, drop, use0, use1, split}
+use types.Kit.{join, pick, fjoin, suffices, frame, await, done, prop, runs, lands, Seq, Step, step}
 use types.Run.{Opds}
 use denote.Laws.{Is, shows}
 use denote.RattleType.{RattleType, Denots, Valss, owns}
@@ -42,22 +43,29 @@ module _ {M : Type 1} (𝓤 : URA M) (H : Heap 𝓤) (A : Atoms 𝓤) (T : Ended
     abbrev Said : Lasts T (y .0 .0) (y .0 .3) → Item 𝓤
     Said ws = ‵ (lasts T (y .0 .0) (y .0 .3) ws)
 
-module _ {M : Type 1} {𝓤 : URA M} {H : Heap 𝓤} {A : Atoms 𝓤} {K : Type 0} {W : Given 𝓤 H A} {Γ : List (Item 𝓤)} {E : Env 𝓤 H}
-    {C : Calls 𝓤 H} {Λ : Loops 𝓤 H} {f : Name} {xs : List Operand} {d : Place} {q : Kit.Post 𝓤 H} where
+module _ {M : Type 1} {𝓤 : URA M} {H : Heap 𝓤} {A : Atoms 𝓤} {K : Type 0} {W : Given 𝓤 H A} {Γ : List (Item 𝓤)}
+    {E : Env 𝓤 H} {C : Calls 𝓤 H} {Λ : Loops 𝓤 H} {f : Name} {xs : List Operand} {d : Place} {q : Kit.Post 𝓤 H} where
   -- the result is owned, with what its type says of it; the tokens are back; last values are said
-  pub asks-last : K → FmC 𝓤 H (W .laws) C → {rest : Body} (T : Ended) (c : Clauses 𝓤 T) → Triple 𝓤 (C f) (Called 𝓤 H A T c)
+  pub asks-last : K → FmC 𝓤 H (W .laws) C → {rest : Body} (T : Ended) (c : Clauses 𝓤 T)
+      → Triple 𝓤 (C f) (Called 𝓤 H A T c)
       → (y : Called 𝓤 H A T c .Ghost) → Opds K W (raw (Called 𝓤 H A T c .pre y) ∷ Γ) E xs (Called 𝓤 H A T c .args y)
-      → ((v : Val) (r : Result 𝓤 H A T c y .Denot) → Is (Result 𝓤 H A T c y) r (v ∷ []) → (ws : Lasts T (y .0 .0) (y .0 .3))
-      → Seq K W (‵ (Result 𝓤 H A T c y .own r (v ∷ [])) ∷ Tokens 𝓤 H A T c y ∷ Said 𝓤 H A T c y ws ∷ Γ) (lands C Λ E d v rest q))
+      → ((v : Val) (r : Result 𝓤 H A T c y .Denot) → Is (Result 𝓤 H A T c y) r (v ∷ [])
+      → (ws : Lasts T (y .0 .0) (y .0 .3))
+      → Seq K W (‵ (Result 𝓤 H A T c y .own r (v ∷ [])) ∷ Tokens 𝓤 H A T c y ∷ Said 𝓤 H A T c y ws ∷ Γ)
+      (lands C Λ E d v rest q))
       → Seq K W (raw (Called 𝓤 H A T c .pre y) ∷ Γ) (runs C Λ E (seq (call f xs d) rest) q)
   asks-last t fm T c known y os k =
       calls-at t fm (Called 𝓤 H A T c) known y os (λ v.
-      use1 W (later (some (λ (r : Result 𝓤 H A T c y .Denot). (Tokens 𝓤 H A T c y ⊛ ‵ (Result 𝓤 H A T c y .own r (v ∷ [])))
-      ⊛ raw (ensured 𝓤 H A T c (y .0 .0) (y .0 .3) (y .1) r)))) (id⊢ 𝓤 _) $ await t tt $ pick t (λ r. split t $ move t (1 ∷ []) $
+      use1 W (later (some (λ (r : Result 𝓤 H A T c y .Denot).
+      (Tokens 𝓤 H A T c y ⊛ ‵ (Result 𝓤 H A T c y .own r (v ∷ [])))
+      ⊛ raw (ensured 𝓤 H A T c (y .0 .0) (y .0 .3) (y .1) r)))) (id⊢ 𝓤 _) $ await t tt $
+      pick t (λ r. split t $ move t (1 ∷ []) $
       use1 W (some (λ (ws : Lasts T (y .0 .0) (y .0 .3)). Said 𝓤 H A T c y ws
-      ⊛ raw (c (y .0 .0) (y .0 .3) .ensures (y .1) r (atExit T (y .0 .0) (y .0 .3) ws)))) (id⊢ 𝓤 _) $ pick t (λ ws. split t $
+      ⊛ raw (c (y .0 .0) (y .0 .3) .ensures (y .1) r (atExit T (y .0 .0) (y .0 .3) ws)))) (id⊢ 𝓤 _) $
+      pick t (λ ws. split t $
       move t (1 ∷ []) $ drop t $ move t (1 ∷ []) $ split t $ move t (1 ∷ []) $
-      peeks t (Result 𝓤 H A T c y) (Is (Result 𝓤 H A T c y)) (shows 𝓤 H A (Result 𝓤 H A T c y)) r (v ∷ []) (λ is. k v r is ws))))
+      peeks t (Result 𝓤 H A T c y) (Is (Result 𝓤 H A T c y)) (shows 𝓤 H A (Result 𝓤 H A T c y)) r (v ∷ [])
+      (λ is. k v r is ws))))
 
   -- the same of a call that is lent nothing by `&mut`
   pub asks : K → FmC 𝓤 H (W .laws) C → {rest : Body} (T : Ended) (c : Clauses 𝓤 T) → Triple 𝓤 (C f) (Called 𝓤 H A T c)
@@ -75,9 +83,11 @@ module _ {M : Type 1} {𝓤 : URA M} {H : Heap 𝓤} {A : Atoms 𝓤} {K : Type 
 module _ {M : Type 1} (𝓤 : URA M) (H : Heap 𝓤) (A : Atoms 𝓤) (W : Given 𝓤 H A) where
   -- what a callee with one parameter asks, beside the tokens P
   pub of-one : (R : RattleType) (x : R .Denot) (v : Val) (P : SProp 𝓤)
-      → ent 𝓤 (⋆ 𝓤 H A (‵ (R .own x (v ∷ [])) ∷ raw P ∷ [])) (sep 𝓤 (sep 𝓤 P (sem 𝓤 H A (owns (R ∷ []) (x, tt) (v ∷ [], tt)))) (emp 𝓤))
+      → ent 𝓤 (⋆ 𝓤 H A (‵ (R .own x (v ∷ [])) ∷ raw P ∷ []))
+      (sep 𝓤 (sep 𝓤 P (sem 𝓤 H A (owns (R ∷ []) (x, tt) (v ∷ [], tt)))) (emp 𝓤))
   of-one R x v P =
-      qed W (‵ (R .own x (v ∷ [])) ∷ raw P ∷ []) ∵ says-nothing ! $ move ! (1 ∷ []) $ frame ! $ nothing ! $ move ! (1 ∷ 0 ∷ []) $ fjoin ! $ done !
+      qed W (‵ (R .own x (v ∷ [])) ∷ raw P ∷ []) ∵ says-nothing ! $ move ! (1 ∷ []) $ frame ! $ nothing ! $
+      move ! (1 ∷ 0 ∷ []) $ fjoin ! $ done !
 
 -- ---- the exit: nothing is had of any parameter
 module _ {n : ℕ} where
@@ -86,7 +96,8 @@ module _ {n : ℕ} where
   dropped (s ∷ ss) ks = (stay-dropped s (ks .0), dropped ss (ks .1))
 
   module _ (κs : Lfts n) where
-    fits : (ss : List (Slot n)) (ks : Kepts ss) (a : Denots (typesAt ss κs)) (ws : Fins κs ss ks a) → fitsOf κs ss ks (dropped ss ks) a ws
+    fits : (ss : List (Slot n)) (ks : Kepts ss) (a : Denots (typesAt ss κs)) (ws : Fins κs ss ks a)
+        → fitsOf κs ss ks (dropped ss ks) a ws
     fits [] ks a ws = tt
     fits (s ∷ ss) ks a ws = (tt, fits ss (ks .1) (a .1) (ws .1))
 
@@ -111,13 +122,15 @@ module _ {M : Type 1} (𝓤 : URA M) (H : Heap 𝓤) (A : Atoms 𝓤) (W : Given
 
   module _ (T : Ended) (c : Clauses 𝓤 T) where
     -- a walk ends at a result that owns nothing but facts
-    pub ends : (y : walkOf 𝓤 H A T (kept-none T) c .Ghost) (v : Val) (r : typeAt (T .signature .result) (y .0 .0) .Denot)
-        (ws : Lasts T (y .0 .0) (y .0 .3)) → ent 𝓤 (emp 𝓤) (c (y .0 .0) (y .0 .3) .ensures (y .1) r (atExit T (y .0 .0) (y .0 .3) ws))
+    pub ends : (y : walkOf 𝓤 H A T (kept-none T) c .Ghost) (v : Val)
+        (r : typeAt (T .signature .result) (y .0 .0) .Denot) (ws : Lasts T (y .0 .0) (y .0 .3))
+        → ent 𝓤 (emp 𝓤) (c (y .0 .0) (y .0 .3) .ensures (y .1) r (atExit T (y .0 .0) (y .0 .3) ws))
         → ent 𝓤 (emp 𝓤) (sem 𝓤 H A (typeAt (T .signature .result) (y .0 .0) .own r (v ∷ [])))
         → ent 𝓤 (alive 𝓤 H A (T .signature) (y .0 .0) (y .0 .1)) (walkOf 𝓤 H A T (kept-none T) c .post y v)
     ends y v r ws says makes =
         qed W (raw (alive 𝓤 H A (T .signature) (y .0 .0) (y .0 .1)) ∷ []) ∵
-        suffices ! _ (ends-at 𝓤 H A T (kept-none T) c W y v r ws (fits (y .0 .0) (T .signature .params) (T .kept) (y .0 .3) ws)) $
+        suffices ! _ (ends-at 𝓤 H A T (kept-none T) c W y v r ws
+        (fits (y .0 .0) (T .signature .params) (T .kept) (y .0 .3) ws)) $
         use0 W (‵ (typeAt (T .signature .result) (y .0 .0) .own r (v ∷ []))) makes $
         use0 W (‵ (hasOf (y .0 .0) (T .signature .params) (T .kept) (kept-none T) (y .0 .3) ws (y .0 .4)))
         (had (y .0 .0) (T .signature .params) (T .kept) (y .0 .3) ws (y .0 .4)) $

@@ -1,4 +1,5 @@
--- What walks that make an attribute reader share: the contracts of the calls, what each asks, and facts of a reader that a call returned.
+-- What walks that make an attribute reader share: the contracts of the calls, what each asks, and facts of a reader
+-- that a call returned.
 use mathlib.Core.Path.{refl}
 use Prim.Native.Nat.{ℕ, _<_, _^_}
 use mathlib.Core.List.{List, [], _∷_}
@@ -21,7 +22,7 @@ use denote.Ref.{RefT, NamedLft}
 use denote.Signature.{namedLft}
 use denote.Steps.{owned, nothing}
 use denote.Struct.Laws as LL
-use denote.Triple.Entry.{alive}
+use denote.Triple.Entry.{Vals, alive}
 use denote.Triple.Statement.{Contract}
 use Rattle.pkcs12.specs.declared.Range.{Range}
 use Rattle.pkcs12.specs.declared.Table.{Table}
@@ -78,32 +79,28 @@ module _ (κ : Lft) where
         → ent 𝓤 (sem 𝓤 H A (Owned d u)) (sep 𝓤 (sem 𝓤 H A (Owned d u)) (sem 𝓤 H A (Owned d u)))
     reader-twice d u = LL.copy (D κ) (T′.the-copy (namedLft 1 0 tt (κ, tt))) 𝓤 H A W .twice d (u ∷ [])
 
-module _ {M : Type 1} (𝓤 : URA M) (H : Heap 𝓤) (A : Atoms 𝓤) (W : Given 𝓤 H A) (mem : Memory → SProp 𝓤) (run : Routine → Fun 𝓤)
-    (κ : Lft) (q : Share) where
+module _ {M : Type 1} (𝓤 : URA M) (H : Heap 𝓤) (A : Atoms 𝓤) (W : Given 𝓤 H A) (mem : Memory → SProp 𝓤)
+    (run : Routine → Fun 𝓤) (κ : Lft) (q : Share) where
   -- the token of the file's lifetime
   abbrev pub Token : SProp 𝓤
   Token = alive 𝓤 H A open-fn.signature (κ, tt) (q, tt)
 
   -- opening: the file is passed, and the table and the row number are made
   module _ (table : Table) (f : RefT (List ℕ)) (bag : ℕ) where
+    abbrev handed : Vals open-fn.signature (κ, tt)
+    handed = (of-table table ∷ [], (of-file f ∷ [], (vint w64 bag ∷ [], tt)))
+
     abbrev pub to-open : Open 𝓤 H A mem run .Ghost
-    to-open = (
-      (
-        (κ, tt),
-        (q, tt),
-        tt,
-        (table, (f, (bag, tt))),
-        (of-table table ∷ [], (of-file f ∷ [], (vint w64 bag ∷ [], tt))),
-      ),
-      tt,
-    )
+    to-open = (((κ, tt), (q, tt), tt, (table, (f, (bag, tt))), handed), tt)
 
     pub opens : Is Tb.the-row table (of-table table ∷ []) → bag < 2 ^ 64
         → ent 𝓤 (⋆ 𝓤 H A (‵ (Lent κ f) ∷ raw Token ∷ [])) (Open 𝓤 H A mem run .pre to-open)
     opens table-is fits =
         qed W (‵ (Lent κ f) ∷ raw Token ∷ []) ∵ says-nothing ! $ move ! (1 ∷ []) $ frame ! $
-        nothing ! $ owned ! usize (Is usize) (uint-makes 𝓤 H A W w64) bag _ (refl, fits) $ fjoin ! $ move ! (1 ∷ 0 ∷ []) $ fjoin ! $
-        owned ! Tb.the-row (Is Tb.the-row) (LL.makes Tb.the-type Tb′.the-plain 𝓤 H A) table _ table-is $ fjoin ! $ done !
+        nothing ! $ owned ! usize (Is usize) (uint-makes 𝓤 H A W w64) bag _ (refl, fits) $
+        fjoin ! $ move ! (1 ∷ 0 ∷ []) $ fjoin ! $
+        owned ! Tb.the-row (Is Tb.the-row) (LL.makes Tb.the-type Tb′.the-plain 𝓤 H A) table _ table-is $
+        fjoin ! $ done !
 
   -- the calls on a reader at a machine value
   module _ (d : Attributes) (u : Val) where
@@ -128,5 +125,5 @@ module _ {M : Type 1} (𝓤 : URA M) (H : Heap 𝓤) (A : Atoms 𝓤) (W : Given
           → ent 𝓤 (⋆ 𝓤 H A (‵ (Owned κ d u) ∷ raw Token ∷ [])) (Part 𝓤 H A mem run .pre to-part)
       gives range-is =
           qed W (‵ (Owned κ d u) ∷ raw Token ∷ []) ∵ says-nothing ! $ move ! (1 ∷ []) $ frame ! $
-          nothing ! $ owned ! R.the-row (Is R.the-row) (LL.makes R.the-type R′.the-plain 𝓤 H A) range _ range-is $ fjoin ! $
-          move ! (1 ∷ 0 ∷ []) $ fjoin ! $ done !
+          nothing ! $ owned ! R.the-row (Is R.the-row) (LL.makes R.the-type R′.the-plain 𝓤 H A) range _ range-is $
+          fjoin ! $ move ! (1 ∷ 0 ∷ []) $ fjoin ! $ done !

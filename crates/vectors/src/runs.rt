@@ -1,6 +1,7 @@
-// Runs calls on the table of an accepted file: an attribute reader of each bag, and identity rows, each by itself and all stored in an array.
-// docs/TESTS.md has the form of the lines. `three_calls`, `part_of` and `fill_rows` are proved by a walk, so each is a row of calls.
-ghost use Prim.Native.Nat.{_<_};
+// Runs calls on the table of an accepted file: an attribute reader of each bag, and identity rows, each by itself and all
+// stored in an array. docs/TESTS.md has the form of the lines. `three_calls`, `part_of` and `fill_rows` are proved by a
+// walk, so each is a row of calls; the rest is done over them.
+use crate::wide;
 use attributes::Item;
 use der::Fault;
 use identities::Identity;
@@ -65,12 +66,6 @@ fn fill_rows(table: Table, bytes: &[u8], before: [IdentityRow; pkcs12::BAG_ROWS]
     let mut rows = before;
     let answer = identities::fill(table, bytes, &mut rows);
     Filled { answer, rows }
-}
-
-fn wide(b: u8) -> usize
-    ensures { λ r. ⌜ r < 256 ⌝ }
-{
-    b as usize
 }
 
 fn summed(part: &[u8]) -> Summary {

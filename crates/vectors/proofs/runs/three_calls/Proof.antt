@@ -1,4 +1,5 @@
--- `three_calls`, walked by hand: a reader is opened, and three times it is moved and read. What it owns is had twice where it is read before it is moved.
+-- `three_calls`, walked by hand: a reader is opened, and three times it is moved and read. What it owns is had twice
+-- where it is read before it is moved.
 -- No axiom.
 use mathlib.Core.Path.{refl}
 use Prim.Native.Nat.{ℕ, _<_, _^_}
@@ -75,8 +76,8 @@ made-is : (x y z : Item) (u v w : Val) → Is I.the-row x (u ∷ []) → Is I.th
     → Is Th.the-row (made x y z) (made-val u v w ∷ [])
 made-is x y z u v w p q r = ((u ∷ [], (v ∷ [], (w ∷ [], tt))), (refl, (p, (q, (r, tt)))))
 
-module _ {M : Type 1} (𝓤 : URA M) (H : Heap 𝓤) (A : Atoms 𝓤) (W : Given 𝓤 H A) (mem : Memory → SProp 𝓤) (run : Routine → Fun 𝓤)
-    (κ : Lft) (q : Share) (table : Table) (f : RefT (List ℕ)) (bag : ℕ) where
+module _ {M : Type 1} (𝓤 : URA M) (H : Heap 𝓤) (A : Atoms 𝓤) (W : Given 𝓤 H A) (mem : Memory → SProp 𝓤)
+    (run : Routine → Fun 𝓤) (κ : Lft) (q : Share) (table : Table) (f : RefT (List ℕ)) (bag : ℕ) where
   abbrev args : Args three-calls.signature (κ, tt)
   args = (table, (f, (bag, tt)))
 
@@ -97,7 +98,10 @@ module _ {M : Type 1} (𝓤 : URA M) (H : Heap 𝓤) (A : Atoms 𝓤) (W : Given
       .post (((κ, tt), (q, tt), tt, args, at), tt)
 
   exits : (r : Three) (u : Val) → Is Th.the-row r (u ∷ []) → ent 𝓤 Tok (Post u)
-  exits r u is = ends 𝓤 H A W three-calls.ended (three-calls.clauses 𝓤 H A mem run) (((κ, tt), (q, tt), tt, args, at), tt) u r
+  exits r u is = ends 𝓤 H A W three-calls.ended (three-calls.clauses 𝓤 H A mem run) (
+    ((κ, tt), (q, tt), tt, args, at),
+    tt,
+  ) u r
       (tt, (tt, (tt, tt))) (id⊢ 𝓤 (emp 𝓤)) (LL.makes Th.the-type Th′.the-plain 𝓤 H A r _ is)
 
   -- of what is passed only the file is owned
@@ -118,15 +122,18 @@ module _ {M : Type 1} (𝓤 : URA M) (H : Heap 𝓤) (A : Atoms 𝓤) (W : Given
   item-typed : (x : Item) (u : Val) → Is I.the-row x (u ∷ []) → Holds (hasTy I′.mir u) × WT u
   item-typed x u is = EL.lawful I.the-type I′.the-laws 𝓤 H A W tt .typed x (u ∷ []) is .0
 
-  module _ (C : Calls 𝓤 H) (Λ : Loops 𝓤 H) (fm : FmC 𝓤 H (W .laws) C) (known-open : Triple 𝓤 (C #open) (Open 𝓤 H A mem run))
-      (known-next : Triple 𝓤 (C #next) (Next 𝓤 H A mem run)) (known-given : Triple 𝓤 (C #given) (Item-of 𝓤 H A mem run)) where
+  module _ (C : Calls 𝓤 H) (Λ : Loops 𝓤 H) (fm : FmC 𝓤 H (W .laws) C)
+      (known-open : Triple 𝓤 (C #open) (Open 𝓤 H A mem run)) (known-next : Triple 𝓤 (C #next) (Next 𝓤 H A mem run))
+      (known-given : Triple 𝓤 (C #given) (Item-of 𝓤 H A mem run)) where
     walk : Is Tb.the-row table (of-table table ∷ []) → Is (ShrSlice (named 0) κ u8) f (of-file f ∷ []) → bag < 2 ^ 64
         → ent 𝓤 Entry (WpFn 𝓤 H C Λ body.function vals Post)
     walk table-is f-is fits =
         qed W (raw Entry ∷ []) ∵ enter ! C Λ body.function vals _ $
-        alloc1 ! (λ l₀. alloc1 ! (λ l₁. alloc1 ! (λ l₂. alloc1 ! (λ l₃. alloc1 ! (λ l₄. alloc1 ! (λ l₅. alloc1 ! (λ l₆. alloc1 ! (λ l₇.
-        alloc1 ! (λ l₈. alloc1 ! (λ l₉. alloc1 ! (λ l₁₀. alloc1 ! (λ l₁₁. alloc1 ! (λ l₁₂. alloc1 ! (λ l₁₃. alloc1 ! (λ l₁₄. alloc1 ! (λ l₁₅.
-        alloc0 ! $ params1 ! $ pass1 ! (init ! 28 refl (LL.lawful Tb.the-type Tb′.the-laws 𝓤 H A W .typed table _ table-is .0)) $
+        alloc1 ! (λ l₀. alloc1 ! (λ l₁. alloc1 ! (λ l₂. alloc1 ! (λ l₃. alloc1 ! (λ l₄. alloc1 ! (λ l₅.
+        alloc1 ! (λ l₆. alloc1 ! (λ l₇. alloc1 ! (λ l₈. alloc1 ! (λ l₉. alloc1 ! (λ l₁₀. alloc1 ! (λ l₁₁.
+        alloc1 ! (λ l₁₂. alloc1 ! (λ l₁₃. alloc1 ! (λ l₁₄. alloc1 ! (λ l₁₅.
+        alloc0 ! $ params1 ! $
+        pass1 ! (init ! 28 refl (LL.lawful Tb.the-type Tb′.the-laws 𝓤 H A W .typed table _ table-is .0)) $
         pass1 ! (init ! 26 refl (shr-slice-lawful 𝓤 H A W (named 0) κ u8 .typed f _ f-is .0)) $
         pass1 ! (init ! 24 refl (tt, record { fits = fits })) $ pass0 ! $
         -- [_15; …; _14; …; down to _0; …; what is passed]
@@ -176,36 +183,41 @@ module _ {M : Type 1} (𝓤 : URA M) (H : Heap 𝓤) (A : Atoms 𝓤) (W : Given
         (and-then ! (load ! (from ! (stop !)) (look ! 1 refl)) (no-more !)) (λ w₃ x₃ of₃.
         land ! (from ! (stop !)) (init ! 14 refl (item-typed x₃ w₃ of₃)) $ drop ! $
         -- [the token; _15; …; _0; …]
-        assigns ! (agg ! (and-then ! (load ! (from ! (stop !)) (look ! 21 refl)) (and-then ! (load ! (from ! (stop !)) (look ! 17 refl))
+        assigns ! (agg ! (and-then ! (load ! (from ! (stop !)) (look ! 21 refl))
+        (and-then ! (load ! (from ! (stop !)) (look ! 17 refl))
         (and-then ! (load ! (from ! (stop !)) (look ! 13 refl)) (no-more !))))) (from ! (stop !))
         (init ! 31 refl (LL.lawful Th.the-type Th′.the-laws 𝓤 H A W .typed (made x₁ x₂ x₃) (made-val w₁ w₂ w₃ ∷ [])
         (made-is x₁ x₂ x₃ w₁ w₂ w₃ of₁ of₂ of₃) .0)) $
-        returns ! (look ! 31 refl) $
-        forget ! 1 refl $ forget ! 3 refl $ forget ! 5 refl $ forget ! 7 refl $ forget ! 9 refl $ forget ! 11 refl $
-        forget ! 13 refl $ forget ! 15 refl $ forget ! 17 refl $ forget ! 19 refl $ forget ! 21 refl $ forget ! 23 refl $
-        forget ! 25 refl $ forget ! 27 refl $ forget ! 29 refl $ forget ! 31 refl $
+        returns ! (look ! 31 refl) $ forget ! 1 refl $ forget ! 3 refl $ forget ! 5 refl $ forget ! 7 refl $
+        forget ! 9 refl $ forget ! 11 refl $ forget ! 13 refl $ forget ! 15 refl $ forget ! 17 refl $
+        forget ! 19 refl $ forget ! 21 refl $ forget ! 23 refl $ forget ! 25 refl $ forget ! 27 refl $
+        forget ! 29 refl $ forget ! 31 refl $
         move ! (31 ∷ 32 ∷ []) $ free1 ! $ move ! (29 ∷ 30 ∷ []) $ free1 ! $ move ! (27 ∷ 28 ∷ []) $ free1 ! $
         move ! (25 ∷ 26 ∷ []) $ free1 ! $ move ! (23 ∷ 24 ∷ []) $ free1 ! $ move ! (21 ∷ 22 ∷ []) $ free1 ! $
         move ! (19 ∷ 20 ∷ []) $ free1 ! $ move ! (17 ∷ 18 ∷ []) $ free1 ! $ move ! (15 ∷ 16 ∷ []) $ free1 ! $
         move ! (13 ∷ 14 ∷ []) $ free1 ! $ move ! (11 ∷ 12 ∷ []) $ free1 ! $ move ! (9 ∷ 10 ∷ []) $ free1 ! $
         move ! (7 ∷ 8 ∷ []) $ free1 ! $ move ! (5 ∷ 6 ∷ []) $ free1 ! $ move ! (3 ∷ 4 ∷ []) $ free1 ! $
         move ! (1 ∷ 2 ∷ []) $ free1 ! $
-        free0 ! $ by ! (exits (made x₁ x₂ x₃) (made-val w₁ w₂ w₃) (made-is x₁ x₂ x₃ w₁ w₂ w₃ of₁ of₂ of₃)))))))))))))))))))))))))
+        free0 ! $ by ! (exits (made x₁ x₂ x₃) (made-val w₁ w₂ w₃)
+        (made-is x₁ x₂ x₃ w₁ w₂ w₃ of₁ of₂ of₃)))))))))))))))))))))))))
 
-module _ {M : Type 1} (𝓤 : URA M) (H : Heap 𝓤) (A : Atoms 𝓤) (W : Given 𝓤 H A) (mem : Memory → SProp 𝓤) (run : Routine → Fun 𝓤)
-    (𝓣 : Tables 𝓤 H) (known-open : Triple 𝓤 (𝓣 .C #open) (Open 𝓤 H A mem run)) (known-next : Triple 𝓤 (𝓣 .C #next) (Next 𝓤 H A mem run))
+module _ {M : Type 1} (𝓤 : URA M) (H : Heap 𝓤) (A : Atoms 𝓤) (W : Given 𝓤 H A) (mem : Memory → SProp 𝓤)
+    (run : Routine → Fun 𝓤) (𝓣 : Tables 𝓤 H) (known-open : Triple 𝓤 (𝓣 .C #open) (Open 𝓤 H A mem run))
+    (known-next : Triple 𝓤 (𝓣 .C #next) (Next 𝓤 H A mem run))
     (known-given : Triple 𝓤 (𝓣 .C #given) (Item-of 𝓤 H A mem run)) where
-  three-calls-walks : Walks 𝓤 H A three-calls.ended (kept-none three-calls.ended) (WpFn 𝓤 H (𝓣 .C) (𝓣 .Λ) body.function)
-      (three-calls.clauses 𝓤 H A mem run)
+  three-calls-walks : Walks 𝓤 H A three-calls.ended (kept-none three-calls.ended)
+      (WpFn 𝓤 H (𝓣 .C) (𝓣 .Λ) body.function) (three-calls.clauses 𝓤 H A mem run)
   three-calls-walks =
       walked 𝓤 H A three-calls.ended (kept-none three-calls.ended) (three-calls.clauses 𝓤 H A mem run)
-      (WpFn 𝓤 H (𝓣 .C) (𝓣 .Λ) body.function) (λ κs. (LL.vals Tb.the-type Tb′.the-laws, (slice-vals, (uint-vals w64, tt))))
+      (WpFn 𝓤 H (𝓣 .C) (𝓣 .Λ) body.function)
+      (λ κs. (LL.vals Tb.the-type Tb′.the-laws, (slice-vals, (uint-vals w64, tt))))
       (λ κs. (LL.tells Tb.the-type Tb′.the-laws, (shr-slice-tells (named 0) (κs .0) u8, (uint-tells w64, tt))))
       (λ κs qs bounds a g are. via 𝓤 _ (fst∗ 𝓤 _ (emp 𝓤))
       (walk 𝓤 H A W mem run (κs .0) (qs .0) (a .0) (a .1 .0) (a .1 .1 .0) (𝓣 .C) (𝓣 .Λ) (fmOf 𝓤 H (W .laws) 𝓣)
       known-open known-next known-given (are .0) (are .1 .0) (are .1 .1 .0 .1)))
 
-  three-calls-meets : Meets 𝓤 H A three-calls.signature (WpFn 𝓤 H (𝓣 .C) (𝓣 .Λ) body.function) (three-calls.spec 𝓤 H A mem run)
+  three-calls-meets : Meets 𝓤 H A three-calls.signature (WpFn 𝓤 H (𝓣 .C) (𝓣 .Λ) body.function)
+      (three-calls.spec 𝓤 H A mem run)
   three-calls-meets =
       walk-meets 𝓤 H A three-calls.ended (kept-none three-calls.ended) W
       (all-go 𝓤 H A W 1 (three-calls.ended .signature .params) (three-calls.ended .kept)
