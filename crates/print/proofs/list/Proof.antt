@@ -26,7 +26,7 @@ enum-told : tie.Need-enum-told
 enum-told c = search needs
 
 returns : tie.Need-returns
-returns c = all-handed _ _ _ (c .before .before .before .before .before .before .before .before .large-buffer .ensures) _ (c .before .before .before .before .before .before .list .ensures .0) _ (c .before .before .before .written .given .1) _ _ (c .before .before .before .before .before .before .list .ensures .1) (c .front .ensures)
+returns c = all-handed _ _ _ (c .before .before .before .before .before .before .before .before .large-buffer .ensures) _ (c .before .before .before .before .before .before .list .ensures .0) _ (c .before .before .before .written .given .1) _ _ (c .before .before .before .before .before .before .list .ensures .1 .1) (c .front .ensures)
 
 returns-2 : tie.Need-returns-2
 returns-2 c = none-refused _ _ _ (c .before .before .before .before .before .large-buffer .ensures) _ (c .before .before .before .list .ensures .0) _ (c .enum-told .given .1)
