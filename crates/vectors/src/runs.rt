@@ -302,7 +302,7 @@ fn all_but_last(file: &[u8]) -> &[u8] {
 }
 
 // All lines of a file.
-pub fn show(table: Table, file: &[u8]) {
+pub(crate) fn show(table: Table, file: &[u8]) {
     let filled = fill_rows(table, file, [UNUSED; pkcs12::BAG_ROWS]);
     all_bags(table, file, filled);
     fill_line(filled);
