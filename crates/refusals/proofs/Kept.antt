@@ -324,8 +324,7 @@ bag-keeps inner k =
 
 contents-keep : (n : ℕ) → Keeps (safeContents n)
 unfolding safeContents
-contents-keep zero = element-keeps _ _ _ (λ t. each-keeps _
-    (bag-keeps _ (record { kept = λ made l. (omega arith, omega arith, omega arith) })))
+contents-keep zero = element-keeps _ _ _ (λ t. judges-anything)
 contents-keep (suc n) = constructed-keeps 0x30 _ (each-keeps _ (bag-keeps _ (contents-keep n)))
 
 safe-keeps : Keeps safe

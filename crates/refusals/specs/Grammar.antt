@@ -7,7 +7,7 @@ use lib.Dec.{leb, ltb}
 use lib.ListN.{length}
 use Rattle.der.specs.Choice.{if_then_else_}
 use Rattle.pkcs12.specs.Identifiers.{sameBytes}
-use Rattle.refusals.specs.Element.{left, Made, Account, stops, Rule, closed, walked, element, _before_, each}
+use Rattle.refusals.specs.Element.{left, Made, Account, stops, Rule, closed, walked, judged, element, _before_, each}
 use Rattle.refusals.specs.Element.{ifAny, served, ifTag, is, any, never, always, constructed, primitive, naming}
 use Rattle.refusals.specs.Element.{anything, opaque}
 use Rattle.refusals.specs.Bodies.{pkcs7, bagId, x509, anyType, outerType, safeType, dataType, bagType, version}
@@ -80,7 +80,7 @@ bag inner =
 
 -- "SafeContents: SEQUENCE of zero or more SafeBag.", with n levels left; "safe contents of level 9" are 8
 unfoldable pub safeContents : ℕ → Rule
-safeContents zero = element (is 0x30) always (λ t. walked (each (bag (λ m l. stops 8 (l .place)))))
+safeContents zero = element (is 0x30) always (λ t. judged anything)
 safeContents (suc n) = constructed 0x30 (each (bag (safeContents n)))
 
 -- "an OCTET STRING whose body is one" of these, in [0]
