@@ -1,4 +1,6 @@
 -- The number that the answer reports.
+use mathlib.Core.Path.{sym, ap}
+use Rattle.pkcs12.specs.declared.Answer.{Answer}
 use Rattle.pkcs12.specs.Report.{answerReport}
 use borrow.Author.Needs.{needs}
 use Rattle.p12.proofs.read_number.Statement.{statement}
@@ -12,11 +14,11 @@ enum-known-answer c = search needs
 
 returns : tie.Need-returns
 unfolding answerReport
-returns c = cc
+returns c = ap (λ (x : Answer). answerReport x .number) (sym (c .enum-told .given .1))
 
 returns-2 : tie.Need-returns-2
 unfolding answerReport
-returns-2 c = cc
+returns-2 c = ap (λ (x : Answer). answerReport x .number) (sym (c .before .answer .given .1))
 
 pub read-number-spec : {M : Type 1} → statement M
 read-number-spec = tie.close (tie.spec enum-told enum-known-answer returns returns-2)

@@ -1,4 +1,6 @@
 -- The number that the answer reports.
+use mathlib.Core.Path.{sym, ap}
+use Rattle.pkcs12.specs.declared.Written.{Written}
 use Rattle.pkcs12.specs.Report.{writtenReport}
 use borrow.Author.Needs.{needs}
 use Rattle.p12.proofs.written_number.Statement.{statement}
@@ -12,11 +14,11 @@ enum-known-written c = search needs
 
 returns : tie.Need-returns
 unfolding writtenReport
-returns c = cc
+returns c = ap (λ (x : Written). writtenReport x .number) (sym (c .enum-told .given .1))
 
 returns-2 : tie.Need-returns-2
 unfolding writtenReport
-returns-2 c = cc
+returns-2 c = ap (λ (x : Written). writtenReport x .number) (sym (c .before .written .given .1))
 
 pub written-number-spec : {M : Type 1} → statement M
 written-number-spec = tie.close (tie.spec enum-told enum-known-written returns returns-2)
