@@ -13,22 +13,26 @@ use Rattle.der.proofs.Header.{header-then}
 use Rattle.der.proofs.Spans.{span-slice, slice-span, span-split}
 use Rattle.der.proofs.Trees.{tree-long, tree-some}
 use Rattle.pkcs12.specs.Sound.{Lies}
-use Rattle.pkcs12.specs.Table.{noRange, bytesIn}
+use Rattle.buffer.specs.Range.{noRange, bytesIn}
 use Rattle.pkcs12.specs.Valid.{Opaques}
-use Rattle.pkcs12.specs.declared.Range.{Range}
+use Rattle.buffer.specs.declared.Range.{Range}
 use Rattle.attributes.specs.Elements.{elementsFrom, elementRanges, countedOf}
 use Rattle.attributes.specs.Own.{each, Chain}
 use Rattle.attributes.proofs.Siblings.{run-end, run-more}
 
 -- what a tree is written as is found as one element: k is told so
-tree-then : {P : Type 0} (s : List ℕ) (x : Tree) (at e end : ℕ) → Formed x → Span s at e (encode x) → e ≤ end → end ≤ length s
+tree-then : {P : Type 0} (s : List ℕ) (x : Tree) (at e end : ℕ) → Formed x → Span s at e (encode x)
+    → e ≤ end → end ≤ length s
     → ((t : ℕ) (b : Cursor) → elementAt s (cursor at end) ≡ Found t b (cursor e end) → P) → P
 unfolding encode Formed
-tree-then s (primitive t body) at e end f p h i k = header-then s at e end t body (f .0) (f .2) p h i (λ b g q. k t (cursor b e) g)
-tree-then s (constructed t xs) at e end f p h i k = header-then s at e end t (encodes xs) (f .0) (f .2) p h i (λ b g q. k t (cursor b e) g)
+tree-then s (primitive t body) at e end f p h i k =
+    header-then s at e end t body (f .0) (f .2) p h i (λ b g q. k t (cursor b e) g)
+tree-then s (constructed t xs) at e end f p h i k =
+    header-then s at e end t (encodes xs) (f .0) (f .2) p h i (λ b g q. k t (cursor b e) g)
 
 module _ (s : List ℕ) (end : ℕ) where
-  -- the elements of a run of trees, with any fuel that reaches its end: by value, and one behind another
+  -- the elements of a run of trees, with any fuel that reaches its end: by value, and one behind
+  -- another
   each-from : (xs : Trees) (fuel at : ℕ) → AllFormed xs → Span s at end (encodes xs) → end ≤ at + fuel
       → (map (bytesIn s) (elementsFrom fuel s end at) ≡ each xs) × Chain at end (elementsFrom fuel s end at)
   unfolding encode Formed each Chain
@@ -43,7 +47,8 @@ module _ (s : List ℕ) (end : ℕ) where
       let m : b ≤ end = omega (arith, r .size) in
       let k = each-from xs fuel b (f .1) r (omega arith) in
       tree-then s x at b end (f .0) q m (r .inside)
-      (λ t c g. rw (run-more fuel s end at t c (cursor b end) (omega arith) g) (rw (slice-span s at b (encode x) q, k .0), (refl, omega arith, k .1))))
+      (λ t c g. rw (run-more fuel s end at t c (cursor b end) (omega arith) g)
+      (rw (slice-span s at b (encode x) q, k .0), (refl, omega arith, k .1))))
 
 module _ (s : List ℕ) (r : Range) (h : Lies s r) (o : Opaques (bytesIn s r)) where
   ranges : (map (bytesIn s) (elementRanges s r) ≡ each (o .as-trees)) × Chain (r .start) (r .end) (elementRanges s r)

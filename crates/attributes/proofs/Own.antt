@@ -11,15 +11,19 @@ use Rattle.der.specs.Span.{Bytes}
 use Rattle.der.specs.declared.Fault.{Fault}
 use Rattle.der.proofs.Choices.{never, by-lt, by-eq, either}
 use Rattle.der.proofs.Spans.{span-whole, span-same}
-use Rattle.pkcs12.specs.Numbers.{notSound, noRow}
+use Rattle.buffer.specs.Numbers.{notSound}
+use Rattle.pkcs12.specs.Numbers.{noRow}
 use Rattle.pkcs12.specs.Values.{bagsOfSafes}
 use Rattle.pkcs12.specs.Valid.{Opaques, bagsInSafes}
-use Rattle.pkcs12.specs.Table.{noAttribute, bytesIn, rowsIn}
-use Rattle.pkcs12.specs.Accepted.{Each}
+use Rattle.pkcs12.specs.Table.{noAttribute, rowsIn}
+use Rattle.buffer.specs.Range.{bytesIn, lies}
+use Rattle.der.specs.Named.{Each}
 use Rattle.pkcs12.specs.Sound.{Lies, Sound}
-use Rattle.pkcs12.specs.Checks.{both, all, countsFit, allOpaque, namesType, lies, holdsAll, safeTest, bagTest, attributeTest, macTest, rowsTest, keepsRules}
-use Rattle.pkcs12.specs.declared.AttributeRow.{AttributeRow}
-use Rattle.pkcs12.specs.declared.Table.{Table}
+use Rattle.der.specs.Choice.{both}
+use Rattle.pkcs12.specs.Checks.{all, countsFit, allOpaque, namesType, holdsAll, safeTest, bagTest}
+use Rattle.pkcs12.specs.Checks.{attributeTest, macTest, rowsTest, keepsRules}
+use Rattle.pkcs12.specs.declared.row.AttributeRow.{AttributeRow}
+use Rattle.pkcs12.specs.declared.table.Table.{Table}
 use Rattle.pkcs12.proofs.Checked.{part-bytes, sound-keeps}
 use Rattle.pkcs12.proofs.Parents.{by-elements}
 use Rattle.attributes.specs.Reader.{position, refusedBy, openingOf, nextOf, itemAfter}
@@ -58,17 +62,21 @@ module _ (t : Table) (s : List ℕ) (n : ℕ) where
   pub refused-11 : Bytes s → openingOf t s n .item ≡ Item.Refused (fault notSound 0) ↔ (Sound t s → ⊥)
   unfolding refusedBy
   refused-11 b = (
-    by-opening (λ p. p .item ≡ Item.Refused (fault notSound 0) → Sound t s → ⊥) b (λ h e. h) (λ o h e. absurd (omega (arith, ap code e)))
+    by-opening (λ p. p .item ≡ Item.Refused (fault notSound 0) → Sound t s → ⊥) b (λ h e. h)
+        (λ o h e. absurd (omega (arith, ap code e)))
         (λ o h e. absurd (omega (arith, ap code e))),
-    λ k. by-opening (λ p. p .item ≡ Item.Refused (fault notSound 0)) b (λ h. refl) (λ o h. absurd (k o)) (λ o h. absurd (k o)),
+    λ k. by-opening (λ p. p .item ≡ Item.Refused (fault notSound 0)) b (λ h. refl)
+        (λ o h. absurd (k o)) (λ o h. absurd (k o)),
   )
 
   pub refused-12 : Bytes s → openingOf t s n .item ≡ Item.Refused (fault noRow 0) ↔ (Sound t s × (t .«bag_count» ≤ n))
   unfolding refusedBy
   refused-12 b = (
-    by-opening (λ p. p .item ≡ Item.Refused (fault noRow 0) → Sound t s × (t .«bag_count» ≤ n)) b (λ h e. absurd (omega (arith, ap code e)))
+    by-opening (λ p. p .item ≡ Item.Refused (fault noRow 0) → Sound t s × (t .«bag_count» ≤ n)) b
+        (λ h e. absurd (omega (arith, ap code e)))
         (λ o h e. (o, h)) (λ o h e. absurd (omega (arith, ap code e))),
-    λ k. by-opening (λ p. p .item ≡ Item.Refused (fault noRow 0)) b (λ h. absurd (h (k .0))) (λ o h. refl) (λ o h. absurd (omega (arith, k .1))),
+    λ k. by-opening (λ p. p .item ≡ Item.Refused (fault noRow 0)) b (λ h. absurd (h (k .0))) (λ o h. refl)
+        (λ o h. absurd (omega (arith, k .1))),
   )
 
   pub ready-iff : Bytes s → openingOf t s n .item ≡ Ready ↔ (Sound t s × (n < t .«bag_count»))
@@ -76,13 +84,16 @@ module _ (t : Table) (s : List ℕ) (n : ℕ) where
   ready-iff b = (
     by-opening (λ p. p .item ≡ Ready → Sound t s × (n < t .«bag_count»)) b (λ h e. absurd (omega (arith, ap code e)))
         (λ o h e. absurd (omega (arith, ap code e))) (λ o h e. (o, h)),
-    λ k. by-opening (λ p. p .item ≡ Ready) b (λ h. absurd (h (k .0))) (λ o h. absurd (omega (arith, k .1))) (λ o h. refl),
+    λ k. by-opening (λ p. p .item ≡ Ready) b (λ h. absurd (h (k .0)))
+        (λ o h. absurd (omega (arith, k .1))) (λ o h. refl),
   )
 
-  pub refused-stays : (f : Fault) → openingOf t s n .item ≡ Item.Refused f → (i : ℕ) → itemAfter i (openingOf t s n) ≡ Item.Refused f
+  pub refused-stays : (f : Fault) → openingOf t s n .item ≡ Item.Refused f → (i : ℕ)
+      → itemAfter i (openingOf t s n) ≡ Item.Refused f
   unfolding itemAfter
   refused-stays f e i =
-      ap {B = Item} (λ (p : Position). p .item) (runs.after-stays (i + 1) (openingOf t s n) (runs.refused-stays (openingOf t s n) f e)) ∙ e
+      ap {B = Item} (λ (p : Position). p .item)
+      (runs.after-stays (i + 1) (openingOf t s n) (runs.refused-stays (openingOf t s n) f e)) ∙ e
 
 -- ---- whole runs
 
@@ -100,14 +111,17 @@ own-name n [] = tt
 own-name n (r ∷ rs) = by-eq (Each (λ x. x .bag ≡ n)) _ _ (r .bag) n (λ e. (e, own-name n rs)) (λ e. own-name n rs)
 
 -- rows that come in turn give what they show
-gives : (s : List ℕ) (p : Position) (rs : List AttributeRow) → ((i : ℕ) → runs.Turn i rs (itemAfter i p)) → Gives s p (map (shownBy s) rs)
+gives : (s : List ℕ) (p : Position) (rs : List AttributeRow) → ((i : ℕ) → runs.Turn i rs (itemAfter i p))
+    → Gives s p (map (shownBy s) rs)
 gives s p rs g =
     let l : length (map (shownBy s) rs) ≡ length rs = length-map rs (shownBy s) in
     record {
       in-turn = λ i h. (
         getD rs i noAttribute,
         g i .0 (omega arith),
-        sym (getD-in (map (shownBy s) rs) i noValue (shownBy s noAttribute) h ∙ List·getD-map (shownBy s) rs i noAttribute),
+        sym
+            (getD-in (map (shownBy s) rs) i noValue (shownBy s noAttribute) h
+            ∙ List·getD-map (shownBy s) rs i noAttribute),
       );
       done = λ i h. g i .1 (omega arith);
     }
@@ -118,7 +132,8 @@ module _ (t : Table) (s : List ℕ) (n : ℕ) (b : Bytes s) (o : Sound t s) (h :
 
   pub rows-in-turn : (i : ℕ) → runs.Turn i (ownRows n (attributesOf t)) (itemAfter i (openingOf t s n))
   unfolding nextOf
-  rows-in-turn i = rw opening (runs.in-turn i (ready t n) (ownRows n (attributesOf t)) (record { moves = refl; rest = refl }))
+  rows-in-turn i = rw opening
+      (runs.in-turn i (ready t n) (ownRows n (attributesOf t)) (record { moves = refl; rest = refl }))
 
   pub rows-name-bag : (i : ℕ) (r : AttributeRow) → itemAfter i (openingOf t s n) ≡ Item.Attribute r → r .bag ≡ n
   rows-name-bag i r e =
@@ -134,10 +149,12 @@ module _ (t : Table) (s : List ℕ) (n : ℕ) (b : Bytes s) (o : Sound t s) (h :
 -- ---- the rows of a sound table
 
 -- a counted bag row, if the array has that many, is a bag of the reading
-pub bag-in-reading : (t : Table) (s : List ℕ) (n : ℕ) (o : Sound t s) → n < t .«bag_count» → t .«bag_count» ≤ length (t .bags)
+pub bag-in-reading : (t : Table) (s : List ℕ) (n : ℕ) (o : Sound t s) → n < t .«bag_count»
+    → t .«bag_count» ≤ length (t .bags)
     → n < bagsInSafes (o .reading .safes)
 bag-in-reading t s n o h k =
-    let l : length (bagsOfSafes 0 0 (o .reading .safes)) ≡ t .«bag_count» = rw (shown-bags t s o, length-map, length-take) (omega arith) in
+    let l : length (bagsOfSafes 0 0 (o .reading .safes)) ≡ t .«bag_count» =
+    rw (shown-bags t s o, length-map, length-take) (omega arith) in
     omega (arith, safes-long 0 0 (o .reading .safes))
 
 -- opaque elements and nothing more
@@ -145,7 +162,12 @@ opaques-of : (x : List ℕ) → Bytes x → allOpaque x ≡ true → Opaques x
 unfolding allOpaque
 opaques-of x b =
     by-elements x b (λ u. u ≡ true → Opaques x) (λ f. false) (λ f e. never e) (wholeOf x) _ (omega arith) (omega arith)
-    (λ m n o e. record { as-trees = o .trees; formed = o .formed; depth = o .levels; whole = span-same x 0 (length x) _ x (o .whole) (span-whole x) })
+    (λ m n o e. record {
+      as-trees = o .trees;
+      formed = o .formed;
+      depth = o .levels;
+      whole = span-same x 0 (length x) _ x (o .whole) (span-whole x);
+    })
 
 -- tests that pass: both, the fourth of five, and a test of each
 both-says : (t u : Bool) → both t u ≡ true → (t ≡ true) × (u ≡ true)
@@ -169,14 +191,19 @@ module _ (t : Table) (s : List ℕ) (b : Bytes s) (o : Sound t s) where
   unfolding keepsRules rowsTest rowsIn
   attributes-test =
       all-each (attributeTest s) (attributesOf t)
-      (fourth (countsFit t) (all (safeTest s) (rowsIn t .safes)) (all (bagTest s) (rowsIn t .bags)) _ (macTest s (t .mac)) (sound-keeps t s b o))
+      (fourth (countsFit t) (all (safeTest s) (rowsIn t .safes)) (all (bagTest s) (rowsIn t .bags)) _
+      (macTest s (t .mac)) (sound-keeps t s b o))
 
   pub attribute-values-hold : (i : ℕ) → i < length (attributesOf t)
-      → Lies s (getD (attributesOf t) i noAttribute .values) × Opaques (bytesIn s (getD (attributesOf t) i noAttribute .values))
+      → Lies s (getD (attributesOf t) i noAttribute .values)
+      × Opaques (bytesIn s (getD (attributesOf t) i noAttribute .values))
   unfolding rowsIn attributeTest holdsAll
   attribute-values-hold i h =
       let r : AttributeRow = getD (attributesOf t) i noAttribute in
-      let p = both-says (namesType s (r .identifier)) (holdsAll s (r .values)) (each-at _ (attributesOf t) i noAttribute attributes-test h) in (
-        each-at (λ x. Lies s (x .identifier) × Lies s (x .values)) (attributesOf t) i noAttribute (o .ranges .attributes) h .1,
-        opaques-of _ (part-bytes s b (r .values)) (both-says (lies s (r .values)) (allOpaque (bytesIn s (r .values))) (p .1) .1),
+      let p = both-says (namesType s (r .identifier)) (holdsAll s (r .values))
+      (each-at _ (attributesOf t) i noAttribute attributes-test h) in (
+        each-at (λ x. Lies s (x .identifier) × Lies s (x .values)) (attributesOf t) i noAttribute
+            (o .ranges .attributes) h .1,
+        opaques-of _ (part-bytes s b (r .values))
+            (both-says (lies s (r .values)) (allOpaque (bytesIn s (r .values))) (p .1) .1),
       )

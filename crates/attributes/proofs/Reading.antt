@@ -1,6 +1,6 @@
--- What the walks over a reader share: its type and machine value, the facts of its fields, its file had without giving it up,
--- and a reader made of a file and of whatever machine value a call answered with for the position.
--- No axiom; `Given` is asked where something is owned.
+-- What the walks over a reader share: its type and machine value, the facts of its fields, its file
+-- had without giving it up, and a reader made of a file and of whatever machine value a call
+-- answered with for the position. No axiom; `Given` is asked where something is owned.
 use mathlib.Core.Path.{_≡_, refl}
 use Prim.Native.Nat.{ℕ}
 use mathlib.Core.List.{List, [], _∷_}
@@ -89,20 +89,26 @@ module _ (κ : Lft) where
       -- the file's part is had of what the struct owns, which is kept
       pub file-out : ent 𝓤 (sem 𝓤 H A Own) (sep 𝓤 (sem 𝓤 H A (Lent (d .file))) (sem 𝓤 H A Own))
       file-out =
-          qed W (‵ Own ∷ []) ∵ use1 W (‵ Own ⊛ ‵ Own) (LL.copy D (T′.the-copy (namedLft 1 0 tt (κ, tt))) 𝓤 H A W .twice d (mach ∷ [])) $ split ! $
-          use1 W (given (mach ∷ [] ≡ mach ∷ []) (‵ (all-own (D .parts) L vd))) (own-open 𝓤 H A W D L vd mach) $ learn ! (λ _.
-          use1 W (‵ (ownAt (D .parts) L 0 (d .file)) ⊛ ‵ (rest (D .parts) L 0 vd)) (own-out 𝓤 H A W (D .parts) L 0 vd) $ split ! $ move ! (1 ∷ []) $ drop ! $ done !)
+          qed W (‵ Own ∷ []) ∵ use1 W (‵ Own ⊛ ‵ Own)
+          (LL.copy D (T′.the-copy (namedLft 1 0 tt (κ, tt))) 𝓤 H A W .twice d (mach ∷ [])) $ split ! $
+          use1 W (given (mach ∷ [] ≡ mach ∷ []) (‵ (all-own (D .parts) L vd))) (own-open 𝓤 H A W D L vd mach) $
+          learn ! (λ _.
+          use1 W (‵ (ownAt (D .parts) L 0 (d .file)) ⊛ ‵ (rest (D .parts) L 0 vd)) (own-out 𝓤 H A W (D .parts) L 0 vd) $
+          split ! $ move ! (1 ∷ []) $ drop ! $ done !)
 
   -- a struct of a file and a position, where the position has the machine value u
   module _ (f : RefT (List ℕ)) (p : Position) (u : Val) where
     abbrev pub made-val : Val
     made-val = vstruct (ofList (of-file f ∷ u ∷ []))
 
-    pub made-is : Is (ShrSlice (named 0) κ u8) f (of-file f ∷ []) → Is P.the-row p (u ∷ []) → Is (B (κ, tt)) (readerOf f p) (made-val ∷ [])
+    pub made-is : Is (ShrSlice (named 0) κ u8) f (of-file f ∷ []) → Is P.the-row p (u ∷ [])
+        → Is (B (κ, tt)) (readerOf f p) (made-val ∷ [])
     made-is fs ps = ((of-file f ∷ [], (u ∷ [], tt)), (refl, (fs, (ps, tt))))
 
     pub made-own : {M : Type 1} (𝓤 : URA M) (H : Heap 𝓤) (A : Atoms 𝓤) → Given 𝓤 H A
-        → ent 𝓤 (sep 𝓤 (sem 𝓤 H A (Lent f)) (sem 𝓤 H A (P.the-row .own p (u ∷ [])))) (sem 𝓤 H A (B (κ, tt) .own (readerOf f p) (made-val ∷ [])))
+        → ent 𝓤 (sep 𝓤 (sem 𝓤 H A (Lent f)) (sem 𝓤 H A (P.the-row .own p (u ∷ []))))
+        (sem 𝓤 H A (B (κ, tt) .own (readerOf f p) (made-val ∷ [])))
     made-own 𝓤 H A W =
-        qed W (‵ (Lent f) ∷ ‵ (P.the-row .own p (u ∷ [])) ∷ []) ∵ nothing ! $ move ! (2 ∷ 0 ∷ []) $ fjoin ! $ move ! (1 ∷ 0 ∷ []) $ fjoin ! $
+        qed W (‵ (Lent f) ∷ ‵ (P.the-row .own p (u ∷ [])) ∷ []) ∵ nothing ! $ move ! (2 ∷ 0 ∷ []) $ fjoin ! $
+        move ! (1 ∷ 0 ∷ []) $ fjoin ! $
         by ! (makes 𝓤 H A W (fields D) (owns (fields D) (D .to (readerOf f p))) (of-file f ∷ [], (u ∷ [], tt)))

@@ -1,4 +1,5 @@
--- Rules by which `search` follows the definitions of the reader as the code's own tests decided them (see der's Choices).
+-- Rules by which `search` follows the definitions of the reader as the code's own tests decided
+-- them (see der's Choices).
 use mathlib.Core.Path.{_≡_, refl, sym, _∙_}
 use mathlib.Core.List.{List}
 use mathlib.Core.Option.{Option, some}
@@ -7,10 +8,11 @@ use Prim.Native.Nat.{ℕ, _≤_, _<_}
 use native.Mathlib.Omega.{arith}
 use lib.ListN.{length}
 use Rattle.der.proofs.Choices.{at-lt, at-not-lt}
-use Rattle.pkcs12.specs.Numbers.{notSound, noRow}
+use Rattle.buffer.specs.Numbers.{notSound}
+use Rattle.pkcs12.specs.Numbers.{noRow}
 use Rattle.pkcs12.specs.Written.{fileOf, onFile}
-use Rattle.pkcs12.specs.declared.Table.{Table}
-use Rattle.sizes.specs.Sizes.{capped}
+use Rattle.pkcs12.specs.declared.table.Table.{Table}
+use Rattle.encode.specs.Sizes.{capped}
 use Rattle.sound.specs.Measured.{measured}
 use Rattle.sound.specs.declared.Measured.{Measured}
 use Rattle.sound.specs.declared.Measured.the-variants.{Unsound, Size}
@@ -18,7 +20,8 @@ use Rattle.attributes.specs.Reader.{position, refusedBy, openingOf}
 use Rattle.attributes.specs.declared.Item.the-variants.{Ready}
 use Rattle.attributes.specs.declared.Position.{Position}
 
--- A table that was measured has a file exactly if a size was told; what is due of a file doesn't ask for its bytes.
+-- A table that was measured has a file exactly if a size was told; what is due of a file doesn't
+-- ask for its bytes.
 module _ {A : Type 0} (t : Table) (s : List ℕ) (w : Measured) (r x y : A) where
   pub has-no-file : w ≡ measured t s → w ≡ Unsound → r ≡ x → r ≡ onFile (fileOf t s) x (λ f. y)
   unfolding measured
@@ -47,6 +50,7 @@ module _ (t : Table) (s : List ℕ) (bag : ℕ) (w : Measured) (e : w ≡ measur
     unfolding openingOf
     open-missing r h p = has-file t s w r _ _ n e q (at-not-lt bag (t .«bag_count») r _ _ h p)
 
-    pub open-ready : bag < t .«bag_count» → position (t .attributes) (t .«attribute_count») bag 0 Ready ≡ openingOf t s bag
+    pub open-ready : bag < t .«bag_count»
+        → position (t .attributes) (t .«attribute_count») bag 0 Ready ≡ openingOf t s bag
     unfolding openingOf
     open-ready h = has-file t s w _ _ _ n e q (at-lt bag (t .«bag_count») _ _ _ h refl)

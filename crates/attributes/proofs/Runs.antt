@@ -1,4 +1,5 @@
--- Calls one after another: the rows of the bag come in turn, and then the word that there are no more, at every further call.
+-- Calls one after another: the rows of the bag come in turn, and then the word that there are no
+-- more, at every further call.
 use mathlib.Core.Path.{_≡_, refl, sym, _∙_, ap}
 use mathlib.Core.Bool.{Bool, true, false}
 use mathlib.Core.List.{List, [], _∷_}
@@ -12,9 +13,10 @@ use Rattle.der.specs.Choice.{if_then_else_}
 use Rattle.der.proofs.Choices.{by-lt, never}
 use Rattle.der.specs.declared.Fault.{Fault}
 use Rattle.pkcs12.specs.Table.{noAttribute}
-use Rattle.pkcs12.specs.declared.AttributeRow.{AttributeRow}
+use Rattle.pkcs12.specs.declared.row.AttributeRow.{AttributeRow}
 use Rattle.attributes.specs.Own.{ownRows}
-use Rattle.attributes.specs.Reader.{firstFrom, names, counted, position, nextRow, movedTo, onItem, nextOf, after, itemAfter, isLast}
+use Rattle.attributes.specs.Reader.{firstFrom, names, counted, position, nextRow, movedTo}
+use Rattle.attributes.specs.Reader.{onItem, nextOf, after, itemAfter, isLast}
 use Rattle.attributes.specs.declared.Item.{Item}
 use Rattle.attributes.specs.declared.Item.the-variants.{Ready, Done}
 use Rattle.attributes.specs.declared.Position.{Position}
@@ -37,7 +39,8 @@ stays-moved p i =
     (λ h e. rw (past-end p i h, le-ltb i (length (counted p)) h))
 
 -- a call by what the last one gave
-by-item : (P : Position → Type 0) (x : Item) (p q : Position) → ((f : Fault) → x ≡ Item.Refused f → P p) → (((f : Fault) → x ≡ Item.Refused f → ⊥) → P q) → P (onItem x p q)
+by-item : (P : Position → Type 0) (x : Item) (p q : Position) → ((f : Fault) → x ≡ Item.Refused f → P p)
+    → (((f : Fault) → x ≡ Item.Refused f → ⊥) → P q) → P (onItem x p q)
 by-item P Ready p q bad good = good (λ f e. let z : _≡_ {A = ℕ} 0 1 = cc in omega arith)
 by-item P (Item.Attribute r) p q bad good = good (λ f e. let z : _≡_ {A = ℕ} 0 1 = cc in omega arith)
 by-item P Done p q bad good = good (λ f e. let z : _≡_ {A = ℕ} 0 1 = cc in omega arith)
@@ -95,16 +98,19 @@ module _ (n : ℕ) (p₀ : Position) where
 -- call i, counted from 0, is the first call and i more
 pub first-call : (i : ℕ) (p q : Position) → q ≡ nextOf p → after i q .item ≡ itemAfter i p
 unfolding itemAfter after
-first-call i p q e = ap {B = Item} (λ (x : Position). after i x .item) e ∙ ap {B = Item} (λ (n : ℕ). after n p .item) (sym (add-one i))
+first-call i p q e = ap {B = Item} (λ (x : Position). after i x .item) e
+    ∙ ap {B = Item} (λ (n : ℕ). after n p .item) (sym (add-one i))
 
 -- ---- the rows of the bag in turn
 
--- Row k is the first of some rows that name a bag, and then come the others; if none does, k is past the last row.
+-- Row k is the first of some rows that name a bag, and then come the others; if none does, k is
+-- past the last row.
 abbrev Foremost : ℕ → List AttributeRow → ℕ → List AttributeRow → Type 0
 Foremost n xs k [] = length xs ≤ k
 Foremost n xs k (r ∷ rs) = (k < length xs) × (getD xs k noAttribute ≡ r) × (ownRows n (drop (k + 1) xs) ≡ rs)
 
-foremost : (n : ℕ) (xs : List AttributeRow) (at : ℕ) (l : List AttributeRow) → drop at xs ≡ l → Foremost n xs (firstFrom (names n) l at) (ownRows n l)
+foremost : (n : ℕ) (xs : List AttributeRow) (at : ℕ) (l : List AttributeRow) → drop at xs ≡ l
+    → Foremost n xs (firstFrom (names n) l at) (ownRows n l)
 unfolding firstFrom ownRows
 foremost n xs at [] e = omega (arith, length-drop at xs, ap length e)
 foremost n xs at (r ∷ l) e = go (names n r) (foremost n xs (at + 1) l k)
@@ -134,19 +140,22 @@ module _ (p : Position) where
   unfolding nextRow
   next-row xs g = rw (g .rest) at (foremost (p .bag) (counted p) (p .at) (drop (p .at) (counted p)) refl)
 
-  next-gives : (r : AttributeRow) (rs : List AttributeRow) → Left p (r ∷ rs) → (nextOf p .item ≡ Item.Attribute r) × Left (nextOf p) rs
+  next-gives : (r : AttributeRow) (rs : List AttributeRow) → Left p (r ∷ rs)
+      → (nextOf p .item ≡ Item.Attribute r) × Left (nextOf p) rs
   unfolding movedTo nextOf
   next-gives r rs g =
       let f = next-row (r ∷ rs) g in
       let k : nextRow p < p .count = omega (arith, f .0, length-take (p .count) (p .rows)) in
-      let e : getD (p .rows) (nextRow p) noAttribute ≡ r = sym (getD-take (p .count) (p .rows) (nextRow p) noAttribute k) ∙ f .1 in
+      let e : getD (p .rows) (nextRow p) noAttribute ≡ r =
+      sym (getD-take (p .count) (p .rows) (nextRow p) noAttribute k) ∙ f .1 in
       rw (g .moves, lt-ltb (nextRow p) (length (counted p)) (f .0), e) (refl, record { moves = refl; rest = f .2 })
 
   next-ends : Left p [] → (nextOf p .item ≡ Done) × Left (nextOf p) []
   unfolding movedTo nextOf ownRows
   next-ends g =
       let f = next-row [] g in
-      rw (g .moves, le-ltb (nextRow p) (length (counted p)) f) (refl, record { moves = refl; rest = rw (drop-of-length-le (counted p) {i = nextRow p} f) })
+      rw (g .moves, le-ltb (nextRow p) (length (counted p)) f)
+      (refl, record { moves = refl; rest = rw (drop-of-length-le (counted p) {i = nextRow p} f) })
 
 -- call i is to give row i of them, and every call past them the word that there are no more
 abbrev pub Turn : ℕ → List AttributeRow → Item → Type 0
@@ -157,7 +166,8 @@ unfolding after
 turn zero p [] g = (λ h. absurd (omega arith), λ h. next-ends p g .0)
 turn zero p (r ∷ rs) g = (λ h. next-gives p r rs g .0, λ h. absurd (omega arith))
 turn (suc i) p [] g = (λ h. absurd (omega arith), λ h. turn i (nextOf p) [] (next-ends p g .1) .1 (omega arith))
-turn (suc i) p (r ∷ rs) g = let t = turn i (nextOf p) rs (next-gives p r rs g .1) in (λ h. t .0 (omega arith), λ h. t .1 (omega arith))
+turn (suc i) p (r ∷ rs) g = let t = turn i (nextOf p) rs (next-gives p r rs g .1) in
+    (λ h. t .0 (omega arith), λ h. t .1 (omega arith))
 
 pub in-turn : (i : ℕ) (p : Position) (xs : List AttributeRow) → Left p xs → Turn i xs (itemAfter i p)
 in-turn i p xs g = rw (← first-call i p (nextOf p) refl) (turn i p xs g)

@@ -1,4 +1,5 @@
--- The attributes of one bag among the rows of a reading: those of the bag's set, in order. The bags of a reading are numbered as its bag rows.
+-- The attributes of one bag among the rows of a reading: those of the bag's set, in order. The bags
+-- of a reading are numbered as its bag rows.
 use mathlib.Core.Path.{_≡_, refl, sym, ap, _∙_}
 use mathlib.Core.Bool.{Bool, true, false}
 use mathlib.Core.List.{List, [], _∷_, _++_, append-nil, map}
@@ -12,11 +13,12 @@ use Rattle.der.specs.Choice.{if_then_else_}
 use Rattle.der.proofs.Choices.{by-lt}
 use Rattle.pkcs12.specs.Syntax.{Attribute, Set, absent, present, Bags, none, bag, nest, Safe, plain, encrypted}
 use Rattle.pkcs12.specs.Valid.{bagsIn, bagsInSafe, bagsInSafes}
-use Rattle.pkcs12.specs.Values.{BagValue, AttributeValue, stands, bagValues, ownValues, setValues, attributeValues, bagsOfSafe, attributesOfSafe, bagsOfSafes, attributesOfSafes}
+use Rattle.pkcs12.specs.Values.{BagValue, AttributeValue, stands, bagValues, ownValues, setValues, attributeValues}
+use Rattle.pkcs12.specs.Values.{bagsOfSafe, attributesOfSafe, bagsOfSafes, attributesOfSafes}
 use Rattle.pkcs12.specs.Table.{attributeShown}
-use Rattle.pkcs12.specs.declared.Enclosing.{Enclosing}
-use Rattle.pkcs12.specs.declared.Enclosing.the-variants.{Bag}
-use Rattle.pkcs12.specs.declared.AttributeRow.{AttributeRow}
+use Rattle.pkcs12.specs.declared.row.Enclosing.{Enclosing}
+use Rattle.pkcs12.specs.declared.row.Enclosing.the-variants.{Bag}
+use Rattle.pkcs12.specs.declared.row.AttributeRow.{AttributeRow}
 use Rattle.attributes.specs.Reader.{names}
 use Rattle.attributes.specs.Own.{ownRows, ownIn, setIn, setInSafe, setInSafes, listed}
 
@@ -32,7 +34,8 @@ abbrev pub shownBy : List ℕ → AttributeRow → Attribute
 shownBy s r = attributeShown s r .attribute
 
 -- their attributes are what the rows of a table that name it show
-pub shown-own : (s : List ℕ) (n : ℕ) (rs : List AttributeRow) → map (shownBy s) (ownRows n rs) ≡ ownIn n (map (attributeShown s) rs)
+pub shown-own : (s : List ℕ) (n : ℕ) (rs : List AttributeRow)
+    → map (shownBy s) (ownRows n rs) ≡ ownIn n (map (attributeShown s) rs)
 unfolding ownRows ownIn
 shown-own s n [] = refl
 shown-own s n (r ∷ rs) = of-choice (map (shownBy s)) (names n r) _ _ ∙ rw (shown-own s n rs)
@@ -62,7 +65,11 @@ outside-bags : (n m : ℕ) (x : Bags) → (m ≤ n → m + bagsIn x ≤ n) → o
 unfolding attributeValues bagsIn ownIn
 outside-bags n m none h = refl
 outside-bags n m (bag x set xs) h =
-    rw (own-append, own-other n m set (λ e. omega (arith, h (omega arith))), outside-bags n (m + 1) xs (λ l. omega (arith, h (omega arith))))
+    rw (
+      own-append,
+      own-other n m set (λ e. omega (arith, h (omega arith))),
+      outside-bags n (m + 1) xs (λ l. omega (arith, h (omega arith))),
+    )
 outside-bags n m (nest inner set xs) h =
     rw (
       own-append,
@@ -77,8 +84,10 @@ own-bags : (n m j : ℕ) (x : Bags) → n ≡ m + j → ownIn n (attributeValues
 unfolding attributeValues setIn ownIn
 own-bags n m j none e = refl
 own-bags n m zero (bag x set xs) e =
-    rw (own-append, own-same n m set (omega arith), outside-bags n (m + 1) xs (λ l. absurd (omega arith))) (append-nil (listed set))
-own-bags n m (suc j) (bag x set xs) e = rw (own-append, own-other n m set (λ f. omega arith)) (own-bags n (m + 1) j xs (omega arith))
+    rw (own-append, own-same n m set (omega arith), outside-bags n (m + 1) xs (λ l. absurd (omega arith)))
+    (append-nil (listed set))
+own-bags n m (suc j) (bag x set xs) e =
+    rw (own-append, own-other n m set (λ f. omega arith)) (own-bags n (m + 1) j xs (omega arith))
 own-bags n m zero (nest inner set xs) e =
     rw (
       own-append,
@@ -89,9 +98,14 @@ own-bags n m zero (nest inner set xs) e =
     ) (append-nil (listed set))
 own-bags n m (suc j) (nest inner set xs) e =
     rw (own-append, own-append, own-other n m set (λ f. omega arith))
-    (by-lt (λ v. ownIn n (attributeValues (m + 1) inner) ++ ownIn n (attributeValues (m + 1 + bagsIn inner) xs) ≡ listed v) _ _ j (bagsIn inner)
-    (λ h. rw (outside-bags n (m + 1 + bagsIn inner) xs (λ l. absurd (omega arith)), own-bags n (m + 1) j inner (omega arith)) (append-nil (listed (setIn j inner))))
-    (λ h. rw (outside-bags n (m + 1) inner (λ l. omega arith)) (own-bags n (m + 1 + bagsIn inner) (j - bagsIn inner) xs (omega arith))))
+    (by-lt (λ v. ownIn n (attributeValues (m + 1) inner) ++ ownIn n (attributeValues (m + 1 + bagsIn inner) xs)
+    ≡ listed v) _ _ j (bagsIn inner)
+    (λ h. rw (
+      outside-bags n (m + 1 + bagsIn inner) xs (λ l. absurd (omega arith)),
+      own-bags n (m + 1) j inner (omega arith),
+    ) (append-nil (listed (setIn j inner))))
+    (λ h. rw (outside-bags n (m + 1) inner (λ l. omega arith))
+    (own-bags n (m + 1 + bagsIn inner) (j - bagsIn inner) xs (omega arith))))
 
 -- ---- safes from bag m on: likewise
 
@@ -103,7 +117,8 @@ outside-safe n m (encrypted x) h = refl
 outside-safes : (n m : ℕ) (xs : List Safe) → n < m → ownIn n (attributesOfSafes m xs) ≡ []
 unfolding attributesOfSafes ownIn
 outside-safes n m [] h = refl
-outside-safes n m (x ∷ xs) h = rw (own-append, outside-safe n m x (λ l. absurd (omega arith))) (outside-safes n (m + bagsInSafe x) xs (omega arith))
+outside-safes n m (x ∷ xs) h = rw (own-append, outside-safe n m x (λ l. absurd (omega arith)))
+    (outside-safes n (m + bagsInSafe x) xs (omega arith))
 
 own-safe : (n m j : ℕ) (x : Safe) → n ≡ m + j → ownIn n (attributesOfSafe m x) ≡ listed (setInSafe j x)
 unfolding ownIn
@@ -115,9 +130,12 @@ unfolding attributesOfSafes setInSafes ownIn
 own-safes n m j [] e = refl
 own-safes n m j (x ∷ xs) e =
     rw own-append
-    (by-lt (λ v. ownIn n (attributesOfSafe m x) ++ ownIn n (attributesOfSafes (m + bagsInSafe x) xs) ≡ listed v) _ _ j (bagsInSafe x)
-    (λ h. rw (outside-safes n (m + bagsInSafe x) xs (omega arith), own-safe n m j x e) (append-nil (listed (setInSafe j x))))
-    (λ h. rw (outside-safe n m x (λ l. omega arith)) (own-safes n (m + bagsInSafe x) (j - bagsInSafe x) xs (omega arith))))
+    (by-lt (λ v. ownIn n (attributesOfSafe m x) ++ ownIn n (attributesOfSafes (m + bagsInSafe x) xs) ≡ listed v) _ _ j
+    (bagsInSafe x)
+    (λ h. rw (outside-safes n (m + bagsInSafe x) xs (omega arith), own-safe n m j x e)
+    (append-nil (listed (setInSafe j x))))
+    (λ h. rw (outside-safe n m x (λ l. omega arith))
+    (own-safes n (m + bagsInSafe x) (j - bagsInSafe x) xs (omega arith))))
 
 -- ---- bag rows
 
@@ -125,7 +143,8 @@ own-safes n m j (x ∷ xs) e =
 at-first : {A : Type 0} (xs ys : List A) (d : A) (m n : ℕ) → length xs ≡ m → n < m → getD (xs ++ ys) n d ≡ getD xs n d
 at-first xs ys d m n e h = List·getD-append xs ys d n (omega arith)
 
-at-second : {A : Type 0} (xs ys : List A) (d : A) (m n : ℕ) → length xs ≡ m → m ≤ n → getD (xs ++ ys) n d ≡ getD ys (n - m) d
+at-second : {A : Type 0} (xs ys : List A) (d : A) (m n : ℕ) → length xs ≡ m → m ≤ n
+    → getD (xs ++ ys) n d ≡ getD ys (n - m) d
 at-second xs ys d m n e h =
     let k : n ≡ length xs + (n - m) = omega arith in
     ap (λ (i : ℕ). getD (xs ++ ys) i d) k ∙ getD-append-add xs ys (n - m) d
@@ -148,7 +167,8 @@ safes-long k m [] = refl
 safes-long k m (x ∷ xs) = rw length-append (omega (arith, safe-long k m x, safes-long (k + 1) (m + bagsInSafe x) xs))
 
 -- row n tells whether bag n has a set
-bag-numbered : (k : ℕ) (e : Enclosing) (m : ℕ) (x : Bags) (n : ℕ) (d : BagValue) → n < bagsIn x → getD (bagValues k e m x) n d .has-set ≡ stands (setIn n x)
+bag-numbered : (k : ℕ) (e : Enclosing) (m : ℕ) (x : Bags) (n : ℕ) (d : BagValue) → n < bagsIn x
+    → getD (bagValues k e m x) n d .has-set ≡ stands (setIn n x)
 unfolding bagValues bagsIn setIn
 bag-numbered k e m none n d h = absurd (omega arith)
 bag-numbered k e m (bag x set xs) zero d h = refl
@@ -156,22 +176,30 @@ bag-numbered k e m (bag x set xs) (suc n) d h = bag-numbered k e (m + 1) xs n d 
 bag-numbered k e m (nest inner set xs) zero d h = refl
 bag-numbered k e m (nest inner set xs) (suc n) d h =
     let l : length (bagValues k (Bag m) (m + 1) inner) ≡ bagsIn inner = bags-long k (Bag m) (m + 1) inner in
-    by-lt (λ v. getD (bagValues k (Bag m) (m + 1) inner ++ bagValues k e (m + 1 + bagsIn inner) xs) n d .has-set ≡ stands v) _ _ n (bagsIn inner)
-    (λ i. rw (at-first _ (bagValues k e (m + 1 + bagsIn inner) xs) d (bagsIn inner) n l i) (bag-numbered k (Bag m) (m + 1) inner n d i))
-    (λ i. rw (at-second _ (bagValues k e (m + 1 + bagsIn inner) xs) d (bagsIn inner) n l i) (bag-numbered k e (m + 1 + bagsIn inner) xs (n - bagsIn inner) d (omega arith)))
+    by-lt (λ v. getD (bagValues k (Bag m) (m + 1) inner ++ bagValues k e (m + 1 + bagsIn inner) xs) n d .has-set
+    ≡ stands v) _ _ n (bagsIn inner)
+    (λ i. rw (at-first _ (bagValues k e (m + 1 + bagsIn inner) xs) d (bagsIn inner) n l i)
+    (bag-numbered k (Bag m) (m + 1) inner n d i))
+    (λ i. rw (at-second _ (bagValues k e (m + 1 + bagsIn inner) xs) d (bagsIn inner) n l i)
+    (bag-numbered k e (m + 1 + bagsIn inner) xs (n - bagsIn inner) d (omega arith)))
 
-safe-numbered : (k m : ℕ) (x : Safe) (n : ℕ) (d : BagValue) → n < bagsInSafe x → getD (bagsOfSafe k m x) n d .has-set ≡ stands (setInSafe n x)
+safe-numbered : (k m : ℕ) (x : Safe) (n : ℕ) (d : BagValue) → n < bagsInSafe x
+    → getD (bagsOfSafe k m x) n d .has-set ≡ stands (setInSafe n x)
 safe-numbered k m (plain xs) n d h = bag-numbered k Enclosing.None m xs n d h
 safe-numbered k m (encrypted x) n d h = absurd (omega arith)
 
-safes-numbered : (k m : ℕ) (xs : List Safe) (n : ℕ) (d : BagValue) → n < bagsInSafes xs → getD (bagsOfSafes k m xs) n d .has-set ≡ stands (setInSafes n xs)
+safes-numbered : (k m : ℕ) (xs : List Safe) (n : ℕ) (d : BagValue) → n < bagsInSafes xs
+    → getD (bagsOfSafes k m xs) n d .has-set ≡ stands (setInSafes n xs)
 unfolding bagsOfSafes bagsInSafes setInSafes
 safes-numbered k m [] n d h = absurd (omega arith)
 safes-numbered k m (x ∷ xs) n d h =
     let l : length (bagsOfSafe k m x) ≡ bagsInSafe x = safe-long k m x in
-    by-lt (λ v. getD (bagsOfSafe k m x ++ bagsOfSafes (k + 1) (m + bagsInSafe x) xs) n d .has-set ≡ stands v) _ _ n (bagsInSafe x)
-    (λ i. rw (at-first _ (bagsOfSafes (k + 1) (m + bagsInSafe x) xs) d (bagsInSafe x) n l i) (safe-numbered k m x n d i))
-    (λ i. rw (at-second _ (bagsOfSafes (k + 1) (m + bagsInSafe x) xs) d (bagsInSafe x) n l i) (safes-numbered (k + 1) (m + bagsInSafe x) xs (n - bagsInSafe x) d (omega arith)))
+    by-lt (λ v. getD (bagsOfSafe k m x ++ bagsOfSafes (k + 1) (m + bagsInSafe x) xs) n d .has-set ≡ stands v) _ _ n
+    (bagsInSafe x)
+    (λ i. rw (at-first _ (bagsOfSafes (k + 1) (m + bagsInSafe x) xs) d (bagsInSafe x) n l i)
+    (safe-numbered k m x n d i))
+    (λ i. rw (at-second _ (bagsOfSafes (k + 1) (m + bagsInSafe x) xs) d (bagsInSafe x) n l i)
+    (safes-numbered (k + 1) (m + bagsInSafe x) xs (n - bagsInSafe x) d (omega arith)))
 
 pub bags-numbered-alike : (xs : List Safe) (n : ℕ) (d : BagValue) → n < length (bagsOfSafes 0 0 xs)
     → getD (bagsOfSafes 0 0 xs) n d .has-set ≡ stands (setInSafes n xs)

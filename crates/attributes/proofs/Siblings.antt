@@ -15,18 +15,20 @@ use Rattle.der.specs.declared.Element.{Element}
 use Rattle.der.specs.declared.Element.the-variants.{Found}
 use Rattle.der.proofs.Choices.{by-eq}
 use Rattle.der.proofs.Placed.{found as found-at}
-use Rattle.pkcs12.specs.Table.{range, noRange}
-use Rattle.pkcs12.specs.declared.Range.{Range}
+use Rattle.buffer.specs.Range.{range, noRange}
+use Rattle.buffer.specs.declared.Range.{Range}
 use Rattle.attributes.specs.Elements.{elementsFrom, counts, countedOf, chosenOf}
 
 -- one element more: the one that is looked for, or another
-pub chosen-last : (xs : List Range) (i : ℕ) (m : Range) → getD (xs ++ (m ∷ [])) i noRange ≡ chosenOf (length xs) i (getD xs i noRange) m
+pub chosen-last : (xs : List Range) (i : ℕ) (m : Range)
+    → getD (xs ++ (m ∷ [])) i noRange ≡ chosenOf (length xs) i (getD xs i noRange) m
 unfolding chosenOf
 chosen-last [] zero m = refl
 chosen-last [] (suc i) m = rw (ne-eqb 0 (suc i) (λ e. omega arith))
 chosen-last (x ∷ xs) zero m = rw (ne-eqb (suc (length xs)) 0 (λ e. omega arith))
 chosen-last (x ∷ xs) (suc i) m =
-    chosen-last xs i m ∙ by-eq (λ v. v ≡ (if eqb (suc (length xs)) (suc i) then m else getD xs i noRange)) m (getD xs i noRange) (length xs) i
+    chosen-last xs i m ∙ by-eq (λ v. v ≡ (if eqb (suc (length xs)) (suc i) then m else getD xs i noRange)) m
+    (getD xs i noRange) (length xs) i
     (λ e. rw (eq-eqb (suc (length xs)) (suc i) (omega arith)))
     (λ n. rw (ne-eqb (suc (length xs)) (suc i) (λ e. n (omega arith))))
 
@@ -36,7 +38,8 @@ unfolding elementsFrom
 run-end zero s end at h = refl
 run-end (suc fuel) s end at h = rw (le-ltb at end h)
 
-run-broken : (fuel : ℕ) (s : List ℕ) (end at : ℕ) (f : Fault) → elementAt s (cursor at end) ≡ Element.Refused f → elementsFrom fuel s end at ≡ []
+run-broken : (fuel : ℕ) (s : List ℕ) (end at : ℕ) (f : Fault) → elementAt s (cursor at end) ≡ Element.Refused f
+    → elementsFrom fuel s end at ≡ []
 unfolding elementsFrom
 run-broken zero s end at f e = refl
 run-broken (suc fuel) s end at f e = rw e (go (ltb at end))
@@ -45,7 +48,8 @@ run-broken (suc fuel) s end at f e = rw e (go (ltb at end))
     go true = refl
     go false = refl
 
-pub run-more : (fuel : ℕ) (s : List ℕ) (end at t : ℕ) (b n : Cursor) → at < end → elementAt s (cursor at end) ≡ Found t b n
+pub run-more : (fuel : ℕ) (s : List ℕ) (end at t : ℕ) (b n : Cursor) → at < end
+    → elementAt s (cursor at end) ≡ Found t b n
     → elementsFrom (suc fuel) s end at ≡ range at (n .at) ∷ elementsFrom fuel s end (n .at)
 unfolding elementsFrom
 run-more fuel s end at t b n h e = rw (lt-ltb at end h, e)
@@ -54,7 +58,8 @@ module _ (s : List ℕ) (i end start : ℕ) where
   abbrev pub Whole : List Range
   Whole = elementsFrom (end - start) s end start
 
-  -- The elements that were seen and those to come are all of them; `found` is element i if it was seen.
+  -- The elements that were seen and those to come are all of them; `found` is element i if it was
+  -- seen.
   pub record Walking (at count : ℕ) (found : Range) : Type 0 where
     pub fuel : ℕ
     pub enough : end ≤ at + fuel
@@ -66,9 +71,19 @@ module _ (s : List ℕ) (i end start : ℕ) where
     pub small : end < 65536
 
   pub walking-start : end < 65536 → Walking start 0 noRange
-  walking-start h = record { fuel = end - start; enough = omega arith; seen = []; rest = refl; counted = refl; met = refl; few = omega arith; small = h }
+  walking-start h = record {
+    fuel = end - start;
+    enough = omega arith;
+    seen = [];
+    rest = refl;
+    counted = refl;
+    met = refl;
+    few = omega arith;
+    small = h;
+  }
 
-  result : (xs : List Range) (count : ℕ) (found : Range) → Whole ≡ xs → count ≡ length xs → found ≡ getD xs i noRange → counts count found ≡ countedOf Whole i
+  result : (xs : List Range) (count : ℕ) (found : Range) → Whole ≡ xs → count ≡ length xs → found ≡ getD xs i noRange
+      → counts count found ≡ countedOf Whole i
   unfolding countedOf
   result xs count found e f g = rw (e, f, g)
 
@@ -103,7 +118,8 @@ module _ (s : List ℕ) (i end start : ℕ) where
         pub walking-on : (m : Range) → m ≡ chosenOf count i found (range at (n .at)) → Walking (n .at) (count + 1) m
         walking-on m k = go (g .fuel) (g .enough) (g .rest)
           where
-            go : (fuel : ℕ) → end ≤ at + fuel → Whole ≡ g .seen ++ elementsFrom fuel s end at → Walking (n .at) (count + 1) m
+            go : (fuel : ℕ) → end ≤ at + fuel → Whole ≡ g .seen ++ elementsFrom fuel s end at
+                → Walking (n .at) (count + 1) m
             go zero l r = absurd (omega arith)
             go (suc fuel) l r =
                 record {

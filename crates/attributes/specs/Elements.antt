@@ -1,13 +1,12 @@
--- The elements of one attribute, one behind another in the body of its SET (scope, "Attribute: SEQUENCE of an identifier and SET of zero or more
--- opaque elements").
+-- The elements of one attribute, one behind another in the body of its SET (Rule 3.20).
 use mathlib.Core.List.{List, [], _∷_}
 use Prim.Native.Nat.{ℕ, zero, suc, _-_}
 use lib.Dec.{ltb, eqb}
 use lib.ListN.{length, getD}
 use Rattle.der.specs.Choice.{if_then_else_}
 use Rattle.der.specs.Element.{cursor, elementAt, onElement}
-use Rattle.pkcs12.specs.Table.{range, noRange}
-use Rattle.pkcs12.specs.declared.Range.{Range}
+use Rattle.buffer.specs.Range.{range, noRange}
+use Rattle.buffer.specs.declared.Range.{Range}
 use Rattle.attributes.specs.declared.Counted.{Counted}
 
 -- the range of each element, header included, up to the first that is none
@@ -18,7 +17,8 @@ elementsFrom (suc fuel) s end at =
     onElement (elementAt s (cursor at end)) (λ f. []) (λ t b n. range at (n .at) ∷ elementsFrom fuel s end (n .at)) else
     []
 
--- those of a range's bytes; an element has at least two bytes, so as many steps as bytes reach them all
+-- those of a range's bytes; an element has at least two bytes, so as many steps as bytes reach them
+-- all
 unfoldable pub elementRanges : List ℕ → Range → List Range
 elementRanges s r = elementsFrom (r .end - r .start) s (r .end) (r .start)
 

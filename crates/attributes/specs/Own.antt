@@ -1,4 +1,5 @@
--- What is due of the reader: the attributes of one bag, in the rows of a table and in its reading; the elements of an attribute by value.
+-- What is due of the reader: the attributes of one bag, in the rows of a table and in its reading;
+-- the elements of an attribute by value.
 use mathlib.Core.Path.{_≡_}
 use mathlib.Core.List.{List, [], _∷_}
 use Prim.Native.Nat.{ℕ, zero, suc, _-_, _≤_, _<_}
@@ -11,9 +12,9 @@ use Rattle.pkcs12.specs.Syntax as syntax
 use Rattle.pkcs12.specs.Valid.{bagsIn, bagsInSafe}
 use Rattle.pkcs12.specs.Values.{AttributeValue}
 use Rattle.pkcs12.specs.Table.{attributeShown}
-use Rattle.pkcs12.specs.declared.AttributeRow.{AttributeRow}
-use Rattle.pkcs12.specs.declared.Range.{Range}
-use Rattle.pkcs12.specs.declared.Table.{Table}
+use Rattle.pkcs12.specs.declared.row.AttributeRow.{AttributeRow}
+use Rattle.buffer.specs.declared.Range.{Range}
+use Rattle.pkcs12.specs.declared.table.Table.{Table}
 use Rattle.attributes.specs.Reader.{names, itemAfter}
 use Rattle.attributes.specs.declared.Item.{Item}
 use Rattle.attributes.specs.declared.Item.the-variants.{Done}
@@ -60,10 +61,11 @@ listed (present xs) = xs
 abbrev pub noValue : Attribute
 noValue = record { identifier = []; values = [] }
 
--- "it gives the attributes in turn, then says it is done, at every further call too": call i, counted from 0, gives a row that shows attribute i of the list,
--- and every call past the list says that it is done
+-- Rule 7.1: the attributes in turn, then done. Call i, counted from 0, returns a row that shows
+-- attribute i of the list, and every call past the list reports that it is done.
 pub record Gives (s : List ℕ) (p : Position) (xs : List Attribute) : Type 0 where
-  pub in-turn : (i : ℕ) → i < length xs → (r : AttributeRow) × (itemAfter i p ≡ Item.Attribute r) × (attributeShown s r .attribute ≡ getD xs i noValue)
+  pub in-turn : (i : ℕ) → i < length xs
+      → (r : AttributeRow) × (itemAfter i p ≡ Item.Attribute r) × (attributeShown s r .attribute ≡ getD xs i noValue)
   pub done : (i : ℕ) → length xs ≤ i → itemAfter i p ≡ Done
 
 -- ---- elements by value

@@ -1,4 +1,5 @@
--- The attribute reader (scope, "Attributes and pairs"): it stays on one bag and keeps the file while it gives the attributes in turn.
+-- The attribute reader (Rule 7.1): it stays on one bag, keeps the file and returns the attributes
+-- in turn.
 use mathlib.Core.Bool.{Bool, true, false}
 use mathlib.Core.List.{List, [], _∷_}
 use Prim.Native.Nat.{ℕ, zero, suc, _+_}
@@ -7,11 +8,12 @@ use lib.ListN.{length, getD, take, drop, replicate}
 use denote.Ref.{RefT}
 use Rattle.der.specs.Choice.{if_then_else_}
 use Rattle.der.specs.Element.{fault}
-use Rattle.pkcs12.specs.Numbers.{attributeRows, notSound, noRow}
+use Rattle.pkcs12.specs.Numbers.{attributeRows, noRow}
+use Rattle.buffer.specs.Numbers.{notSound}
 use Rattle.pkcs12.specs.Table.{noAttribute}
 use Rattle.pkcs12.specs.Written.{fileOf, onFile}
-use Rattle.pkcs12.specs.declared.AttributeRow.{AttributeRow}
-use Rattle.pkcs12.specs.declared.Table.{Table}
+use Rattle.pkcs12.specs.declared.row.AttributeRow.{AttributeRow}
+use Rattle.pkcs12.specs.declared.table.Table.{Table}
 use Rattle.attributes.specs.declared.Item.{Item}
 use Rattle.attributes.specs.declared.Item.the-variants.{Ready, Done}
 use Rattle.attributes.specs.declared.Position.{Position}
@@ -20,18 +22,22 @@ use Rattle.attributes.specs.declared.Attributes.{Attributes}
 abbrev pub position : List AttributeRow → ℕ → ℕ → ℕ → Item → Position
 position rows count bag at item = record { rows = rows; count = count; bag = bag; at = at; item = item }
 
--- "For 9 to 14 the place is 0."
+-- Rule 5.21: 11 and 12 have the offset 0.
 unfoldable pub refusedBy : ℕ → Position
 refusedBy number = position (replicate attributeRows noAttribute) 0 0 0 (Item.Refused (fault number 0))
 
--- "Opening it with a table not sound for the lent bytes is 11, then on a row that isn't there 12." A table that is not sound has no file.
+-- Rule 7.2: 11 for a table that is not sound for the bytes, then 12 for a row that isn't there. A
+-- table that is not sound has no file.
 unfoldable pub openingOf : Table → List ℕ → ℕ → Position
 openingOf t s bag =
     onFile (fileOf t s)
     (refusedBy notSound)
-    (λ f. if ltb bag (t .«bag_count») then position (t .attributes) (t .«attribute_count») bag 0 Ready else refusedBy noRow)
+    (λ f. if ltb bag (t .«bag_count») then
+    position (t .attributes) (t .«attribute_count») bag 0 Ready else
+    refusedBy noRow)
 
--- the number of the first row that passes a test, where `at` rows stand before these; past the last if none does
+-- the number of the first row that passes a test, where `at` rows stand before these; past the last
+-- if none does
 unfoldable pub firstFrom : {A : Type 0} → (A → Bool) → List A → ℕ → ℕ
 firstFrom test [] at = at
 firstFrom test (r ∷ rs) at = if test r then at else firstFrom test rs (at + 1)
@@ -47,10 +53,11 @@ counted p = take (p .count) (p .rows)
 unfoldable pub nextRow : Position → ℕ
 nextRow p = firstFrom (names (p .bag)) (drop (p .at) (counted p)) (p .at)
 
--- "it gives the attributes in turn, then says it is done": row i is the next one, if there is one
+-- Rule 7.1: row i is the next one, if there is one; after the last the reader is done
 unfoldable pub movedTo : Position → ℕ → Position
 movedTo p i =
-    if ltb i (length (counted p)) then position (p .rows) (p .count) (p .bag) (i + 1) (Item.Attribute (getD (p .rows) i noAttribute)) else
+    if ltb i (length (counted p)) then
+    position (p .rows) (p .count) (p .bag) (i + 1) (Item.Attribute (getD (p .rows) i noAttribute)) else
     position (p .rows) (p .count) (p .bag) i Done
 
 abbrev pub onItem : {A : Type 0} → Item → A → A → A
@@ -59,7 +66,7 @@ onItem Ready bad good = good
 onItem (Item.Attribute r) bad good = good
 onItem Done bad good = good
 
--- one call; after the last row it is done, "at every further call too", and a refusal stays
+-- one call; after the last row it is done at every further call (Rule 7.1), and a refusal stays
 unfoldable pub nextOf : Position → Position
 nextOf p = onItem (p .item) p (movedTo p (nextRow p))
 
@@ -72,7 +79,7 @@ after (suc n) p = after n (nextOf p)
 unfoldable pub itemAfter : ℕ → Position → Item
 itemAfter i p = after (i + 1) p .item
 
--- "keeps the file": a reader is the file and a position
+-- Rule 7.1: a reader keeps the file; it is the file and a position
 abbrev pub readerOf : RefT (List ℕ) → Position → Attributes
 readerOf f p = record { file = f; position = p }
 

@@ -1,5 +1,4 @@
--- What each case of an answer reports: "Where an answer is an enum, a definition gives this paper's number and values
--- for each of the enum's cases." `Report` is that of `der`.
+-- What each case of an answer reports (Rule 9.2). `Report` is that of `der`.
 use mathlib.Core.List.{[]}
 use Rattle.der.specs.Report.{Report, passing, refusing}
 use Rattle.pkcs12.specs.Report.{attributeValues}

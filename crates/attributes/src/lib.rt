@@ -1,20 +1,23 @@
-// Gives the attributes of one bag in turn. `Attributes` keeps the file and a position; the work is done on the position, which is plain.
+// Gives the attributes of one bag in turn. `Attributes` keeps the file and a position; the work is
+// done on the position, which is plain.
 ghost use mathlib.Core.Path.{_≡_};
 ghost use Prim.Native.Nat.{_+_};
 ghost use Rattle.der.specs.Span.{Bytes};
-ghost use Rattle.pkcs12.specs.Table.{bytesIn};
+ghost use Rattle.buffer.specs.Range.{bytesIn};
 ghost use Rattle.attributes.specs.Report.{itemReport};
-ghost use Rattle.attributes.specs.Reader.{refusedBy, openingOf, nextRow, movedTo, nextOf, itemAfter, readerOf, isLast};
+ghost use Rattle.attributes.specs.Reader.{refusedBy, openingOf, nextRow, movedTo, nextOf};
+ghost use Rattle.attributes.specs.Reader.{itemAfter, readerOf, isLast};
 ghost use Rattle.attributes.specs.Elements.{elementRanges, countedOf, chosenOf};
+use buffer::Range;
 use der::Cursor;
 use der::Element;
 use der::Fault;
 use pkcs12::AttributeRow;
-use pkcs12::Range;
 use pkcs12::Table;
 use sound::Measured;
 
-// What a call gave: nothing yet, an attribute, the word that there are no more, or the refusal of opening.
+// What a call gave: nothing yet, an attribute, the word that there are no more, or the refusal of
+// opening.
 pub enum Item {
     Ready,
     Attribute(AttributeRow),
@@ -22,7 +25,8 @@ pub enum Item {
     Refused(Fault),
 }
 
-// Where a reader stands: the attribute rows and their number, the bag's row, the next row to look at, and what the last call gave.
+// Where a reader stands: the attribute rows and their number, the bag's row, the next row to look
+// at, and what the last call gave.
 pub struct Position {
     pub rows: [AttributeRow; pkcs12::ATTRIBUTE_ROWS],
     pub count: usize,
@@ -31,7 +35,7 @@ pub struct Position {
     pub item: Item,
 }
 
-// A reader of one bag's attributes. It keeps the file (the scope's lent bytes) that its ranges point into.
+// A reader of one bag's attributes. It keeps the file, the lent bytes that its ranges point into.
 pub struct Attributes<'a> {
     pub file: &'a [u8],
     pub position: Position,
@@ -63,7 +67,7 @@ pub fn opening(table: Table, file: &[u8], bag: usize) -> Position
     ensures { λ _. ⌜ Bytes (now (file .entry)) ⌝ }
 {
     match sound::measure(table, file) {
-        Measured::Unsound => refused(pkcs12::NOT_SOUND),
+        Measured::Unsound => refused(buffer::NOT_SOUND),
         Measured::Size(_) => {
             if bag < table.bag_count {
                 let rows = table.attributes;
@@ -85,7 +89,7 @@ pub fn opening(table: Table, file: &[u8], bag: usize) -> Position
 fn next_row(p: Position) -> usize
     ensures { λ r. ⌜ r ≡ nextRow p ⌝ }
 {
-    let end = pkcs12::fewer(p.count, pkcs12::ATTRIBUTE_ROWS);
+    let end = buffer::fewer(p.count, pkcs12::ATTRIBUTE_ROWS);
     let bag = p.bag;
     let mut i = p.at;
     while i < end {
@@ -107,7 +111,7 @@ fn moved(p: Position) -> Position
     let count = p.count;
     let bag = p.bag;
     let i = next_row(p);
-    let end = pkcs12::fewer(count, pkcs12::ATTRIBUTE_ROWS);
+    let end = buffer::fewer(count, pkcs12::ATTRIBUTE_ROWS);
     if i < end {
         let row = rows[i];
         let at = i + 1;

@@ -1,12 +1,14 @@
--- Rules by which `search` follows a definition's tests as the code's own tests decided them. Each proves that an answer r is what a
--- choice gives, from the fact that the code learnt and from what the chosen side gives.
+-- Rules by which `search` follows a definition's tests as the code's own tests decided them. Each
+-- proves that an answer r is what a choice gives, from the fact that the code learnt and from what
+-- the chosen side gives.
 use mathlib.Core.Path.{_≡_, refl, sym, _∙_}
 use mathlib.Core.Bool.{Bool, true, false, not}
 use Prim.Native.Nat.{ℕ, _<_, _≤_}
 use native.Mathlib.Omega.{arith}
 use native.Mathlib.Decide.{decLt}
 use lib.Dec.{leb, ltb, eqb}
-use borrow.Author.Tests.{not-true, not-false, lt-ltb, le-ltb, le-leb, lt-leb, eq-eqb, ne-eqb, ltb-true, ltb-false, leb-true, leb-false, eqb-true, eqb-false}
+use borrow.Author.Tests.{not-true, not-false, lt-ltb, le-ltb, le-leb, lt-leb, eq-eqb, ne-eqb}
+use borrow.Author.Tests.{ltb-true, ltb-false, leb-true, leb-false, eqb-true, eqb-false}
 use Rattle.der.specs.Choice.{if_then_else_}
 use Rattle.der.specs.Element.{onExtent, onElement}
 use Rattle.der.specs.Content.{onInteger}
@@ -62,7 +64,8 @@ module _ {A : Type 0} where
   pub same : (x : A) → x ≡ x
   same x = refl
 
-  -- an answer that a callee gave, taken apart: v is what the definition names, w what the code matched on
+  -- an answer that a callee gave, taken apart: v is what the definition names, w what the code
+  -- matched on
   pub extent-refused : (v w : Extent) (f : Fault) (r : A) (bad : Fault → A) (good : Cursor → A)
       → w ≡ v → w ≡ Extent.Refused f → r ≡ bad f → r ≡ onExtent v bad good
   extent-refused v w f r bad good p q e = rw (sym p ∙ q) e

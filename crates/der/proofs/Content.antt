@@ -1,4 +1,5 @@
--- The laws of the bodies of OBJECT IDENTIFIER and INTEGER: the tests against the rules of X.690, and the number that an INTEGER holds.
+-- The laws of the bodies of OBJECT IDENTIFIER and INTEGER: the tests against the rules of X.690,
+-- and the number that an INTEGER holds.
 use mathlib.Core.Bool.{Bool, true, false}
 use mathlib.Core.Path.{_≡_, refl, sym, _∙_}
 use mathlib.Core.List.{List, [], _∷_}
@@ -11,10 +12,12 @@ use mir.Syntax.{w8}
 use lib.Dec.{leb, ltb, eqb}
 use lib.ListN.{length, getD, take, length-take, drop-of-length-le}
 use lib.Seq.{slice, slice-cons, length-slice, take-length, getD-take, getD-drop}
-use borrow.Author.Tests.{ltb-true, ltb-false, leb-true, leb-false, eqb-true, eqb-false, lt-ltb, le-ltb, le-leb, lt-leb, eq-eqb, ne-eqb}
+use borrow.Author.Tests.{ltb-true, ltb-false, leb-true, leb-false, eqb-true, eqb-false}
+use borrow.Author.Tests.{lt-ltb, le-ltb, le-leb, lt-leb, eq-eqb, ne-eqb}
 use Rattle.der.specs.Choice.{if_then_else_}
 use Rattle.der.proofs.Choices.{never}
-use Rattle.der.specs.Content.{breaks, parts, identifierBody, bytesOf, integerBody, andDigit, integerValue, IntegerAt}
+use Rattle.der.specs.Content.{breaks, parts, identifierBody, bytesOf, integerBody}
+use Rattle.der.specs.Content.{andDigit, integerValue, IntegerAt}
 use Rattle.der.specs.Octets.{number, numberFrom, IntegerRule, IdentifierRule}
 use Rattle.der.specs.declared.Cursor.{Cursor}
 
@@ -31,7 +34,8 @@ if-so : (t v : Bool) → (if t then v else true) ≡ true → t ≡ true → v �
 if-so true v e f = e
 if-so false v e f = never f
 
--- The bytes bs that stand behind p: the last of p and bs is below 128, and a byte behind one below 128 is not 128.
+-- The bytes bs that stand behind p: the last of p and bs is below 128, and a byte behind one below
+-- 128 is not 128.
 record Tail (p : ℕ) (bs : List ℕ) : Type 0 where
   last : getD (p ∷ bs) (length bs) 0 < 128
   later : (i : ℕ) → i < length bs → getD (p ∷ bs) i 0 < 128 → getD bs i 0 ≡ 128 → ⊥
@@ -127,7 +131,8 @@ rest-of s a e false q r = minimal-of _ _ _ refl (r .minimal (leb-false _ _ q))
 
 of-held : (s : List ℕ) (b : Cursor) → Held s (b .at) (b .end) → integerBody s b ≡ true
 unfolding integerBody
-of-held s b r = rw (lt-leb _ _ (r .some), le-ltb _ _ (r .four), lt-leb _ _ (r .positive)) (rest-of s (b .at) (b .end) _ refl r)
+of-held s b r = rw (lt-leb _ _ (r .some), le-ltb _ _ (r .four), lt-leb _ _ (r .positive))
+    (rest-of s (b .at) (b .end) _ refl r)
 
 -- A digit more, and the number of a body of at most four bytes.
 module _ (s : List ℕ) (e : ℕ) (inside : e ≤ length s) where
@@ -138,9 +143,11 @@ module _ (s : List ℕ) (e : ℕ) (inside : e ≤ length s) where
   and-digit : (a v : ℕ) (t : Bool) → ltb a e ≡ t
       → numberFrom v (slice a e s) ≡ numberFrom (if t then v * 256 + getD s a 0 else v) (slice (a + 1) e s)
   and-digit a v true q = digit-more a v (ltb-true _ _ q)
-  and-digit a v false q = let h : e ≤ a = ltb-false _ _ q in rw (slice-past s a e h, slice-past s (a + 1) e (omega arith))
+  and-digit a v false q = let h : e ≤ a = ltb-false _ _ q in
+      rw (slice-past s a e h, slice-past s (a + 1) e (omega arith))
 
-  digits-of : (a i v : ℕ) → numberFrom v (slice (a + i) e s) ≡ numberFrom (andDigit s e (a + i) v) (slice (a + (i + 1)) e s)
+  digits-of : (a i v : ℕ)
+      → numberFrom v (slice (a + i) e s) ≡ numberFrom (andDigit s e (a + i) v) (slice (a + (i + 1)) e s)
   unfolding andDigit
   digits-of a i v = let n : a + i + 1 ≡ a + (i + 1) = omega arith in rw (← n) (and-digit (a + i) v _ refl)
 
@@ -160,7 +167,8 @@ module _ (s : List ℕ) (b : Cursor) (inside : b .end ≤ length s) where
     some = rw size (omega arith);
     four = rw size (omega arith);
     positive = rw (first-byte (r .some)) (r .positive);
-    minimal = λ k z. rw (second-byte (omega (arith, size))) (r .minimal (omega (arith, size)) (sym (first-byte (r .some)) ∙ z));
+    minimal = λ k z. rw (second-byte (omega (arith, size)))
+        (r .minimal (omega (arith, size)) (sym (first-byte (r .some)) ∙ z));
   }
 
   held-of-rule : IntegerRule (bytesOf s b) → Held s (b .at) (b .end)
@@ -203,7 +211,8 @@ pub andDigit-next : (s : List ℕ) (end i v k r : ℕ) → r ≡ andDigit s end 
 andDigit-next s end i v k r e h f = rw e (andDigit-below s end i v k h (f .fits))
 
 -- what the code asks of a body before it reads the number, once the test u has passed
-pub integer-at : (s : List ℕ) (b : Cursor) (u : Bool) → u ≡ integerBody s b → u ≡ true → b .end ≤ length s → IntegerAt s b
+pub integer-at : (s : List ℕ) (b : Cursor) (u : Bool) → u ≡ integerBody s b → u ≡ true
+    → b .end ≤ length s → IntegerAt s b
 integer-at s b u p q h =
     let r = held-of s b (sym p ∙ q) in
     record { inside = h; some = r .some; first = r .positive }
@@ -214,7 +223,8 @@ module _ (s : List ℕ) (to : ℕ) where
   unfolding identifierBody
   parts-empty from h = rw (slice-past s from to h)
 
-  pub parts-start : (from : ℕ) → from < to → to ≤ length s → identifierBody (slice from to s) ≡ parts true (slice from to s)
+  pub parts-start : (from : ℕ) → from < to → to ≤ length s
+      → identifierBody (slice from to s) ≡ parts true (slice from to s)
   unfolding identifierBody
   parts-start from h k = rw (slice-cons from to s 0 h k)
 

@@ -1,4 +1,5 @@
--- A header is accepted exactly if the bytes are `tlv` of a tag and a body that ends within its parent.
+-- A header is accepted exactly if the bytes are `tlv` of a tag and a body that ends within its
+-- parent.
 use mathlib.Core.Bool.{false}
 use mathlib.Core.Path.{_≡_, refl, _∙_}
 use mathlib.Core.List.{List, [], _∷_, _++_}
@@ -39,23 +40,37 @@ module _ (s : List ℕ) (at end b n : ℕ) (inside : end ≤ length s) (fits : b
   unfolding extentAt
   short-is p h =
       let g : getD s (at + 1) 0 ≡ n = span-at s (at + 1) b 0 (at + 1) (n ∷ []) p (omega arith) (omega arith) in
-      rw (lt-leb end (at + 1) (omega (arith, p .size)), lt-ltb (getD s (at + 1) 0) 128 (omega arith)) (within-is (at + 2) (getD s (at + 1) 0) (omega (arith, p .size)) g)
+      rw (lt-leb end (at + 1) (omega (arith, p .size)), lt-ltb (getD s (at + 1) 0) 128 (omega arith))
+      (within-is (at + 2) (getD s (at + 1) 0) (omega (arith, p .size)) g)
 
   one-is : Span s (at + 1) b (129 ∷ n ∷ []) → 128 ≤ n → extentAt s at end ≡ Body (cursor b (b + n))
   unfolding extentAt oneOctet
   one-is p h =
       let f : getD s (at + 1) 0 ≡ 129 = span-at s (at + 1) b 0 (at + 1) (129 ∷ n ∷ []) p (omega arith) (omega arith) in
       let g : getD s (at + 2) 0 ≡ n = span-at s (at + 1) b 1 (at + 2) (129 ∷ n ∷ []) p (omega arith) (omega arith) in
-      rw (f, lt-leb end (at + 1) (omega (arith, p .size)), lt-leb end (at + 2) (omega (arith, p .size)), le-ltb (getD s (at + 2) 0) 128 (omega arith))
+      rw (
+        f,
+        lt-leb end (at + 1) (omega (arith, p .size)),
+        lt-leb end (at + 2) (omega (arith, p .size)),
+        le-ltb (getD s (at + 2) 0) 128 (omega arith),
+      )
       (within-is (at + 3) (getD s (at + 2) 0) (omega (arith, p .size)) g)
 
   two-is : Span s (at + 1) b (130 ∷ (n / 256) ∷ (n % 256) ∷ []) → 256 ≤ n → extentAt s at end ≡ Body (cursor b (b + n))
   unfolding extentAt twoOctets
   two-is p h =
-      let f : getD s (at + 1) 0 ≡ 130 = span-at s (at + 1) b 0 (at + 1) (130 ∷ (n / 256) ∷ (n % 256) ∷ []) p (omega arith) (omega arith) in
-      let g : getD s (at + 2) 0 ≡ n / 256 = span-at s (at + 1) b 1 (at + 2) (130 ∷ (n / 256) ∷ (n % 256) ∷ []) p (omega arith) (omega arith) in
-      let i : getD s (at + 3) 0 ≡ n % 256 = span-at s (at + 1) b 2 (at + 3) (130 ∷ (n / 256) ∷ (n % 256) ∷ []) p (omega arith) (omega arith) in
-      rw (f, lt-leb end (at + 1) (omega (arith, p .size)), lt-leb end (at + 3) (omega (arith, p .size)), ne-eqb (getD s (at + 2) 0) 0 (λ z. omega arith))
+      let f : getD s (at + 1) 0 ≡ 130 =
+      span-at s (at + 1) b 0 (at + 1) (130 ∷ (n / 256) ∷ (n % 256) ∷ []) p (omega arith) (omega arith) in
+      let g : getD s (at + 2) 0 ≡ n / 256 =
+      span-at s (at + 1) b 1 (at + 2) (130 ∷ (n / 256) ∷ (n % 256) ∷ []) p (omega arith) (omega arith) in
+      let i : getD s (at + 3) 0 ≡ n % 256 =
+      span-at s (at + 1) b 2 (at + 3) (130 ∷ (n / 256) ∷ (n % 256) ∷ []) p (omega arith) (omega arith) in
+      rw (
+        f,
+        lt-leb end (at + 1) (omega (arith, p .size)),
+        lt-leb end (at + 3) (omega (arith, p .size)),
+        ne-eqb (getD s (at + 2) 0) 0 (λ z. omega arith),
+      )
       (within-is (at + 4) (getD s (at + 2) 0 * 256 + getD s (at + 3) 0) (omega (arith, p .size)) (omega arith))
 
   extent-is : Span s (at + 1) b (lengthOctets n) → n < lengthBound → extentAt s at end ≡ Body (cursor b (b + n))
@@ -87,16 +102,20 @@ header-then s at e end t body form small p h i k =
     k b (element-is s at end t (cursor b e) i (omega (arith, o .size, c .size)) g form x) c))
 
 -- what is found is written as `tlv`, in a list of bytes
-pub header-sound : (s : List ℕ) (c : Cursor) (t : ℕ) (b n : Cursor) → Bytes s → elementAt s c ≡ Found t b n → HeaderIs s c t b n
+pub header-sound : (s : List ℕ) (c : Cursor) (t : ℕ) (b n : Cursor) → Bytes s
+    → elementAt s c ≡ Found t b n → HeaderIs s c t b n
 unfolding tlv
 header-sound s c t b n bs e =
     let p = found s c (elementAt s c) t b n refl e in
     let inside : b .end ≤ length s = omega (arith, p .body .within, p .inside) in
     let body = span-slice s (b .at) (b .end) (p .body .size) inside in
     let size : length (bytesOf s b) ≡ b .end - b .at = length-slice (b .at) (b .end) s inside in
-    let octets : drop (c .at + 1) s ≡ lengthOctets (length (bytesOf s b)) ++ drop (b .at) s = rw size (p .body .octets bs) in
-    let tag : Span s (c .at) (c .at + 1) (t ∷ []) = rw (p .tag) (span-one s (c .at) (omega (arith, p .some, p .inside))) in
-    let length-of = span-of s (c .at + 1) (b .at) (lengthOctets (length (bytesOf s b))) octets (omega (arith, p .body .past)) (omega (arith, p .body .size)) in
+    let octets : drop (c .at + 1) s ≡ lengthOctets (length (bytesOf s b)) ++ drop (b .at) s =
+    rw size (p .body .octets bs) in
+    let tag : Span s (c .at) (c .at + 1) (t ∷ []) =
+    rw (p .tag) (span-one s (c .at) (omega (arith, p .some, p .inside))) in
+    let length-of = span-of s (c .at + 1) (b .at) (lengthOctets (length (bytesOf s b))) octets
+    (omega (arith, p .body .past)) (omega (arith, p .body .size)) in
     record {
       form = record { not-zero = p .not-zero; low-bits = p .low-bits };
       small = omega (arith, size, p .body .small bs, p .body .size);
@@ -105,9 +124,11 @@ header-sound s c t b n bs e =
       moved = record { within = p .body .within; inside = p .inside; next = p .next };
     }
 
-pub header-complete : (s : List ℕ) (c : Cursor) (t : ℕ) (b n : Cursor) → HeaderIs s c t b n → elementAt s c ≡ Found t b n
+pub header-complete : (s : List ℕ) (c : Cursor) (t : ℕ) (b n : Cursor) → HeaderIs s c t b n
+    → elementAt s c ≡ Found t b n
 header-complete s c t b n h =
-    header-then s (c .at) (b .end) (c .end) t (bytesOf s b) (h .form) (h .small) (h .whole) (h .moved .within) (h .moved .inside)
+    header-then s (c .at) (b .end) (c .end) t (bytesOf s b) (h .form) (h .small) (h .whole)
+    (h .moved .within) (h .moved .inside)
     (λ a e p.
     let z : a ≡ b .at = omega (arith, p .size, h .body .size) in
     e ∙ rw (z, h .moved .next))
@@ -131,7 +152,8 @@ finish-left c h = rw (lt-ltb (c .at) (c .end) h)
 pub finish-sound : (c : Cursor) → finishAt c ≡ Passed 0 c → c .end ≤ c .at
 finish-sound c e =
     either (c .at) (c .end)
-    (λ h. let z = finish-left c h in let y : Checked.Refused (fault leftOver (c .at)) ≡ Passed 0 c = cc in let x : _≡_ {A = ℕ} 0 1 = cc in absurd (omega arith))
+    (λ h. let z = finish-left c h in let y : Checked.Refused (fault leftOver (c .at)) ≡ Passed 0 c = cc in
+    let x : _≡_ {A = ℕ} 0 1 = cc in absurd (omega arith))
     (λ h. h)
 
 pub tag-left : (s : List ℕ) (c : Cursor) → c .at < c .end → c .end ≤ length s → tagAt s c ≡ getD s (c .at) 0

@@ -1,5 +1,6 @@
--- The laws of `der`: what the crates above use in place of the definitions' text. Statements, with their proofs elsewhere.
--- `Bytes s` is asked where a list must be of numbers below 256: a length is of one form only then.
+-- The laws of `der`: what the crates above use in place of the definitions' text. Statements, with
+-- their proofs elsewhere. `Bytes s` is asked where a list must be of numbers below 256: a length is
+-- of one form only then.
 use mathlib.Core.Bool.{true}
 use mathlib.Core.Logic.{_↔_}
 use mathlib.Core.Path.{_≡_, refl}
@@ -30,11 +31,13 @@ use Rattle.der.proofs.Grammar as grammar
 
 -- ---- one element
 
--- An element is accepted exactly if the bytes are `tlv` of its tag and body, and the body ends within its parent.
+-- An element is accepted exactly if the bytes are `tlv` of its tag and body, and the body ends
+-- within its parent.
 pub header-iff : (s : List ℕ) (c : Cursor) (t : ℕ) (b n : Cursor) → Bytes s → elementAt s c ≡ Found t b n ↔ HeaderIs s c t b n
 header-iff s c t b n bytes = (header.header-sound s c t b n bytes, header.header-complete s c t b n)
 
--- Its body begins behind a header of two bytes at least and ends within its parent, which lies within the bytes.
+-- Its body begins behind a header of two bytes at least and ends within its parent, which lies
+-- within the bytes.
 pub header-bounds : (s : List ℕ) (c : Cursor) (t : ℕ) (b n : Cursor) → elementAt s c ≡ Found t b n
     → (c .at + 2 ≤ b .at) × (b .at ≤ b .end) × (b .end ≤ c .end) × (c .end ≤ length s)
 header-bounds s c t b n e =
@@ -43,9 +46,11 @@ header-bounds s c t b n e =
 
 pub expect-iff : (due : ℕ) (s : List ℕ) (c : Cursor) (t : ℕ) (b n : Cursor)
     → expectAt due s c ≡ Found t b n ↔ (t ≡ due) × (elementAt s c ≡ Found t b n)
-expect-iff due s c t b n = (placed.expected due s c (expectAt due s c) t b n refl, λ h. rw (← (h .0)) (placed.expect-is s c t b n (h .1)))
+expect-iff due s c t b n =
+    (placed.expected due s c (expectAt due s c) t b n refl, λ h. rw (← (h .0)) (placed.expect-is s c t b n (h .1)))
 
--- The length octets in the three forms that are read, and for any length that they stand for one number.
+-- The length octets in the three forms that are read, and for any length that they stand for one
+-- number.
 pub octets-short : (n : ℕ) → n < 128 → lengthOctets n ≡ n ∷ []
 octets-short = octets.octets-short
 
@@ -60,23 +65,28 @@ octets-two = octets.octets-two
 pub identifier-rule-iff : (body : List ℕ) → identifierBody body ≡ true ↔ IdentifierRule body
 identifier-rule-iff body = (content.identifier-rule body, content.identifier-body body)
 
-pub identifier-iff : (s : List ℕ) (c : Cursor) (t : ℕ) (b n : Cursor) → Bytes s → identifierAt s c ≡ Found t b n ↔ IdentifierIs s c t b n
+pub identifier-iff : (s : List ℕ) (c : Cursor) (t : ℕ) (b n : Cursor) → Bytes s
+    → identifierAt s c ≡ Found t b n ↔ IdentifierIs s c t b n
 identifier-iff s c t b n bytes = (values.identifier-sound s c t b n bytes, values.identifier-complete s c t b n)
 
 -- The INTEGER v is read exactly where the octets of v stand, and v is below 2^31.
-pub integer-iff : (s : List ℕ) (c : Cursor) (v : ℕ) (n : Cursor) → Bytes s → integerAt s c ≡ Value v n ↔ IntegerIs s c v n
+pub integer-iff : (s : List ℕ) (c : Cursor) (v : ℕ) (n : Cursor) → Bytes s
+    → integerAt s c ≡ Value v n ↔ IntegerIs s c v n
 integer-iff s c v n bytes = (values.integer-sound s c v n bytes, values.integer-complete s c v n)
 
--- The octets of a number below 2^31 keep the rule and give the number back; a body that keeps the rule is the octets of its number.
+-- The octets of a number below 2^31 keep the rule and give the number back; a body that keeps the
+-- rule is the octets of its number.
 pub octets-of-integer : (v : ℕ) → v < integerBound → IntegerRule (integerOctets v) × (number (integerOctets v) ≡ v)
 octets-of-integer v h = (octets.integer-rule v h, octets.integer-number v)
 
-pub integer-of-octets : (body : List ℕ) → Bytes body → IntegerRule body → (integerOctets (number body) ≡ body) × (number body < integerBound)
+pub integer-of-octets : (body : List ℕ) → Bytes body → IntegerRule body
+    → (integerOctets (number body) ≡ body) × (number body < integerBound)
 integer-of-octets body b r = (octets.integer-octets body b r, octets.integer-below body b r)
 
 -- ---- opaque elements
 
--- An opaque element is accepted exactly if the bytes are the encoding of a tree of as many levels at most, and counted as the tree has elements.
+-- An opaque element is accepted exactly if the bytes are the encoding of a tree of as many levels
+-- at most, and counted as the tree has elements.
 pub opaque-iff : (l : ℕ) (s : List ℕ) (c : Cursor) (m : ℕ) (n : Cursor) → Bytes s → opaqueAt l s c ≡ Passed m n ↔ OpaqueIs l s c m n
 opaque-iff l s c m n bytes = (grammar.opaque-sound l s c m n bytes, grammar.opaque-complete l s c m n)
 
@@ -86,10 +96,12 @@ pub elements-iff : (l : ℕ) (s : List ℕ) (c : Cursor) (m : ℕ) (n : Cursor) 
 elements-iff l s c m n bytes h i = (grammar.elements-sound l s c m n bytes h i, grammar.elements-complete l s c m n)
 
 -- Twice the count is at most the bytes taken.
-pub opaque-half : (l : ℕ) (s : List ℕ) (c : Cursor) (m : ℕ) (n : Cursor) → opaqueAt l s c ≡ Passed m n → c .at + 2 * m ≤ n .at
+pub opaque-half : (l : ℕ) (s : List ℕ) (c : Cursor) (m : ℕ) (n : Cursor)
+    → opaqueAt l s c ≡ Passed m n → c .at + 2 * m ≤ n .at
 opaque-half l s c m n e = opaque.went l s c (opaqueAt l s c) m n refl e .long
 
-pub elements-half : (l : ℕ) (s : List ℕ) (c : Cursor) (m : ℕ) (n : Cursor) → elementsAt l s c ≡ Passed m n → c .at + 2 * m ≤ n .at
+pub elements-half : (l : ℕ) (s : List ℕ) (c : Cursor) (m : ℕ) (n : Cursor)
+    → elementsAt l s c ≡ Passed m n → c .at + 2 * m ≤ n .at
 elements-half l s c m n e = opaque.ran l s c (elementsAt l s c) m n refl e .long
 
 -- ---- unique decoding
@@ -99,7 +111,8 @@ pub element-unique : (t u : ℕ) (a b r s : List ℕ) → tlv t a ++ r ≡ tlv u
 element-unique = octets.tlv-unique
 
 -- One opaque element, whatever follows it.
-pub opaque-unique : (x y : Tree) (r s : List ℕ) → Formed x → Formed y → encode x ++ r ≡ encode y ++ s → (x ≡ y) × (r ≡ s)
+pub opaque-unique : (x y : Tree) (r s : List ℕ) → Formed x → Formed y
+    → encode x ++ r ≡ encode y ++ s → (x ≡ y) × (r ≡ s)
 opaque-unique = trees.tree-unique
 
 -- A run of them to the end, and a run of equally many, whatever follows it.

@@ -1,9 +1,10 @@
 -- The laws of `der`, and the rules that close most needs of its functions.
+pub mod Named
+pub mod Numbered
 pub mod Promised
 pub mod Exits
 pub mod Choices
 pub mod Octets
-pub mod Integers
 pub mod Content
 pub mod Placed
 pub mod Many

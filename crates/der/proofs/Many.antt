@@ -1,4 +1,5 @@
--- The laws of the one loop over siblings, for any step: how the code's loop follows it, and what holds of its answer.
+-- The laws of the one loop over siblings, for any step: how the code's loop follows it, and what
+-- holds of its answer.
 use mathlib.Core.Path.{_≡_, refl, sym, _∙_}
 use Prim.Native.Nat.{ℕ, zero, suc, _+_, _-_, _≤_, _<_}
 use native.Mathlib.Omega.{arith}
@@ -44,13 +45,16 @@ module _ {A S : Type 0} (on : A → (S → ℕ → A) → A) (done : S → ℕ �
       go zero k e = absurd (omega arith)
       go (suc f) k e = record { fuel = f; enough = omega arith; rest = e ∙ many-more f st at h }
 
-  -- What holds at the end, and passes from what follows a step to the step, holds of the whole loop; I is what each turn keeps.
+  -- What holds at the end, and passes from what follows a step to the step, holds of the whole
+  -- loop; I is what each turn keeps.
   pub many-holds : (P : S → ℕ → A → Type 0) (I : S → ℕ → Type 0)
       → ((st : S) (at : ℕ) → end ≤ at → I st at → P st at (done st at))
-      → ((st : S) (at : ℕ) → at < end → I st at → (k : S → ℕ → A) → ((st′ : S) (at′ : ℕ) → at < at′ → I st′ at′ → P st′ at′ (k st′ at′)) → P st at (on (step st at) k))
+      → ((st : S) (at : ℕ) → at < end → I st at → (k : S → ℕ → A)
+      → ((st′ : S) (at′ : ℕ) → at < at′ → I st′ at′ → P st′ at′ (k st′ at′)) → P st at (on (step st at) k))
       → (fuel : ℕ) (st : S) (at : ℕ) → end ≤ at + fuel → I st at → P st at (many on done step fuel end st at)
   many-holds P I ends steps zero st at h i = rw (many-end zero st at (omega arith)) (ends st at (omega arith) i)
   many-holds P I ends steps (suc f) st at h i =
       either at end
-      (λ l. rw (many-more f st at l) (steps st at l i (λ st′ at′. many on done step f end st′ at′) (λ st′ at′ m j. many-holds P I ends steps f st′ at′ (omega arith) j)))
+      (λ l. rw (many-more f st at l) (steps st at l i (λ st′ at′. many on done step f end st′ at′)
+      (λ st′ at′ m j. many-holds P I ends steps f st′ at′ (omega arith) j)))
       (λ l. rw (many-end (suc f) st at l) (ends st at l i))

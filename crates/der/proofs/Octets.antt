@@ -1,11 +1,13 @@
--- The laws of what X.690 writes: digits to the base 256, length octets, an element, the contents of an INTEGER.
+-- The laws of what X.690 writes: digits to the base 256, length octets, an element, the contents of
+-- an INTEGER.
 use mathlib.Core.Path.{_≡_, refl, sym, ap, _∙_}
 use mathlib.Core.List.{List, [], _∷_, _++_, append-assoc, append-nil}
 use Prim.Native.Nat.{ℕ, zero, suc, _+_, _*_, _/_, _%_, _≤_, _<_}
 use native.Mathlib.Omega.{arith}
 use lib.ListN.{length, getD, length-append, List·getD-append}
 use Rattle.der.specs.Numbers.{lengthBound, integerBound}
-use Rattle.der.specs.Octets.{digitsFrom, digits, lengthOctets, tlv, integerOctets, numberFrom, number, IntegerRule}
+use Rattle.der.specs.Octets.{digitsFrom, digits, lengthOctets, tlv, integerOctets}
+use Rattle.der.specs.Octets.{numberFrom, number, IntegerRule}
 use Rattle.der.specs.Span.{Bytes}
 use Rattle.der.proofs.Choices.{chosen-lt, chosen-le, either}
 
@@ -17,7 +19,8 @@ enough (suc f) zero n h k = absurd (omega arith)
 enough (suc f) (suc g) n h k =
     either n 256
     (λ l. chosen-lt n 256 _ _ l ∙ sym (chosen-lt n 256 _ _ l))
-    (λ l. chosen-le n 256 _ _ l ∙ ap (λ (d : List ℕ). d ++ (n % 256 ∷ [])) (enough f g (n / 256) (omega arith) (omega arith)) ∙ sym (chosen-le n 256 _ _ l))
+    (λ l. chosen-le n 256 _ _ l ∙ ap (λ (d : List ℕ). d ++ (n % 256 ∷ []))
+    (enough f g (n / 256) (omega arith) (omega arith)) ∙ sym (chosen-le n 256 _ _ l))
 
 pub digits-small : (n : ℕ) → n < 256 → digits n ≡ n ∷ []
 unfolding digits digitsFrom
@@ -25,10 +28,13 @@ digits-small n h = chosen-lt n 256 _ _ h
 
 pub digits-more : (n : ℕ) → 256 ≤ n → digits n ≡ digits (n / 256) ++ (n % 256 ∷ [])
 unfolding digits digitsFrom
-digits-more n h = chosen-le n 256 _ _ h ∙ ap (λ (d : List ℕ). d ++ (n % 256 ∷ [])) (enough n (suc (n / 256)) (n / 256) (omega arith) (omega arith))
+digits-more n h = chosen-le n 256 _ _ h
+    ∙ ap (λ (d : List ℕ). d ++ (n % 256 ∷ [])) (enough n (suc (n / 256)) (n / 256) (omega arith) (omega arith))
 
 -- what holds of one digit, and of more digits if of all but the last, holds of all digits
-pub digits-induction : (P : ℕ → List ℕ → Type 0) → ((n : ℕ) → n < 256 → P n (n ∷ [])) → ((n : ℕ) → 256 ≤ n → P (n / 256) (digits (n / 256)) → P n (digits (n / 256) ++ (n % 256 ∷ []))) → (n : ℕ) → P n (digits n)
+pub digits-induction : (P : ℕ → List ℕ → Type 0) → ((n : ℕ) → n < 256 → P n (n ∷ []))
+    → ((n : ℕ) → 256 ≤ n → P (n / 256) (digits (n / 256)) → P n (digits (n / 256) ++ (n % 256 ∷ [])))
+    → (n : ℕ) → P n (digits n)
 digits-induction P one more n = go (suc n) n (omega arith)
   where
     go : (f m : ℕ) → m < f → P m (digits m)
@@ -55,9 +61,11 @@ pub bytes-append : (a b : List ℕ) → Bytes a → Bytes b → Bytes (a ++ b)
 bytes-append [] b p q = q
 bytes-append (c ∷ a) b p q = (p .0, bytes-append a b (p .1) q)
 
--- digits: bytes, of the number itself, at least one, no leading zero; and the digits of a number of digits
+-- digits: bytes, of the number itself, at least one, no leading zero; and the digits of a number of
+-- digits
 pub digits-bytes : (n : ℕ) → Bytes (digits n)
-digits-bytes = digits-induction (λ n l. Bytes l) (λ n h. (h, tt)) (λ n h b. bytes-append (digits (n / 256)) (n % 256 ∷ []) b (omega arith, tt))
+digits-bytes = digits-induction (λ n l. Bytes l) (λ n h. (h, tt))
+    (λ n h b. bytes-append (digits (n / 256)) (n % 256 ∷ []) b (omega arith, tt))
 
 number-snoc : (v d : ℕ) (ds : List ℕ) → numberFrom v (ds ++ (d ∷ [])) ≡ numberFrom v ds * 256 + d
 unfolding numberFrom
@@ -66,14 +74,16 @@ number-snoc v d (c ∷ ds) = number-snoc (v * 256 + c) d ds
 
 pub number-digits : (n : ℕ) → number (digits n) ≡ n
 unfolding number numberFrom
-number-digits = digits-induction (λ n l. number l ≡ n) (λ n h. omega arith) (λ n h e. rw (number-snoc 0 (n % 256) (digits (n / 256)), e) (omega arith))
+number-digits = digits-induction (λ n l. number l ≡ n) (λ n h. omega arith)
+    (λ n h e. rw (number-snoc 0 (n % 256) (digits (n / 256)), e) (omega arith))
 
 pub digits-some : (n : ℕ) → 1 ≤ length (digits n)
 digits-some = digits-induction (λ n l. 1 ≤ length l) (λ n h. omega arith) (λ n h e. simp length-append (omega arith))
 
 pub digits-lead : (n : ℕ) → 1 ≤ n → getD (digits n) 0 0 ≡ 0 → ⊥
 digits-lead = digits-induction (λ n l. 1 ≤ n → getD l 0 0 ≡ 0 → ⊥) (λ n h k e. omega arith)
-    (λ n h r k e. r (omega arith) (rw (← List·getD-append (digits (n / 256)) (n % 256 ∷ []) 0 0 (digits-some (n / 256))) e))
+    (λ n h r k e. r (omega arith)
+    (rw (← List·getD-append (digits (n / 256)) (n % 256 ∷ []) 0 0 (digits-some (n / 256))) e))
 
 digits-from : (v : ℕ) (ds : List ℕ) → 1 ≤ v → Bytes ds → digits (numberFrom v ds) ≡ digits v ++ ds
 unfolding numberFrom
@@ -94,7 +104,7 @@ pub octets-short : (n : ℕ) → n < 128 → lengthOctets n ≡ n ∷ []
 unfolding lengthOctets
 octets-short n h = chosen-lt n 128 _ _ h
 
-octets-long : (n : ℕ) → 128 ≤ n → lengthOctets n ≡ (128 + length (digits n)) ∷ digits n
+pub octets-long : (n : ℕ) → 128 ≤ n → lengthOctets n ≡ (128 + length (digits n)) ∷ digits n
 unfolding lengthOctets
 octets-long n h = chosen-le n 128 _ _ h
 
@@ -115,7 +125,8 @@ octets-unique n m x y e =
     (λ k. absurd (far n (length (digits m)) x (digits m ++ y) h (rw (octets-short n h, octets-long m k) at e))))
     (λ h. either m 128
     (λ k. absurd (far m (length (digits n)) y (digits n ++ x) k (sym (rw (octets-long n h, octets-short m k) at e))))
-    (λ k. both (cons-same (128 + length (digits n)) (128 + length (digits m)) (digits n ++ x) (digits m ++ y) (rw (octets-long n h, octets-long m k) at e))))
+    (λ k. both (cons-same (128 + length (digits n)) (128 + length (digits m)) (digits n ++ x) (digits m ++ y)
+    (rw (octets-long n h, octets-long m k) at e))))
   where
     far : (a l : ℕ) (u v : List ℕ) → a < 128 → a ∷ u ≡ (128 + l) ∷ v → ⊥
     far a l u v h e = let p = cons-same a (128 + l) u v e in omega arith
@@ -150,7 +161,8 @@ octets-bytes : (n : ℕ) → n < lengthBound → Bytes (lengthOctets n)
 octets-bytes n h =
     either n 128
     (λ k. rw (octets-short n k) (omega arith, tt))
-    (λ k. either n 256 (λ l. rw (octets-one n k l) (omega arith, (omega arith, tt))) (λ l. rw (octets-two n l h) (omega arith, (omega arith, (omega arith, tt)))))
+    (λ k. either n 256 (λ l. rw (octets-one n k l) (omega arith, (omega arith, tt)))
+    (λ l. rw (octets-two n l h) (omega arith, (omega arith, (omega arith, tt)))))
 
 pub tlv-bytes : (t : ℕ) (a : List ℕ) → t < 256 → length a < lengthBound → Bytes a → Bytes (tlv t a)
 unfolding tlv
@@ -180,7 +192,8 @@ integer-number n =
     (λ h. rw (integer-plain n h) (number-digits n))
     (λ h. rw (integer-padded n h, number-zero) (number-digits n))
 
--- digits without a leading zero, of a number below 2^31: at most four, and at most three if the first is 128 or more
+-- digits without a leading zero, of a number below 2^31: at most four, and at most three if the
+-- first is 128 or more
 few : (l : List ℕ) → number l < integerBound → (1 < length l → getD l 0 0 ≡ 0 → ⊥) → (length l ≤ 4) × (128 ≤ getD l 0 0 → length l ≤ 3)
 unfolding number numberFrom
 few [] h k = omega arith
@@ -188,7 +201,8 @@ few (a ∷ []) h k = omega arith
 few (a ∷ b ∷ []) h k = omega arith
 few (a ∷ b ∷ c ∷ []) h k = omega arith
 few (a ∷ b ∷ c ∷ d ∷ []) h k = omega arith
-few (a ∷ b ∷ c ∷ d ∷ e ∷ l) h k = absurd (omega (arith, number-grows (((((0 * 256 + a) * 256 + b) * 256 + c) * 256 + d) * 256 + e) l, k (omega arith)))
+few (a ∷ b ∷ c ∷ d ∷ e ∷ l) h k = absurd
+    (omega (arith, number-grows (((((0 * 256 + a) * 256 + b) * 256 + c) * 256 + d) * 256 + e) l, k (omega arith)))
 
 digits-first : (n : ℕ) → 1 < length (digits n) → getD (digits n) 0 0 ≡ 0 → ⊥
 digits-first n h e = either n 1 (λ k. omega (arith, ap length (digits-small n (omega arith)))) (λ k. digits-lead n k e)
@@ -197,8 +211,10 @@ pub integer-rule : (n : ℕ) → n < integerBound → IntegerRule (integerOctets
 integer-rule n h =
     let f = few (digits n) (rw (number-digits n) h) (digits-first n) in
     either (getD (digits n) 0 0) 128
-    (λ k. rw (integer-plain n k) record { some = digits-some n; four = f .0; positive = k; minimal = λ l e. absurd (digits-first n l e) })
-    (λ k. rw (integer-padded n k) record { some = omega arith; four = omega (arith, f .1 k); positive = omega arith; minimal = λ l e. k })
+    (λ k. rw (integer-plain n k)
+    record { some = digits-some n; four = f .0; positive = k; minimal = λ l e. absurd (digits-first n l e) })
+    (λ k. rw (integer-padded n k)
+    record { some = omega arith; four = omega (arith, f .1 k); positive = omega arith; minimal = λ l e. k })
 
 -- and back: a body that keeps the rule is what its number is written as, and that is below 2^31
 pub integer-octets : (body : List ℕ) → Bytes body → IntegerRule body → integerOctets (number body) ≡ body

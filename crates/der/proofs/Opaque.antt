@@ -1,4 +1,5 @@
--- The laws of the opaque check that the code leans on: how far it goes, how many elements it counts, and its loop over siblings.
+-- The laws of the opaque check that the code leans on: how far it goes, how many elements it
+-- counts, and its loop over siblings.
 use mathlib.Core.Path.{_≡_, refl, sym, _∙_}
 use mathlib.Core.List.{List}
 use Prim.Native.Nat.{ℕ, zero, suc, _+_, _*_, _-_, _/_, _%_, _^_, _≤_, _<_}
@@ -45,13 +46,16 @@ OfRun c (Passed m n) = Ran c m n
 
 -- what holds of a refusal and of a check that passed holds of what is made of them
 pub by-checked : {A : Type 0} (P : A → Type 0) (Q : Checked → Type 0) (bad : Fault → A) (good : ℕ → Cursor → A)
-    → ((f : Fault) → P (bad f)) → ((m : ℕ) (n : Cursor) → Q (Passed m n) → P (good m n)) → (x : Checked) → Q x → P (onChecked x bad good)
+    → ((f : Fault) → P (bad f)) → ((m : ℕ) (n : Cursor) → Q (Passed m n) → P (good m n)) → (x : Checked) → Q x
+    → P (onChecked x bad good)
 by-checked P Q bad good f g (Checked.Refused e) q = f e
 by-checked P Q bad good f g (Passed m n) q = g m n q
 
 -- one step of the loop over siblings: a refusal, or the loop from where the checked element ends
-pub by-step : (P : Checked → Type 0) (check : Cursor → Checked) (end m at : ℕ) (k : ℕ → ℕ → Checked) (Q : Checked → Type 0)
-    → ((f : Fault) → P (Checked.Refused f)) → ((i : ℕ) (n : Cursor) → Q (Passed i n) → P (k (m + i) (n .at))) → Q (check (cursor at end))
+pub by-step : (P : Checked → Type 0) (check : Cursor → Checked) (end m at : ℕ)
+    (k : ℕ → ℕ → Checked) (Q : Checked → Type 0)
+    → ((f : Fault) → P (Checked.Refused f)) → ((i : ℕ) (n : Cursor) → Q (Passed i n) → P (k (m + i) (n .at)))
+    → Q (check (cursor at end))
     → P (goOn (counted check end m at) k)
 by-step P check end m at k Q f g q = go (check (cursor at end)) q
   where
@@ -59,7 +63,8 @@ by-step P check end m at k Q f g q = go (check (cursor at end)) q
     go (Checked.Refused e) r = f e
     go (Passed i n) r = g i n r
 
-run-of : (s : List ℕ) (check : Cursor → Checked) → ((c : Cursor) → OfOpaque s c (check c)) → (c : Cursor) → OfRun c (run check c)
+run-of : (s : List ℕ) (check : Cursor → Checked) → ((c : Cursor) → OfOpaque s c (check c))
+    → (c : Cursor) → OfRun c (run check c)
 unfolding run
 run-of s check each c =
     many-holds goOn (atEnd (c .end)) (counted check (c .end)) (c .end) (λ m at. OfRun c)
@@ -73,23 +78,38 @@ run-of s check each c =
 
 opaque-of : (l : ℕ) (s : List ℕ) (c : Cursor) → OfOpaque s c (opaqueAt l s c)
 unfolding opaqueAt
-opaque-of zero s c = by-element (OfOpaque s c) (OfElement s c) _ _ (λ f. tt) (λ t b n p. tt) (elementAt s c) (element-of s c)
+opaque-of zero s c = by-element (OfOpaque s c) (OfElement s c) _ _ (λ f. tt) (λ t b n p. tt)
+    (elementAt s c) (element-of s c)
 opaque-of (suc l) s c =
     by-element (OfOpaque s c) (OfElement s c) _ _ (λ f. tt)
     (λ t b n p.
     by-eq (OfOpaque s c) _ _ (t / 32 % 2) 0
-    (λ h. rw (p .next) record { some = omega arith; long = omega (arith, p .body .past, p .body .size); within = p .body .within; inside = p .inside; end = refl })
+    (λ h. rw (p .next) record {
+      some = omega arith;
+      long = omega (arith, p .body .past, p .body .size);
+      within = p .body .within;
+      inside = p .inside;
+      end = refl;
+    })
     (λ h.
     by-checked (OfOpaque s c) (OfRun b) _ _ (λ f. tt)
-    (λ m e r. rw (p .next) record { some = omega arith; long = omega (arith, p .body .past, p .body .size, r .long, r .stop (p .body .size)); within = p .body .within; inside = p .inside; end = refl })
+    (λ m e r. rw (p .next) record {
+      some = omega arith;
+      long = omega (arith, p .body .past, p .body .size, r .long, r .stop (p .body .size));
+      within = p .body .within;
+      inside = p .inside;
+      end = refl;
+    })
     (run (opaqueAt l s) b) (run-of s (opaqueAt l s) (opaque-of l s) b)))
     (elementAt s c) (element-of s c)
 
 -- the facts of an element, or of a run of them, that was checked
-pub went : (l : ℕ) (s : List ℕ) (c : Cursor) (w : Checked) (m : ℕ) (n : Cursor) → w ≡ opaqueAt l s c → w ≡ Passed m n → Went s c m n
+pub went : (l : ℕ) (s : List ℕ) (c : Cursor) (w : Checked) (m : ℕ) (n : Cursor) → w ≡ opaqueAt l s c
+    → w ≡ Passed m n → Went s c m n
 went l s c w m n p q = rw (sym p ∙ q) at (opaque-of l s c)
 
-pub ran : (l : ℕ) (s : List ℕ) (c : Cursor) (w : Checked) (m : ℕ) (n : Cursor) → w ≡ elementsAt l s c → w ≡ Passed m n → Ran c m n
+pub ran : (l : ℕ) (s : List ℕ) (c : Cursor) (w : Checked) (m : ℕ) (n : Cursor) → w ≡ elementsAt l s c
+    → w ≡ Passed m n → Ran c m n
 unfolding elementsAt
 ran l s c w m n p q = rw (sym p ∙ q) at (run-of s (opaqueAt l s) (opaque-of l s) c)
 
@@ -110,7 +130,8 @@ opaque-step (suc l) s c r e =
     let d : suc l - 1 ≡ l = omega arith in
     e ∙ simp (eqb·suc-zero, d)
 
--- the loop over siblings in the code: its invariant, what it begins with, its two ways out and its turn
+-- the loop over siblings in the code: its invariant, what it begins with, its two ways out and its
+-- turn
 pub record Running (l : ℕ) (s : List ℕ) (end : ℕ) (whole : Checked) (m at : ℕ) : Type 0 where
   pub going : Going goOn (atEnd end) (counted (opaqueAt l s) end) end whole m at
 
@@ -122,19 +143,28 @@ module _ (l : ℕ) (s : List ℕ) (end : ℕ) (whole : Checked) (m at : ℕ) whe
   pub running-end : Running l s end whole m at → end ≤ at → Passed m (cursor at end) ≡ whole
   running-end g h = going-end _ _ _ end whole m at (g .going) h
 
-  pub running-refused : (w : Checked) (f : Fault) → Running l s end whole m at → at < end → w ≡ opaqueAt l s (cursor at end)
+  pub running-refused : (w : Checked) (f : Fault) → Running l s end whole m at → at < end
+      → w ≡ opaqueAt l s (cursor at end)
       → w ≡ Checked.Refused f → Checked.Refused f ≡ whole
   running-refused w f g h p q = sym (going-on _ _ _ end whole m at (g .going) h .rest ∙ rw (sym p ∙ q))
 
-  pub running-on : (w : Checked) (i : ℕ) (n : Cursor) → Running l s end whole m at → at < end → w ≡ opaqueAt l s (cursor at end)
+  pub running-on : (w : Checked) (i : ℕ) (n : Cursor) → Running l s end whole m at → at < end
+      → w ≡ opaqueAt l s (cursor at end)
       → w ≡ Passed i n → Running l s end whole (m + i) (n .at)
   running-on w i n g h p q =
       let o = going-on _ _ _ end whole m at (g .going) h in
       let v = went l s (cursor at end) w i n p q in
-      record { going = record { fuel = o .fuel; enough = omega (arith, o .enough, v .some, v .long); rest = o .rest ∙ rw (sym p ∙ q) } }
+      record {
+        going = record {
+          fuel = o .fuel;
+          enough = omega (arith, o .enough, v .some, v .long);
+          rest = o .rest ∙ rw (sym p ∙ q);
+        };
+      }
 
 -- the numbers of a turn: the position moves on, and the count stays half of what was passed
-module _ (l : ℕ) (s : List ℕ) (end at : ℕ) (w : Checked) (i : ℕ) (n : Cursor) (p : w ≡ opaqueAt l s (cursor at end)) (q : w ≡ Passed i n) where
+module _ (l : ℕ) (s : List ℕ) (end at : ℕ) (w : Checked) (i : ℕ) (n : Cursor) (p : w ≡ opaqueAt l s (cursor at end))
+    (q : w ≡ Passed i n) where
   pub step-falls : at < end → end - n .at < end - at
   step-falls h = let v = went l s (cursor at end) w i n p q in omega (arith, v .some, v .long)
 

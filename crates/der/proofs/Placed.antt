@@ -1,5 +1,5 @@
--- Where an accepted element stands: its body behind its header and within its parent, and the header's bytes. Each fact is proved of the
--- definition once, by cases on its answer.
+-- Where an accepted element stands: its body behind its header and within its parent, and the
+-- header's bytes. Each fact is proved of the definition once, by cases on its answer.
 use mathlib.Core.Path.{_≡_, refl, sym, _∙_}
 use mathlib.Core.Bool.{Bool, true, false}
 use mathlib.Core.List.{List, [], _∷_, _++_}
@@ -10,7 +10,8 @@ use lib.ListN.{length, getD, drop}
 use lib.Seq.{drop-cons}
 use borrow.Author.Tests.{le-ltb, le-leb, lt-leb, eq-eqb, leb-false}
 use Rattle.der.specs.Numbers.{lengthBound}
-use Rattle.der.specs.Element.{cursor, noByteLeft, within, oneOctet, twoOctets, extentAt, elementAt, expectAt, onExtent, onElement}
+use Rattle.der.specs.Element.{cursor, noByteLeft, within, oneOctet, twoOctets, extentAt}
+use Rattle.der.specs.Element.{elementAt, expectAt, onExtent, onElement}
 use Rattle.der.specs.Octets.{lengthOctets}
 use Rattle.der.specs.Span.{Bytes}
 use Rattle.der.specs.declared.Fault.{Fault}
@@ -38,10 +39,12 @@ left-none s c h = by-test (λ u. u ≡ true) _ _ (ltb (length s) (c .end)) (λ k
 
 left-of : (s : List ℕ) (c : Cursor) → noByteLeft s c ≡ false → (c .at < c .end) × (c .end ≤ length s)
 unfolding noByteLeft
-left-of s c = by-lt (λ u. u ≡ false → (c .at < c .end) × (c .end ≤ length s)) _ _ _ _ (λ k e. never (sym e)) (λ k e. (leb-false _ _ e, k))
+left-of s c = by-lt (λ u. u ≡ false → (c .at < c .end) × (c .end ≤ length s)) _ _ _ _ (λ k e. never (sym e))
+    (λ k e. (leb-false _ _ e, k))
 
 -- the same of a test u that the code made
-pub left-within : (s : List ℕ) (c : Cursor) (u : Bool) → u ≡ noByteLeft s c → u ≡ false → (c .at < c .end) × (c .end ≤ length s)
+pub left-within : (s : List ℕ) (c : Cursor) (u : Bool) → u ≡ noByteLeft s c → u ≡ false
+    → (c .at < c .end) × (c .end ≤ length s)
 left-within s c u p q = left-of s c (sym p ∙ q)
 
 -- the body b of the element at `at`, within a parent that ends at `end`
@@ -80,19 +83,37 @@ module _ (s : List ℕ) (at end : ℕ) (inside : end ≤ length s) where
       within-of s at end (at + 2) (getD s (at + 1) 0) (omega arith) (λ b. omega arith)
       (λ b. rw (octets-short (getD s (at + 1) 0) k, one-more s (at + 1) (at + 2) (omega arith) (omega arith)))
 
-  one-of : getD s (at + 1) 0 ≡ 129 → at + 2 < end → 128 ≤ getD s (at + 2) 0 → OfExtent s at end (within at (at + 3) (getD s (at + 2) 0) end)
+  one-of : getD s (at + 1) 0 ≡ 129 → at + 2 < end → 128 ≤ getD s (at + 2) 0
+      → OfExtent s at end (within at (at + 3) (getD s (at + 2) 0) end)
   one-of f h k =
       within-of s at end (at + 3) (getD s (at + 2) 0) (omega arith) (λ b. omega (arith, byte-at s b (at + 2)))
-      (λ b. rw (octets-one (getD s (at + 2) 0) k (byte-at s b (at + 2)), one-more s (at + 1) (at + 2) (omega arith) (omega arith), one-more s (at + 2) (at + 3) (omega arith) (omega arith), f))
+      (λ b. rw (
+        octets-one (getD s (at + 2) 0) k (byte-at s b (at + 2)),
+        one-more s (at + 1) (at + 2) (omega arith) (omega arith),
+        one-more s (at + 2) (at + 3) (omega arith) (omega arith),
+        f,
+      ))
 
   two-of : getD s (at + 1) 0 ≡ 130 → at + 3 < end → (getD s (at + 2) 0 ≡ 0 → ⊥)
       → OfExtent s at end (within at (at + 4) (getD s (at + 2) 0 * 256 + getD s (at + 3) 0) end)
   two-of f h k =
-      within-of s at end (at + 4) (getD s (at + 2) 0 * 256 + getD s (at + 3) 0) (omega arith) (λ b. omega (arith, byte-at s b (at + 2), byte-at s b (at + 3)))
+      within-of s at end (at + 4) (getD s (at + 2) 0 * 256 + getD s (at + 3) 0) (omega arith)
+      (λ b. omega (arith, byte-at s b (at + 2), byte-at s b (at + 3)))
       (λ b.
-      let high : (getD s (at + 2) 0 * 256 + getD s (at + 3) 0) / 256 ≡ getD s (at + 2) 0 = omega (arith, byte-at s b (at + 3)) in
-      let low : (getD s (at + 2) 0 * 256 + getD s (at + 3) 0) % 256 ≡ getD s (at + 3) 0 = omega (arith, byte-at s b (at + 3)) in
-      rw (octets-two (getD s (at + 2) 0 * 256 + getD s (at + 3) 0) (omega arith) (omega (arith, byte-at s b (at + 2), byte-at s b (at + 3))), high, low, one-more s (at + 1) (at + 2) (omega arith) (omega arith), one-more s (at + 2) (at + 3) (omega arith) (omega arith), one-more s (at + 3) (at + 4) (omega arith) (omega arith), f))
+      let high : (getD s (at + 2) 0 * 256 + getD s (at + 3) 0) / 256 ≡ getD s (at + 2) 0 =
+      omega (arith, byte-at s b (at + 3)) in
+      let low : (getD s (at + 2) 0 * 256 + getD s (at + 3) 0) % 256 ≡ getD s (at + 3) 0 =
+      omega (arith, byte-at s b (at + 3)) in
+      rw (
+        octets-two (getD s (at + 2) 0 * 256 + getD s (at + 3) 0) (omega arith)
+            (omega (arith, byte-at s b (at + 2), byte-at s b (at + 3))),
+        high,
+        low,
+        one-more s (at + 1) (at + 2) (omega arith) (omega arith),
+        one-more s (at + 2) (at + 3) (omega arith) (omega arith),
+        one-more s (at + 3) (at + 4) (omega arith) (omega arith),
+        f,
+      ))
 
   extent-of : OfExtent s at end (extentAt s at end)
   unfolding extentAt oneOctet twoOctets
@@ -105,7 +126,8 @@ module _ (s : List ℕ) (at end : ℕ) (inside : end ≤ length s) where
       (λ f. by-le (OfExtent s at end) _ _ _ _ (λ i. tt) (λ i. by-eq (OfExtent s at end) _ _ _ _ (λ j. tt) (two-of f i)))
       (λ m. tt))))
 
--- an element found at a cursor: its tag is of a form that is taken, and its body stands behind its header, within its parent
+-- an element found at a cursor: its tag is of a form that is taken, and its body stands behind its
+-- header, within its parent
 pub record Placed (s : List ℕ) (c : Cursor) (t : ℕ) (b n : Cursor) : Type 0 where
   pub some : c .at < c .end
   pub inside : c .end ≤ length s
@@ -121,12 +143,15 @@ OfElement s c (Found t b n) = Placed s c t b n
 
 -- what holds of a refusal and of a body holds of what is made of an extent
 by-extent : {A : Type 0} (P : A → Type 0) (Q : Extent → Type 0) (bad : Fault → A) (good : Cursor → A)
-    → ((f : Fault) → P (bad f)) → ((b : Cursor) → Q (Body b) → P (good b)) → (x : Extent) → Q x → P (onExtent x bad good)
+    → ((f : Fault) → P (bad f)) → ((b : Cursor) → Q (Body b) → P (good b)) → (x : Extent) → Q x
+    → P (onExtent x bad good)
 by-extent P Q bad good f g (Extent.Refused e) q = f e
 by-extent P Q bad good f g (Body b) q = g b q
 
-placed-of : (s : List ℕ) (c : Cursor) → c .end ≤ length s → c .at < c .end → (getD s (c .at) 0 ≡ 0 → ⊥) → (getD s (c .at) 0 % 32 ≡ 31 → ⊥)
-    → OfElement s c (onExtent (extentAt s (c .at) (c .end)) Element.Refused (λ b. Found (getD s (c .at) 0) b (cursor (b .end) (c .end))))
+placed-of : (s : List ℕ) (c : Cursor) → c .end ≤ length s → c .at < c .end → (getD s (c .at) 0 ≡ 0 → ⊥)
+    → (getD s (c .at) 0 % 32 ≡ 31 → ⊥)
+    → OfElement s c (onExtent (extentAt s (c .at) (c .end)) Element.Refused
+    (λ b. Found (getD s (c .at) 0) b (cursor (b .end) (c .end))))
 placed-of s c h k l m =
     by-extent (OfElement s c) (OfExtent s (c .at) (c .end)) _ _ (λ f. tt)
     (λ b p. record { some = k; inside = h; tag = refl; not-zero = l; low-bits = m; body = p; next = refl })
@@ -140,12 +165,14 @@ element-of s c =
     (λ l. by-eq (OfElement s c) _ _ _ _ (λ m. tt) (placed-of s c (left-of s c h .1) (left-of s c h .0) l)))
 
 -- the facts of an element that was found
-pub found : (s : List ℕ) (c : Cursor) (w : Element) (t : ℕ) (b n : Cursor) → w ≡ elementAt s c → w ≡ Found t b n → Placed s c t b n
+pub found : (s : List ℕ) (c : Cursor) (w : Element) (t : ℕ) (b n : Cursor) → w ≡ elementAt s c
+    → w ≡ Found t b n → Placed s c t b n
 found s c w t b n p q = rw (sym p ∙ q) at (element-of s c)
 
 -- what holds of a refusal and of an element that is found holds of what is made of them
 pub by-element : {A : Type 0} (P : A → Type 0) (Q : Element → Type 0) (bad : Fault → A) (good : ℕ → Cursor → Cursor → A)
-    → ((f : Fault) → P (bad f)) → ((t : ℕ) (b n : Cursor) → Q (Found t b n) → P (good t b n)) → (x : Element) → Q x → P (onElement x bad good)
+    → ((f : Fault) → P (bad f)) → ((t : ℕ) (b n : Cursor) → Q (Found t b n) → P (good t b n)) → (x : Element) → Q x
+    → P (onElement x bad good)
 by-element P Q bad good f g (Element.Refused e) q = f e
 by-element P Q bad good f g (Found t b n) q = g t b n q
 
@@ -165,7 +192,8 @@ pub expected : (due : ℕ) (s : List ℕ) (c : Cursor) (w : Element) (t : ℕ) (
     → w ≡ expectAt due s c → w ≡ Found t b n → (t ≡ due) × (elementAt s c ≡ Found t b n)
 expected due s c w t b n p q = rw (sym p ∙ q) at (expected-of due s c)
 
-pub expect-is : (s : List ℕ) (c : Cursor) (t : ℕ) (b n : Cursor) → elementAt s c ≡ Found t b n → expectAt t s c ≡ Found t b n
+pub expect-is : (s : List ℕ) (c : Cursor) (t : ℕ) (b n : Cursor) → elementAt s c ≡ Found t b n
+    → expectAt t s c ≡ Found t b n
 unfolding expectAt
 expect-is s c t b n e = rw (e, eq-eqb t t refl)
 

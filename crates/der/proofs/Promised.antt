@@ -1,4 +1,5 @@
--- What a public function promises beside its equation: what its answer reports, and that a slice holds bytes.
+-- What a public function promises beside its equation: what its answer reports, and that a slice
+-- holds bytes.
 use mathlib.Core.Path.{_≡_, ap}
 use mathlib.Core.List.{List, [], _∷_}
 use Prim.Native.Nat.{ℕ, zero, suc, _<_}

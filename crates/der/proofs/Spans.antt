@@ -5,7 +5,8 @@ use Prim.Native.Nat.{ℕ, zero, suc, _+_, _≤_, _<_}
 use native.Mathlib.Omega.{arith}
 use native.Mathlib.Numerals.{add-one}
 use lib.ListN.{length, getD, take, drop, length-append, length-drop, take-append-drop, List·getD-append}
-use lib.Seq.{slice, drop-cons, drop-drop, drop-append-seam, drop-append-le, drop-length, getD-drop, length-slice, length-take-le}
+use lib.Seq.{slice, drop-cons, drop-drop, drop-append-seam, drop-append-le}
+use lib.Seq.{drop-length, getD-drop, length-slice, length-take-le}
 use Rattle.der.specs.Span.{Span, Bytes}
 use Rattle.der.proofs.Octets.{append-same}
 
@@ -22,7 +23,11 @@ module _ (s : List ℕ) where
   -- the bytes alone, where the offsets are known
   pub span-of : (a b : ℕ) (x : List ℕ) → drop a s ≡ x ++ drop b s → a ≤ b → b ≤ length s → Span s a b x
   span-of a b x e h k =
-      record { bytes = e; size = omega (arith, ap length e, length-append x (drop b s), length-drop a s, length-drop b s); inside = k }
+      record {
+        bytes = e;
+        size = omega (arith, ap length e, length-append x (drop b s), length-drop a s, length-drop b s);
+        inside = k;
+      }
 
   pub span-join : (a b c : ℕ) (x y : List ℕ) → Span s a b x → Span s b c y → Span s a c (x ++ y)
   span-join a b c x y p q =
@@ -33,17 +38,24 @@ module _ (s : List ℕ) where
       }
 
   -- a span of two lists is a span of each; k is told where they meet
-  pub span-split : {P : Type 0} (a c : ℕ) (x y : List ℕ) → Span s a c (x ++ y) → ((b : ℕ) → Span s a b x → Span s b c y → P) → P
+  pub span-split : {P : Type 0} (a c : ℕ) (x y : List ℕ) → Span s a c (x ++ y)
+      → ((b : ℕ) → Span s a b x → Span s b c y → P) → P
   span-split a c x y p k =
       let z : a + (length x + length y) ≡ c = rw (← length-append x y) (p .size) in
       let e : drop (a + length x) s ≡ y ++ drop c s =
-      rw (← drop-drop) (ap (drop (length x)) (p .bytes ∙ append-assoc x y (drop c s)) ∙ drop-append-seam x (y ++ drop c s)) in
+      rw (← drop-drop)
+      (ap (drop (length x)) (p .bytes ∙ append-assoc x y (drop c s)) ∙ drop-append-seam x (y ++ drop c s)) in
       k (a + length x)
-      (record { bytes = p .bytes ∙ append-assoc x y (drop c s) ∙ ap (λ (l : List ℕ). x ++ l) (sym e); size = refl; inside = omega (arith, p .inside) })
+      (record {
+        bytes = p .bytes ∙ append-assoc x y (drop c s) ∙ ap (λ (l : List ℕ). x ++ l) (sym e);
+        size = refl;
+        inside = omega (arith, p .inside);
+      })
       (record { bytes = e; size = omega arith; inside = p .inside })
 
   pub span-same : (a b : ℕ) (x y : List ℕ) → Span s a b x → Span s a b y → x ≡ y
-  span-same a b x y p q = append-same x y (drop b s) (drop b s) (omega (arith, p .size, q .size)) (sym (p .bytes) ∙ q .bytes) .0
+  span-same a b x y p q =
+      append-same x y (drop b s) (drop b s) (omega (arith, p .size, q .size)) (sym (p .bytes) ∙ q .bytes) .0
 
   -- the same bytes up to an end that is written otherwise
   pub span-to : (a b c : ℕ) (x : List ℕ) → b ≡ c → Span s a b x → Span s a c x
@@ -65,7 +77,8 @@ module _ (s : List ℕ) where
   -- the byte i of a span, which stands at j
   pub span-at : (a b i j : ℕ) (x : List ℕ) → Span s a b x → a + i ≡ j → i < length x → getD s j 0 ≡ getD x i 0
   span-at a b i j x p e h =
-      rw (← e) (sym (getD-drop a s i 0) ∙ ap (λ (l : List ℕ). getD l i 0) (p .bytes) ∙ List·getD-append x (drop b s) 0 i h)
+      rw (← e)
+      (sym (getD-drop a s i 0) ∙ ap (λ (l : List ℕ). getD l i 0) (p .bytes) ∙ List·getD-append x (drop b s) 0 i h)
 
 pub bytes-drop : (s : List ℕ) (a : ℕ) → Bytes s → Bytes (drop a s)
 bytes-drop s zero b = b

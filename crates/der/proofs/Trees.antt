@@ -1,10 +1,12 @@
--- The laws of opaque elements as trees: how long they are, and that their bytes stand for one tree alone.
+-- The laws of opaque elements as trees: how long they are, and that their bytes stand for one tree
+-- alone.
 use mathlib.Core.Path.{_≡_, refl, sym, ap}
 use mathlib.Core.List.{List, [], _++_, append-assoc, append-nil}
 use Prim.Native.Nat.{ℕ, _*_, _≤_}
 use native.Mathlib.Omega.{arith}
 use lib.ListN.{length, length-append}
-use Rattle.der.specs.Tree.{Tree, primitive, constructed, Trees, none, more, encode, encodes, elements, elementsIn, depth, deepest, Formed, AllFormed, siblings}
+use Rattle.der.specs.Tree.{Tree, primitive, constructed, Trees, none, more, encode, encodes, elements}
+use Rattle.der.specs.Tree.{elementsIn, depth, deepest, Formed, AllFormed, siblings}
 use Rattle.der.specs.Octets.{tlv, TagForm}
 use Rattle.der.proofs.Octets.{tlv-unique, tlv-long}
 
@@ -27,13 +29,15 @@ tree-some (primitive t body) = omega arith
 tree-some (constructed t xs) = omega arith
 
 -- a tree is one element: k is told its tag and its body
-pub tree-element : {P : Type 0} (x : Tree) → Formed x → ((t : ℕ) (body : List ℕ) → TagForm t → encode x ≡ tlv t body → P) → P
+pub tree-element : {P : Type 0} (x : Tree) → Formed x
+    → ((t : ℕ) (body : List ℕ) → TagForm t → encode x ≡ tlv t body → P) → P
 unfolding encode Formed
 tree-element (primitive t body) f k = k t body (f .0) refl
 tree-element (constructed t xs) f k = k t (encodes xs) (f .0) refl
 
 -- a run of one tree, and of none
-pub run-one : (x : Tree) → Formed x → AllFormed (more x none) × (encodes (more x none) ≡ encode x) × (elementsIn (more x none) ≡ elements x) × (deepest (more x none) ≡ depth x)
+pub run-one : (x : Tree) → Formed x → AllFormed (more x none) × (encodes (more x none) ≡ encode x)
+    × (elementsIn (more x none) ≡ elements x) × (deepest (more x none) ≡ depth x)
 unfolding encode elements depth Formed
 run-one x f = ((f, tt), append-nil (encode x), omega arith, omega arith)
 
@@ -49,10 +53,13 @@ not-empty x r e = omega (arith, ap length e, length-append (encode x) r, tree-lo
 mutual
   unfolding encode Formed
 
-  pub tree-unique : (x y : Tree) (r s : List ℕ) → Formed x → Formed y → encode x ++ r ≡ encode y ++ s → (x ≡ y) × (r ≡ s)
+  pub tree-unique : (x y : Tree) (r s : List ℕ) → Formed x → Formed y
+      → encode x ++ r ≡ encode y ++ s → (x ≡ y) × (r ≡ s)
   tree-unique (primitive t a) (primitive u b) r s f g e = let q = tlv-unique t u a b r s e in (cc, q .2)
-  tree-unique (primitive t a) (constructed u ys) r s f g e = let q = tlv-unique t u a (encodes ys) r s e in absurd (omega (arith, q .0, f .1, g .1))
-  tree-unique (constructed t xs) (primitive u b) r s f g e = let q = tlv-unique t u (encodes xs) b r s e in absurd (omega (arith, q .0, f .1, g .1))
+  tree-unique (primitive t a) (constructed u ys) r s f g e = let q = tlv-unique t u a (encodes ys) r s e in
+      absurd (omega (arith, q .0, f .1, g .1))
+  tree-unique (constructed t xs) (primitive u b) r s f g e = let q = tlv-unique t u (encodes xs) b r s e in
+      absurd (omega (arith, q .0, f .1, g .1))
   tree-unique (constructed t xs) (constructed u ys) r s f g e =
       let q = tlv-unique t u (encodes xs) (encodes ys) r s e in
       let p = trees-unique xs ys (f .3) (g .3) (q .1) in

@@ -1,4 +1,4 @@
--- One element: a tag byte, a length and a body (scope, "One element"), read at a cursor of a list of bytes.
+-- One element: a tag byte, a length and a body (Rule 2.1), read at a cursor of a list of bytes.
 use mathlib.Core.Bool.{Bool, true}
 use mathlib.Core.List.{List}
 use Prim.Native.Nat.{ℕ, _+_, _*_, _%_}
@@ -17,15 +17,16 @@ use Rattle.der.specs.declared.Extent.the-variants.{Body}
 abbrev pub cursor : ℕ → ℕ → Cursor
 cursor a e = record { at = a; end = e }
 
--- A fault's offset is the scope's place.
+-- Rule 5.20: a refusal's number and its offset
 abbrev pub fault : ℕ → ℕ → Fault
 fault n p = record { number = n; offset = p }
 
--- "The file is the parent of the outermost element."
+-- Rule 2.4: the parent of the outermost element is the file
 abbrev pub wholeOf : List ℕ → Cursor
 wholeOf s = cursor 0 (length s)
 
--- "its parent has no byte left"; nor has a cursor that ends past the bytes, or before its own position
+-- Rule 5.1: no byte is left in the parent; a cursor that ends past the bytes, or before its own
+-- position, has none either
 unfoldable pub noByteLeft : List ℕ → Cursor → Bool
 noByteLeft s c = if ltb (length s) (c .end) then true else leb (c .end) (c .at)
 
@@ -33,38 +34,38 @@ noByteLeft s c = if ltb (length s) (c .end) then true else leb (c .end) (c .at)
 unfoldable pub tagAt : List ℕ → Cursor → ℕ
 tagAt s c = if noByteLeft s c then noTag else getD s (c .at) 0
 
--- "bytes left over in a parent after its last element" (6)
+-- Rule 5.6: bytes are left in a parent after its last element (6)
 unfoldable pub finishAt : Cursor → Checked
 finishAt c = if ltb (c .at) (c .end) then Checked.Refused (fault leftOver (c .at)) else Checked.Passed 0 c
 
--- "The body must end within its parent (1)." The place is the offset of the element's tag.
+-- Rule 2.4: the body ends within its parent, or the element is refused (1) at the offset of its tag
 unfoldable pub within : ℕ → ℕ → ℕ → ℕ → Extent
 within at start size end =
     if ltb end (start + size) then Extent.Refused (fault overrun at) else
     Body (cursor start (start + size))
 
--- "81 with 80..FF"; a header with a byte missing is 1
+-- Rule 2.3: 81 and a byte 80..FF. Rule 5.17: a header with a byte missing is 1
 unfoldable pub oneOctet : List ℕ → ℕ → ℕ → Extent
 oneOctet s at end =
     if leb end (at + 2) then Extent.Refused (fault overrun at) else
-    if ltb (getD s (at + 2) 0) 128 then Extent.Refused (fault lengthForm at) else
+    if ltb (getD s (at + 2) 0) 0x80 then Extent.Refused (fault lengthForm at) else
     within at (at + 3) (getD s (at + 2) 0) end
 
--- "82 with 0100..FFFF"; a header with a byte missing is 1
+-- Rule 2.3: 82 and two bytes 0100..FFFF. Rule 5.17: a header with a byte missing is 1
 unfoldable pub twoOctets : List ℕ → ℕ → ℕ → Extent
 twoOctets s at end =
     if leb end (at + 3) then Extent.Refused (fault overrun at) else
     if eqb (getD s (at + 2) 0) 0 then Extent.Refused (fault lengthForm at) else
     within at (at + 4) (getD s (at + 2) 0 * 256 + getD s (at + 3) 0) end
 
--- "Length: 00..7F; 81 with 80..FF; 82 with 0100..FFFF. Any other form is refused (3): 80, a length that a shorter form could give, 83 and
--- above." A first length byte that is refused is refused at once, also where it is the last byte.
+-- Rule 2.3: the three forms of a length; every other one is refused (3). Rule 5.17: a first byte
+-- 80, or 83 and above, is refused at once, also where it is the last byte.
 unfoldable pub extentAt : List ℕ → ℕ → ℕ → Extent
 extentAt s at end =
     if leb end (at + 1) then Extent.Refused (fault overrun at) else
-    if ltb (getD s (at + 1) 0) 128 then within at (at + 2) (getD s (at + 1) 0) end else
-    if eqb (getD s (at + 1) 0) 129 then oneOctet s at end else
-    if eqb (getD s (at + 1) 0) 130 then twoOctets s at end else
+    if ltb (getD s (at + 1) 0) 0x80 then within at (at + 2) (getD s (at + 1) 0) end else
+    if eqb (getD s (at + 1) 0) 0x81 then oneOctet s at end else
+    if eqb (getD s (at + 1) 0) 0x82 then twoOctets s at end else
     Extent.Refused (fault lengthForm at)
 
 -- what is made of a refusal, and of a body
@@ -72,13 +73,13 @@ abbrev pub onExtent : {A : Type 0} → Extent → (Fault → A) → (Cursor → 
 onExtent (Extent.Refused f) bad good = bad f
 onExtent (Body b) bad good = good b
 
--- "Tag: 00 and any byte whose low five bits are all ones are refused (2)." Then the length, then the body's end.
--- Where no byte is left, 1 at the parent's end.
+-- Rule 2.2: the tag 00, and every tag with its low five bits all set, is refused (2). Then the
+-- length, then the body's end (Rule 5.16). Where no byte is left, 1 at the parent's end (Rule 5.1).
 unfoldable pub elementAt : List ℕ → Cursor → Element
 elementAt s c =
     if noByteLeft s c then Element.Refused (fault missing (c .end)) else
     if eqb (getD s (c .at) 0) 0 then Element.Refused (fault tagForm (c .at)) else
-    if eqb (getD s (c .at) 0 % 32) 31 then Element.Refused (fault tagForm (c .at)) else
+    if eqb (getD s (c .at) 0 % 0x20) 0x1F then Element.Refused (fault tagForm (c .at)) else
     onExtent (extentAt s (c .at) (c .end)) Element.Refused (λ b. Found (getD s (c .at) 0) b (cursor (b .end) (c .end)))
 
 -- what is made of a refusal, and of an element
@@ -86,7 +87,7 @@ abbrev pub onElement : {A : Type 0} → Element → (Fault → A) → (ℕ → C
 onElement (Element.Refused f) bad good = bad f
 onElement (Found t b n) bad good = good t b n
 
--- "another tag than the one due" (4)
+-- Rule 5.4: another tag than the one that is due (4)
 unfoldable pub expectAt : ℕ → List ℕ → Cursor → Element
 expectAt due s c =
     onElement (elementAt s c)

@@ -1,4 +1,5 @@
--- What it means that the bytes at a cursor follow X.690: the statements that the readings are proved equivalent to.
+-- What it means that the bytes at a cursor follow X.690: the statements that the readings are
+-- proved equivalent to.
 use mathlib.Core.Path.{_≡_}
 use mathlib.Core.List.{List}
 use Prim.Native.Nat.{ℕ, _≤_, _<_}
@@ -8,7 +9,8 @@ use Rattle.der.specs.Element.{cursor}
 use Rattle.der.specs.Content.{bytesOf}
 use Rattle.der.specs.Octets.{tlv, integerOctets, TagForm, IdentifierRule}
 use Rattle.der.specs.Span.{Span}
-use Rattle.der.specs.Tree.{Tree, Trees, encode, encodes, elements, elementsIn, depth, deepest, Formed, AllFormed}
+use Rattle.der.specs.Tree.{Tree, Trees, encode, encodes, elements, elementsIn, depth, deepest, Formed}
+use Rattle.der.specs.Tree.{AllFormed}
 use Rattle.der.specs.declared.Cursor.{Cursor}
 
 -- the cursor n is c moved on to `stop`, within c's parent and the bytes

@@ -1,5 +1,6 @@
 -- Elements one after another, up to their parent's end, by any step: the one loop over siblings.
--- `on` says what to do with a step's answer: to go on from a state and a position, or to stop. `done` is the answer at the end.
+-- `on` says what to do with a step's answer: to go on from a state and a position, or to stop.
+-- `done` is the answer at the end.
 use Prim.Native.Nat.{ℕ, zero, suc}
 use lib.Dec.{ltb}
 use Rattle.der.specs.Choice.{if_then_else_}

@@ -1,60 +1,71 @@
--- The numbers that the definitions name: refusals (scope, "Numbers given back"), tags and bounds (scope, "One element").
+-- The numbers that the definitions name: refusals (Rules 5.1 to 5.6 and 5.8), tags and bounds
+-- (section 2 of the rules).
 use Prim.Native.Nat.{ℕ}
 
--- an element is due and its parent has no byte left
+-- Rule 5.1: an element is due, and no byte is left in its parent
 abbrev pub missing : ℕ
 missing = 1
 
--- a header or a body runs past its parent
+-- Rule 5.1: a header or a body runs past its parent
 abbrev pub overrun : ℕ
 overrun = 1
 
--- the tag is of a form that is not taken
+-- Rule 5.2: the form of a tag
 abbrev pub tagForm : ℕ
 tagForm = 2
 
--- the length is of a form that is not taken
+-- Rule 5.3: the form of a length
 abbrev pub lengthForm : ℕ
 lengthForm = 3
 
--- another tag than the one due
+-- Rule 5.4: another tag than the one that is due
 abbrev pub otherTag : ℕ
 otherTag = 4
 
--- a body that is not allowed here
+-- Rule 5.5: a body that isn't allowed here
 abbrev pub content : ℕ
 content = 5
 
--- bytes left over in a parent after its last element
+-- Rule 5.6: bytes are left in a parent after its last element
 abbrev pub leftOver : ℕ
 leftOver = 6
 
--- a level too many
+-- Rule 5.8: a level or a row too many
 abbrev pub tooMany : ℕ
 tooMany = 8
 
--- "Tag: 00 .. refused (2)": stands for a tag where there is none
+-- Rule 2.2: 00 is no tag, so it marks that there is none
 abbrev pub noTag : ℕ
-noTag = 0
+noTag = 0x00
 
 -- the tags of INTEGER, OCTET STRING and OBJECT IDENTIFIER
 abbrev pub integerTag : ℕ
-integerTag = 2
+integerTag = 0x02
 
 abbrev pub octetStringTag : ℕ
-octetStringTag = 4
+octetStringTag = 0x04
 
 abbrev pub identifierTag : ℕ
-identifierTag = 6
+identifierTag = 0x06
 
--- "82 with 0100..FFFF": a length below this has a form that is read
+-- Rules 3.3, 3.13, 3.4: the tags of SEQUENCE, SET and [0]
+abbrev pub sequenceTag : ℕ
+sequenceTag = 0x30
+
+abbrev pub setTag : ℕ
+setTag = 0x31
+
+abbrev pub contextTag : ℕ
+contextTag = 0xA0
+
+-- Rule 2.3: the greatest length is FFFF (hex); a length below this has a form that is read
 abbrev pub lengthBound : ℕ
-lengthBound = 65536
+lengthBound = 0x10000
 
--- "1 to 4 body bytes, minimal, not negative": the numbers below 2^31
+-- Rule 2.9: 4 bytes at most, not negative: the numbers below 2^31
 abbrev pub integerBound : ℕ
-integerBound = 2147483648
+integerBound = 0x80000000
 
--- "16 levels at most"
+-- Rule 2.7: the levels of an opaque element
 abbrev pub opaqueLevels : ℕ
 opaqueLevels = 16

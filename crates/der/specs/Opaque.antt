@@ -1,4 +1,4 @@
--- An opaque element, "checked through to the bottom" (scope, "One element").
+-- An opaque element, checked in all its levels (Rules 2.6, 2.7).
 use mathlib.Core.List.{List}
 use Prim.Native.Nat.{ℕ, zero, suc, _+_, _-_, _/_, _%_}
 use lib.Dec.{eqb}
@@ -28,19 +28,20 @@ goOn x next = onChecked x Checked.Refused (λ m n. next m (n .at))
 abbrev pub atEnd : ℕ → ℕ → ℕ → Checked
 atEnd end m at = Passed m (cursor at end)
 
--- "zero or more complete elements", each checked by `check`, up to the cursor's end
+-- Rule 2.6: zero or more complete elements, each checked by `check`, up to the cursor's end
 unfoldable pub run : (Cursor → Checked) → Cursor → Checked
 run check c = many goOn (atEnd (c .end)) (counted check (c .end)) (c .end - c .at) (c .end) 0 (c .at)
 
--- "where tag bit 20 (hex) is set its body is zero or more complete elements, otherwise the body isn't looked at"; l levels are left, and
--- where none is, the element is refused (8), once its own form and extent are checked. The count is that of the elements checked.
+-- Rule 2.6: if bit 20 (hex) of the tag is set, the body is complete elements; if not, it isn't
+-- examined. Rule 2.7: l levels are left, and where none is, the element is refused (8), once its
+-- own form and extent are checked. The count is that of the elements checked.
 unfoldable pub opaqueAt : ℕ → List ℕ → Cursor → Checked
 opaqueAt zero s c = onElement (elementAt s c) Checked.Refused (λ t b n. Checked.Refused (fault tooMany (c .at)))
 opaqueAt (suc l) s c =
     onElement (elementAt s c)
     Checked.Refused
     (λ t b n.
-    if eqb (t / 32 % 2) 0 then Passed 1 n else
+    if eqb (t / 0x20 % 2) 0 then Passed 1 n else
     onChecked (run (opaqueAt l s) b) Checked.Refused (λ m e. Passed (m + 1) n))
 
 -- a body of zero or more opaque elements, each of l levels at most

@@ -1,8 +1,8 @@
--- What each case of an answer reports: "Where an answer is an enum, a definition gives this paper's number and values
--- for each of the enum's cases."
+-- What each case of an answer reports (Rule 9.2).
 use mathlib.Core.List.{List, [], _∷_}
 use Prim.Native.Nat.{ℕ}
 use Rattle.der.specs.declared.Fault.{Fault}
+use Rattle.der.specs.declared.Cursor.{Cursor}
 use Rattle.der.specs.declared.Element.{Element}
 use Rattle.der.specs.declared.Element.the-variants.{Found}
 use Rattle.der.specs.declared.Checked.{Checked}
@@ -10,7 +10,8 @@ use Rattle.der.specs.declared.Checked.the-variants.{Passed}
 use Rattle.der.specs.declared.Integer.{Integer}
 use Rattle.der.specs.declared.Integer.the-variants.{Value}
 
--- the number of a refusal, 0 where there is none; its place, 0 where there is none; the values of what is no refusal
+-- the number of a refusal, 0 where there is none; its place, 0 where there is none; the values of
+-- what is no refusal
 pub record Report : Type 0 where
   pub number : ℕ
   pub place : ℕ
@@ -21,6 +22,10 @@ refusing f = record { number = f .number; place = f .offset; values = [] }
 
 abbrev pub passing : List ℕ → Report
 passing x = record { number = 0; place = 0; values = x }
+
+-- a cursor: from and to
+abbrev pub cursorValues : Cursor → List ℕ
+cursorValues c = c .at ∷ c .end ∷ []
 
 -- an element: its tag, its body from and to, what follows it from and to
 unfoldable pub elementReport : Element → Report

@@ -1,4 +1,4 @@
--- An opaque element as a tree, and what it is written as (scope, "One element": "checked through to the bottom").
+-- An opaque element as a tree, and what it is written as (Rule 2.6).
 use mathlib.Core.Path.{_≡_}
 use mathlib.Core.List.{List, [], _++_}
 use Prim.Native.Nat.{ℕ, suc, _+_, _/_, _%_, _<_, max}
@@ -7,7 +7,7 @@ use Rattle.der.specs.Numbers.{lengthBound}
 use Rattle.der.specs.Octets.{tlv, TagForm}
 
 mutual
-  -- "where tag bit 20 (hex) is set its body is zero or more complete elements, otherwise the body isn't looked at"
+  -- Rule 2.6: with bit 20 (hex) in the tag the body is complete elements, else it isn't examined
   pub data Tree : Type 0 where
     primitive : ℕ → List ℕ → Tree
     constructed : ℕ → Trees → Tree
@@ -25,7 +25,7 @@ unfoldable mutual
   encodes none = []
   encodes (more x xs) = encode x ++ encodes xs
 
--- "the number of elements in it"
+-- Rule 4.5: the number of elements
 unfoldable mutual
   pub elements : Tree → ℕ
   elements (primitive t body) = 1
@@ -35,7 +35,7 @@ unfoldable mutual
   elementsIn none = 0
   elementsIn (more x xs) = elements x + elementsIn xs
 
--- "The opaque element itself is level 1"
+-- Rule 2.7: the opaque element itself is level 1
 unfoldable mutual
   pub depth : Tree → ℕ
   depth (primitive t body) = 1
@@ -45,11 +45,12 @@ unfoldable mutual
   deepest none = 0
   deepest (more x xs) = max (depth x) (deepest xs)
 
--- each tag is of a form that is taken and says which kind of element it is; each length is of a form that is taken
+-- each tag is of a form that is taken and says which kind of element it is; each length is of a
+-- form that is taken
 unfoldable mutual
   pub Formed : Tree → Type 0
-  Formed (primitive t body) = TagForm t × (t / 32 % 2 ≡ 0) × (length body < lengthBound)
-  Formed (constructed t xs) = TagForm t × (t / 32 % 2 ≡ 1) × (length (encodes xs) < lengthBound) × AllFormed xs
+  Formed (primitive t body) = TagForm t × (t / 0x20 % 2 ≡ 0) × (length body < lengthBound)
+  Formed (constructed t xs) = TagForm t × (t / 0x20 % 2 ≡ 1) × (length (encodes xs) < lengthBound) × AllFormed xs
 
   pub AllFormed : Trees → Type 0
   AllFormed none = Unit {0}

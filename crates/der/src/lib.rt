@@ -1,17 +1,20 @@
-// One element of DER (ITU-T X.690) and what PKCS #12 files are made of: tags, lengths, identifiers, integers, and opaque elements, which
-// are checked for their form to the bottom. Every public function answers any cursor over any bytes.
+// One element of DER (ITU-T X.690) and what PKCS #12 files are made of: tags, lengths, identifiers,
+// integers, and opaque elements, which are checked for their form to the bottom. Every public
+// function answers any cursor over any bytes.
 ghost use mathlib.Core.Path.{_≡_};
 ghost use Prim.Native.Nat.{_+_, _^_, _<_, _≤_};
 ghost use lib.ListN.{length};
 ghost use lib.Seq.{slice};
 ghost use Rattle.der.specs.Numbers.{octetStringTag};
-ghost use Rattle.der.specs.Element.{wholeOf, noByteLeft, tagAt, finishAt, within, oneOctet, twoOctets, extentAt, elementAt, expectAt};
-ghost use Rattle.der.specs.Content.{breaks, identifierBody, identifierAt, integerBody, andDigit, integerValue, integerAt, IntegerAt};
+ghost use Rattle.der.specs.Element.{wholeOf, noByteLeft, tagAt, finishAt, within, oneOctet};
+ghost use Rattle.der.specs.Element.{twoOctets, extentAt, elementAt, expectAt};
+ghost use Rattle.der.specs.Content.{breaks, identifierBody, identifierAt, integerBody};
+ghost use Rattle.der.specs.Content.{andDigit, integerValue, integerAt, IntegerAt};
 ghost use Rattle.der.specs.Opaque.{opaqueAt, elementsAt};
 ghost use Rattle.der.specs.Report.{elementReport, checkedReport, integerReport};
 ghost use Rattle.der.specs.Span.{Bytes};
 
-// The numbers of the refusals.
+// The numbers of the refusals (Rules 5.1 to 5.6 and 5.8).
 pub const MISSING: u8 = 1;
 
 pub const OVERRUN: u8 = 1;
@@ -28,27 +31,34 @@ pub const LEFT_OVER: u8 = 6;
 
 pub const TOO_MANY: u8 = 8;
 
-// Stands for a tag where there is none.
-pub const NO_TAG: u8 = 0;
+// In place of a tag where there is none: 00 is no tag (Rule 2.2).
+pub const NO_TAG: u8 = 0x00;
 
-// The tags of the elements whose bodies are read here.
-pub const INTEGER: u8 = 2;
+// The tags of the elements whose bodies are read here (Rules 2.8 to 2.10).
+pub const INTEGER: u8 = 0x02;
 
-pub const OCTET_STRING: u8 = 4;
+pub const OCTET_STRING: u8 = 0x04;
 
-pub const OBJECT_IDENTIFIER: u8 = 6;
+pub const OBJECT_IDENTIFIER: u8 = 0x06;
 
-// The levels of an opaque element.
+// The tags of elements that hold others.
+pub const SEQUENCE: u8 = 0x30;
+
+pub const SET: u8 = 0x31;
+
+pub const CONTEXT_0: u8 = 0xA0;
+
+// The levels of an opaque element (Rule 2.7).
 pub const OPAQUE_LEVELS: u8 = 16;
 
-// The first fault: its number, and its offset in the file (the scope's place).
+// The first fault: its number, and its offset in the file.
 pub struct Fault {
     pub number: u8,
     pub offset: usize,
 }
 
-// A place in the file: the next byte of a parent's body, and that body's end. A cursor that ends past the bytes, or before its own
-// position, has no byte left.
+// A place in the file: the next byte of a parent's body, and that body's end. A cursor that ends
+// past the bytes, or before its own position, has no byte left.
 pub struct Cursor {
     pub at: usize,
     pub end: usize,
@@ -60,7 +70,7 @@ pub enum Element {
     Refused(Fault),
 }
 
-// What a check went through: the number of elements (the scope's opened count), and the cursor past them.
+// What a check went through: the number of elements, and the cursor past them.
 pub enum Checked {
     Passed { count: usize, next: Cursor },
     Refused(Fault),
@@ -109,7 +119,7 @@ fn one_octet(s: &[u8], at: usize, end: usize) -> Extent
         });
     }
     let size = s[third];
-    if size < 128 {
+    if size < 0x80 {
         return Extent::Refused(Fault {
             number: LENGTH_FORM,
             offset: at,
@@ -161,15 +171,15 @@ fn body_of(s: &[u8], at: usize, end: usize) -> Extent
         });
     }
     let first = s[second];
-    if first < 128 {
+    if first < 0x80 {
         let start = at + 2;
         let size = first as usize;
         return within(at, start, size, end);
     }
-    if first == 129 {
+    if first == 0x81 {
         return one_octet(s, at, end);
     }
-    if first == 130 {
+    if first == 0x82 {
         return two_octets(s, at, end);
     }
     Extent::Refused(Fault {
@@ -183,7 +193,7 @@ fn breaks(begins: bool, b: u8) -> bool
     ensures { λ r. ⌜ r ≡ breaks begins b ⌝ }
 {
     if begins {
-        return b == 128;
+        return b == 0x80;
     }
     false
 }
@@ -203,7 +213,7 @@ fn is_identifier(s: &[u8], from: usize, to: usize) -> bool
         if breaks(begins, b) {
             return false;
         }
-        begins = b < 128;
+        begins = b < 0x80;
         i += 1;
     }
     begins
@@ -231,7 +241,7 @@ fn is_integer(s: &[u8], body: Cursor) -> bool
         return false;
     }
     let first = s[at];
-    if 128 <= first {
+    if 0x80 <= first {
         return false;
     }
     let second = at + 1;
@@ -239,7 +249,7 @@ fn is_integer(s: &[u8], body: Cursor) -> bool
         return true;
     }
     if first == 0 {
-        return 128 <= s[second];
+        return 0x80 <= s[second];
     }
     true
 }
@@ -348,7 +358,7 @@ impl Cursor {
                 offset: at,
             });
         }
-        if tag % 32 == 31 {
+        if tag % 0x20 == 0x1F {
             return Element::Refused(Fault {
                 number: TAG_FORM,
                 offset: at,
@@ -460,7 +470,7 @@ impl Cursor {
                         offset: at,
                     });
                 }
-                if tag / 32 % 2 == 0 {
+                if tag / 0x20 % 2 == 0 {
                     return Checked::Passed { count: 1, next };
                 }
                 let below = level - 1;

@@ -1,4 +1,5 @@
--- What the calls over a table answer: the identity row of a bag, and the rows of all bags in a caller's rows.
+-- What the calls over a table answer: the identity row of a bag, and the rows of all bags in a
+-- caller's rows.
 use mathlib.Core.Logic.{_↔_}
 use mathlib.Core.Path.{_≡_, refl, sym, _∙_, ap}
 use mathlib.Core.List.{List, _++_}
@@ -10,11 +11,12 @@ use Rattle.der.specs.Element.{fault}
 use Rattle.der.specs.Span.{Bytes}
 use Rattle.der.specs.declared.Fault.{Fault}
 use Rattle.der.proofs.Choices.{by-lt}
-use Rattle.pkcs12.specs.Numbers.{bagRows, noRoom, notSound, noRow}
+use Rattle.pkcs12.specs.Numbers.{bagRows, noRow}
+use Rattle.buffer.specs.Numbers.{shortBuffer, notSound}
 use Rattle.pkcs12.specs.Sound.{Sound}
-use Rattle.pkcs12.specs.declared.Table.{Table}
-use Rattle.pkcs12.specs.declared.Written.{Written}
-use Rattle.pkcs12.specs.declared.Written.the-variants.{Length}
+use Rattle.pkcs12.specs.declared.table.Table.{Table}
+use Rattle.buffer.specs.declared.Written.{Written}
+use Rattle.buffer.specs.declared.Written.the-variants.{Length}
 use Rattle.attributes.specs.Reader.{openingOf, refusedBy}
 use Rattle.attributes.specs.declared.Position.{Position}
 use Rattle.pairing.specs.declared.IdentityRow.{IdentityRow}
@@ -40,27 +42,35 @@ module _ (t : Table) (s : List ℕ) (n : ℕ) (b : Bytes s) where
   unfolding identityAt openingOf refusedBy
   by-identity P p q r =
       by-file (λ (u : Position). P (onOpening (u .item) Identity.Refused (Identity.Row (identityOf t s n)))) t s b _ _ p
-      (λ o f. by-lt (λ (u : Position). P (onOpening (u .item) Identity.Refused (Identity.Row (identityOf t s n)))) _ _ n (t .«bag_count») (r o) (q o))
+      (λ o f. by-lt (λ (u : Position). P (onOpening (u .item) Identity.Refused (Identity.Row (identityOf t s n)))) _ _ n
+      (t .«bag_count») (r o) (q o))
 
-  pub identity-iff : (r : IdentityRow) → identityAt t s n ≡ Identity.Row r ↔ (Sound t s × (n < t .«bag_count») × (identityOf t s n ≡ r))
+  pub identity-iff : (r : IdentityRow)
+      → identityAt t s n ≡ Identity.Row r ↔ (Sound t s × (n < t .«bag_count») × (identityOf t s n ≡ r))
   identity-iff r = (
-    by-identity (λ x. x ≡ Identity.Row r → Sound t s × (n < t .«bag_count») × (identityOf t s n ≡ r)) (λ h e. absurd (omega (arith, ap identityCode e)))
+    by-identity (λ x. x ≡ Identity.Row r → Sound t s × (n < t .«bag_count») × (identityOf t s n ≡ r))
+        (λ h e. absurd (omega (arith, ap identityCode e)))
         (λ o h e. absurd (omega (arith, ap identityCode e))) (λ o h e. (o, h, cc)),
-    λ p. by-identity (λ x. x ≡ Identity.Row r) (λ h. absurd (h (p .0))) (λ o h. absurd (omega (arith, p .1))) (λ o h. rw (p .2)),
+    λ p. by-identity (λ x. x ≡ Identity.Row r) (λ h. absurd (h (p .0)))
+        (λ o h. absurd (omega (arith, p .1))) (λ o h. rw (p .2)),
   )
 
   pub identity-11 : identityAt t s n ≡ Identity.Refused (fault notSound 0) ↔ (Sound t s → ⊥)
   identity-11 = (
-    by-identity (λ x. x ≡ Identity.Refused (fault notSound 0) → Sound t s → ⊥) (λ h e. h) (λ o h e. absurd (omega (arith, ap identityCode e)))
+    by-identity (λ x. x ≡ Identity.Refused (fault notSound 0) → Sound t s → ⊥) (λ h e. h)
+        (λ o h e. absurd (omega (arith, ap identityCode e)))
         (λ o h e. absurd (omega (arith, ap identityCode e))),
-    λ k. by-identity (λ x. x ≡ Identity.Refused (fault notSound 0)) (λ h. refl) (λ o h. absurd (k o)) (λ o h. absurd (k o)),
+    λ k. by-identity (λ x. x ≡ Identity.Refused (fault notSound 0)) (λ h. refl)
+        (λ o h. absurd (k o)) (λ o h. absurd (k o)),
   )
 
   pub identity-12 : identityAt t s n ≡ Identity.Refused (fault noRow 0) ↔ (Sound t s × (t .«bag_count» ≤ n))
   identity-12 = (
-    by-identity (λ x. x ≡ Identity.Refused (fault noRow 0) → Sound t s × (t .«bag_count» ≤ n)) (λ h e. absurd (omega (arith, ap identityCode e)))
+    by-identity (λ x. x ≡ Identity.Refused (fault noRow 0) → Sound t s × (t .«bag_count» ≤ n))
+        (λ h e. absurd (omega (arith, ap identityCode e)))
         (λ o h e. (o, h)) (λ o h e. absurd (omega (arith, ap identityCode e))),
-    λ k. by-identity (λ x. x ≡ Identity.Refused (fault noRow 0)) (λ h. absurd (h (k .0))) (λ o h. refl) (λ o h. absurd (omega (arith, k .1))),
+    λ k. by-identity (λ x. x ≡ Identity.Refused (fault noRow 0)) (λ h. absurd (h (k .0))) (λ o h. refl)
+        (λ o h. absurd (omega (arith, k .1))),
   )
 
 -- ---- filling a caller's rows
@@ -78,33 +88,39 @@ module _ (t : Table) (s : List ℕ) (out : List IdentityRow) where
   module _ (b : Bytes s) where
     by-filled : (P : Written → Type 0)
         → ((Sound t s → ⊥) → P (Written.Refused (fault notSound 0)))
-        → (Sound t s → length out < t .«bag_count» → P (Written.Refused (fault noRoom 0)))
+        → (Sound t s → length out < t .«bag_count» → P (Written.Refused (fault shortBuffer 0)))
         → (Sound t s → t .«bag_count» ≤ length out → P (Length (t .«bag_count»)))
         → P (fillOf t s out .answer)
     unfolding fillOf
     by-filled P p q r =
         by-file (λ (u : Filled). P (u .answer)) t s b _ _ p
-        (λ o f. by-lt (λ (u : Filled). P (u .answer)) _ _ (length out) (t .«bag_count») (q o) (λ h. rw (all-rows (o .bag-count)) (r o h)))
+        (λ o f. by-lt (λ (u : Filled). P (u .answer)) _ _ (length out) (t .«bag_count») (q o)
+        (λ h. rw (all-rows (o .bag-count)) (r o h)))
 
-    pub filled-iff : (n : ℕ) → fillOf t s out .answer ≡ Length n ↔ (Sound t s × (t .«bag_count» ≤ length out) × (t .«bag_count» ≡ n))
+    pub filled-iff : (n : ℕ)
+        → fillOf t s out .answer ≡ Length n ↔ (Sound t s × (t .«bag_count» ≤ length out) × (t .«bag_count» ≡ n))
     filled-iff n = (
-      by-filled (λ x. x ≡ Length n → Sound t s × (t .«bag_count» ≤ length out) × (t .«bag_count» ≡ n)) (λ h e. absurd (omega (arith, ap code e)))
+      by-filled (λ x. x ≡ Length n → Sound t s × (t .«bag_count» ≤ length out) × (t .«bag_count» ≡ n))
+          (λ h e. absurd (omega (arith, ap code e)))
           (λ o h e. absurd (omega (arith, ap code e))) (λ o h e. (o, h, cc)),
-      λ p. by-filled (λ x. x ≡ Length n) (λ h. absurd (h (p .0))) (λ o h. absurd (omega (arith, p .1))) (λ o h. rw (p .2)),
+      λ p. by-filled (λ x. x ≡ Length n) (λ h. absurd (h (p .0)))
+          (λ o h. absurd (omega (arith, p .1))) (λ o h. rw (p .2)),
     )
 
     pub filled-11 : fillOf t s out .answer ≡ Written.Refused (fault notSound 0) ↔ (Sound t s → ⊥)
     filled-11 = (
-      by-filled (λ x. x ≡ Written.Refused (fault notSound 0) → Sound t s → ⊥) (λ h e. h) (λ o h e. absurd (omega (arith, ap code e)))
+      by-filled (λ x. x ≡ Written.Refused (fault notSound 0) → Sound t s → ⊥) (λ h e. h)
+          (λ o h e. absurd (omega (arith, ap code e)))
           (λ o h e. absurd (omega (arith, ap code e))),
-      λ k. by-filled (λ x. x ≡ Written.Refused (fault notSound 0)) (λ h. refl) (λ o h. absurd (k o)) (λ o h. absurd (k o)),
+      λ k. by-filled (λ x. x ≡ Written.Refused (fault notSound 0)) (λ h. refl)
+          (λ o h. absurd (k o)) (λ o h. absurd (k o)),
     )
 
-    pub filled-10 : fillOf t s out .answer ≡ Written.Refused (fault noRoom 0) ↔ (Sound t s × (length out < t .«bag_count»))
+    pub filled-10 : fillOf t s out .answer ≡ Written.Refused (fault shortBuffer 0) ↔ (Sound t s × (length out < t .«bag_count»))
     filled-10 = (
-      by-filled (λ x. x ≡ Written.Refused (fault noRoom 0) → Sound t s × (length out < t .«bag_count»)) (λ h e. absurd (omega (arith, ap code e)))
+      by-filled (λ x. x ≡ Written.Refused (fault shortBuffer 0) → Sound t s × (length out < t .«bag_count»)) (λ h e. absurd (omega (arith, ap code e)))
           (λ o h e. (o, h)) (λ o h e. absurd (omega (arith, ap code e))),
-      λ k. by-filled (λ x. x ≡ Written.Refused (fault noRoom 0)) (λ h. absurd (h (k .0))) (λ o h. refl) (λ o h. absurd (omega (arith, k .1))),
+      λ k. by-filled (λ x. x ≡ Written.Refused (fault shortBuffer 0)) (λ h. absurd (h (k .0))) (λ o h. refl) (λ o h. absurd (omega (arith, k .1))),
     )
 
   pub refused-out : (f : Fault) → fillOf t s out .answer ≡ Written.Refused f → fillOf t s out .rows ≡ out
@@ -112,17 +128,21 @@ module _ (t : Table) (s : List ℕ) (out : List IdentityRow) where
       by-filling t s out (λ p q. q .answer ≡ Written.Refused f → q .rows ≡ out) (λ n e. refl)
       (λ h k e. let z : _≡_ {A = ℕ} 0 1 = cc in absurd (omega arith))
 
-  pub filled-row : (n : ℕ) → fillOf t s out .answer ≡ Length n → (i : ℕ) (d : IdentityRow) → i < n → getD (fillOf t s out .rows) i d ≡ identityOf t s i
+  pub filled-row : (n : ℕ) → fillOf t s out .answer ≡ Length n → (i : ℕ) (d : IdentityRow) → i < n
+      → getD (fillOf t s out .rows) i d ≡ identityOf t s i
   filled-row n =
-      by-filling t s out (λ p q. q .answer ≡ Length n → (i : ℕ) (d : IdentityRow) → i < n → getD (q .rows) i d ≡ identityOf t s i)
+      by-filling t s out
+      (λ p q. q .answer ≡ Length n → (i : ℕ) (d : IdentityRow) → i < n → getD (q .rows) i d ≡ identityOf t s i)
       (λ m e. let z : _≡_ {A = ℕ} 0 1 = cc in absurd (omega arith))
       (λ h k e i d l.
       let z : length (identitiesOf t s) ≡ n = cc in
       List·getD-append (identitiesOf t s) _ d i (omega arith)
-      ∙ first-at (identityOf t s) (min (t .«bag_count») bagRows) i d (omega (arith, first-length (identityOf t s) (min (t .«bag_count») bagRows))))
+      ∙ first-at (identityOf t s) (min (t .«bag_count») bagRows) i d
+      (omega (arith, first-length (identityOf t s) (min (t .«bag_count») bagRows))))
 
   -- what stands behind the rows in front is what stood there
-  behind : (xs : List IdentityRow) (i : ℕ) (d : IdentityRow) → length xs ≤ i → getD (xs ++ drop (length xs) out) i d ≡ getD out i d
+  behind : (xs : List IdentityRow) (i : ℕ) (d : IdentityRow) → length xs ≤ i
+      → getD (xs ++ drop (length xs) out) i d ≡ getD out i d
   behind xs i d h =
       let e : i ≡ length xs + (i - length xs) = omega arith in
       ap (λ (j : ℕ). getD (xs ++ drop (length xs) out) j d) e
@@ -130,9 +150,11 @@ module _ (t : Table) (s : List ℕ) (out : List IdentityRow) where
       ∙ getD-drop (length xs) out (i - length xs) d
       ∙ ap (λ (j : ℕ). getD out j d) (sym e)
 
-  pub filled-behind : (n : ℕ) → fillOf t s out .answer ≡ Length n → (i : ℕ) (d : IdentityRow) → n ≤ i → getD (fillOf t s out .rows) i d ≡ getD out i d
+  pub filled-behind : (n : ℕ) → fillOf t s out .answer ≡ Length n → (i : ℕ) (d : IdentityRow) → n ≤ i
+      → getD (fillOf t s out .rows) i d ≡ getD out i d
   filled-behind n =
-      by-filling t s out (λ p q. q .answer ≡ Length n → (i : ℕ) (d : IdentityRow) → n ≤ i → getD (q .rows) i d ≡ getD out i d)
+      by-filling t s out
+      (λ p q. q .answer ≡ Length n → (i : ℕ) (d : IdentityRow) → n ≤ i → getD (q .rows) i d ≡ getD out i d)
       (λ m e. let z : _≡_ {A = ℕ} 0 1 = cc in absurd (omega arith))
       (λ h k e i d l.
       let z : length (identitiesOf t s) ≡ n = cc in

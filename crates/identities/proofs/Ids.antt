@@ -1,4 +1,5 @@
--- The id of a bag is that of its first localKeyID attribute in the table's reading, and lies in the bytes.
+-- The id of a bag is that of its first localKeyID attribute in the table's reading, and lies in the
+-- bytes.
 use mathlib.Core.Bool.{Bool, true, false}
 use mathlib.Core.Logic.{_↔_}
 use mathlib.Core.Path.{_≡_, refl, sym, _∙_, ap}
@@ -11,7 +12,7 @@ use borrow.Author.Tests.{lt-ltb, le-ltb, le-leb}
 use lib.Dec.{ltb, leb}
 use lib.ListN.{length, getD, length-take}
 use lib.Seq.{getD-take}
-use Rattle.der.specs.Choice.{if_then_else_}
+use Rattle.der.specs.Choice.{if_then_else_, both}
 use Rattle.der.specs.Numbers.{octetStringTag, lengthBound}
 use Rattle.der.specs.Octets.{tlv}
 use Rattle.der.specs.Element.{cursor, expectAt, onElement}
@@ -25,14 +26,14 @@ use Rattle.der.proofs.Header.{header-then}
 use Rattle.der.proofs.Laws.{header-iff, header-bounds, expect-iff, element-unique, run-unique}
 use Rattle.der.proofs.Spans.{span-slice, slice-span, span-to}
 use Rattle.pkcs12.specs.Syntax.{Attribute}
-use Rattle.pkcs12.specs.Identifiers.{sameBytes}
+use Rattle.buffer.specs.Bytes.{sameBytes}
 use Rattle.pkcs12.specs.Valid.{Opaques}
-use Rattle.pkcs12.specs.Table.{range, bytesIn, noAttribute}
-use Rattle.pkcs12.specs.Checks.{both}
+use Rattle.buffer.specs.Range.{range, bytesIn}
+use Rattle.pkcs12.specs.Table.{noAttribute}
 use Rattle.pkcs12.specs.Sound.{Lies, Sound}
-use Rattle.pkcs12.specs.declared.Range.{Range}
-use Rattle.pkcs12.specs.declared.AttributeRow.{AttributeRow}
-use Rattle.pkcs12.specs.declared.Table.{Table}
+use Rattle.buffer.specs.declared.Range.{Range}
+use Rattle.pkcs12.specs.declared.row.AttributeRow.{AttributeRow}
+use Rattle.pkcs12.specs.declared.table.Table.{Table}
 use Rattle.attributes.specs.Reader.{firstFrom, names}
 use Rattle.attributes.specs.Own.{ownRows, setInSafes, listed, attributesOf}
 use Rattle.attributes.proofs.Shown.{shown-set}
@@ -52,7 +53,8 @@ shift-choice false at a b e = e
 first-shift : {A : Type 0} (test : A → Bool) (xs : List A) (at : ℕ) → firstFrom test xs at ≡ at + firstFrom test xs 0
 unfolding firstFrom
 first-shift test [] at = omega arith
-first-shift test (x ∷ xs) at = shift-choice (test x) at _ _ (omega (arith, first-shift test xs (at + 1), first-shift test xs 1))
+first-shift test (x ∷ xs) at =
+    shift-choice (test x) at _ _ (omega (arith, first-shift test xs (at + 1), first-shift test xs 1))
 
 -- the values of row j, if there is one
 abbrev valuesAt : List ℕ → List AttributeRow → ℕ → Option (List ℕ)
@@ -61,40 +63,50 @@ valuesAt s rs j = if ltb j (length rs) then some (bytesIn s (getD rs j noAttribu
 module _ (s : List ℕ) (n : ℕ) where
   values-past : (r : AttributeRow) (rs : List AttributeRow) (j : ℕ) → valuesAt s rs j ≡ valuesAt s (r ∷ rs) (suc j)
   values-past r rs j =
-      by-lt (λ v. v ≡ valuesAt s (r ∷ rs) (suc j)) _ _ j (length rs) (λ h. rw (lt-ltb (suc j) (suc (length rs)) (omega arith)))
+      by-lt (λ v. v ≡ valuesAt s (r ∷ rs) (suc j)) _ _ j (length rs)
+      (λ h. rw (lt-ltb (suc j) (suc (length rs)) (omega arith)))
       (λ h. rw (le-ltb (suc j) (suc (length rs)) (omega arith)))
 
-  next-row : (r : AttributeRow) (rs : List AttributeRow) → valuesAt s rs (firstFrom (isLocalKey s n) rs 0) ≡ valuesAt s (r ∷ rs) (firstFrom (isLocalKey s n) rs 1)
+  next-row : (r : AttributeRow) (rs : List AttributeRow)
+      → valuesAt s rs (firstFrom (isLocalKey s n) rs 0) ≡ valuesAt s (r ∷ rs) (firstFrom (isLocalKey s n) rs 1)
   next-row r rs =
-      let e : firstFrom (isLocalKey s n) rs 1 ≡ suc (firstFrom (isLocalKey s n) rs 0) = omega (arith, first-shift (isLocalKey s n) rs 1) in
+      let e : firstFrom (isLocalKey s n) rs 1 ≡ suc (firstFrom (isLocalKey s n) rs 0) =
+      omega (arith, first-shift (isLocalKey s n) rs 1) in
       rw e (values-past r rs (firstFrom (isLocalKey s n) rs 0))
 
   -- one row more: whether it names the bag, and whether it is a localKeyID
-  key-step : (u v : Bool) (r : AttributeRow) (rs : List AttributeRow) → sameBytes (bytesIn s (r .identifier)) localKeyType ≡ v
+  key-step : (u v : Bool) (r : AttributeRow) (rs : List AttributeRow)
+      → sameBytes (bytesIn s (r .identifier)) localKeyType ≡ v
       → firstKeyId (map (shownBy s) (ownRows n rs)) ≡ valuesAt s rs (firstFrom (isLocalKey s n) rs 0)
-      → firstKeyId (map (shownBy s) (if u then r ∷ ownRows n rs else ownRows n rs)) ≡ valuesAt s (r ∷ rs) (if both u v then 0 else firstFrom (isLocalKey s n) rs 1)
+      → firstKeyId (map (shownBy s) (if u then r ∷ ownRows n rs else ownRows n rs))
+      ≡ valuesAt s (r ∷ rs) (if both u v then 0 else firstFrom (isLocalKey s n) rs 1)
   unfolding firstKeyId
   key-step true true r rs e h = rw (e, lt-ltb 0 (suc (length rs)) (omega arith))
   key-step true false r rs e h = rw e (h ∙ next-row r rs)
   key-step false v r rs e h = h ∙ next-row r rs
 
-  first-key : (rs : List AttributeRow) → firstKeyId (map (shownBy s) (ownRows n rs)) ≡ valuesAt s rs (firstFrom (isLocalKey s n) rs 0)
+  first-key : (rs : List AttributeRow)
+      → firstKeyId (map (shownBy s) (ownRows n rs)) ≡ valuesAt s rs (firstFrom (isLocalKey s n) rs 0)
   unfolding firstKeyId ownRows firstFrom isLocalKey
   first-key [] = refl
-  first-key (r ∷ rs) = key-step (names n r) (sameBytes (bytesIn s (r .identifier)) localKeyType) r rs refl (first-key rs)
+  first-key (r ∷ rs) = key-step (names n r)
+      (sameBytes (bytesIn s (r .identifier)) localKeyType) r rs refl (first-key rs)
 
 -- ---- the id in an attribute's values
 
--- what holds of no id, and of the body that is found where nothing is left behind it, holds of the id
+-- what holds of no id, and of the body that is found where nothing is left behind it, holds of the
+-- id
 by-found : (P : Id → Type 0) (s : List ℕ) (r : Range)
     → P noId
-    → ((b n : Cursor) → expectAt octetStringTag s (cursor (r .start) (r .end)) ≡ Found octetStringTag b n → n .end ≤ n .at → P (anId true (range (b .at) (b .end))))
+    → ((b n : Cursor) → expectAt octetStringTag s (cursor (r .start) (r .end)) ≡ Found octetStringTag b n
+    → n .end ≤ n .at → P (anId true (range (b .at) (b .end))))
     → P (idIn s r)
 unfolding idIn
 by-found P s r bad good = go (expectAt octetStringTag s (cursor (r .start) (r .end))) refl
   where
     go : (w : Element) → expectAt octetStringTag s (cursor (r .start) (r .end)) ≡ w
-        → P (onElement w (λ f. noId) (λ t b n. if leb (n .end) (n .at) then anId true (range (b .at) (b .end)) else noId))
+        → P
+        (onElement w (λ f. noId) (λ t b n. if leb (n .end) (n .at) then anId true (range (b .at) (b .end)) else noId))
     go (Element.Refused f) e = bad
     go (Found t b n) e =
         let q : t ≡ octetStringTag = expect-iff octetStringTag s (cursor (r .start) (r .end)) t b n .0 e .0 in
@@ -105,7 +117,8 @@ pub id-in-lies : (s : List ℕ) (r : Range) → idIn s r .present ≡ true → L
 id-in-lies s r =
     by-found (λ i. i .present ≡ true → Lies s (i .range)) s r (λ q. never q)
     (λ b n e h q.
-    let p = header-bounds s (cursor (r .start) (r .end)) octetStringTag b n (expect-iff octetStringTag s (cursor (r .start) (r .end)) octetStringTag b n .0 e .1) in
+    let p = header-bounds s (cursor (r .start) (r .end)) octetStringTag b n
+    (expect-iff octetStringTag s (cursor (r .start) (r .end)) octetStringTag b n .0 e .1) in
     record { order = omega arith; inside = omega arith })
 
 module _ (s : List ℕ) (r : Range) (bytes : Bytes s) where
@@ -113,27 +126,34 @@ module _ (s : List ℕ) (r : Range) (bytes : Bytes s) where
   id-sound x =
       by-found (λ i. Holds s i x → bytesIn s r ≡ tlv octetStringTag x) s r (λ q. never (q .0))
       (λ b n e h q.
-      let p = header-iff s (cursor (r .start) (r .end)) octetStringTag b n bytes .0 (expect-iff octetStringTag s (cursor (r .start) (r .end)) octetStringTag b n .0 e .1) in
+      let p = header-iff s (cursor (r .start) (r .end)) octetStringTag b n bytes .0
+      (expect-iff octetStringTag s (cursor (r .start) (r .end)) octetStringTag b n .0 e .1) in
       let z : n ≡ cursor (b .end) (r .end) = p .moved .next in
       let k : b .end ≡ r .end = omega (arith, p .moved .within, rw z at h) in
       rw (← (q .1)) (slice-span s (r .start) (r .end) _ (span-to s (r .start) (b .end) (r .end) _ k (p .whole))))
 
-  id-complete : (x : List ℕ) → Lies s r → length x < lengthBound → bytesIn s r ≡ tlv octetStringTag x → Holds s (idIn s r) x
+  id-complete : (x : List ℕ) → Lies s r → length x < lengthBound
+      → bytesIn s r ≡ tlv octetStringTag x → Holds s (idIn s r) x
   unfolding idIn
   id-complete x l h e =
-      header-then s (r .start) (r .end) (r .end) octetStringTag x (record { not-zero = λ z. omega arith; low-bits = λ z. omega arith }) h
+      header-then s (r .start) (r .end) (r .end) octetStringTag x
+      (record { not-zero = λ z. omega arith; low-bits = λ z. omega arith }) h
       (rw e at (span-slice s (r .start) (r .end) (l .order) (l .inside))) (omega arith) (l .inside)
       (λ b f p.
-      let g : expectAt octetStringTag s (cursor (r .start) (r .end)) ≡ Found octetStringTag (cursor b (r .end)) (cursor (r .end) (r .end)) =
-      expect-iff octetStringTag s (cursor (r .start) (r .end)) octetStringTag (cursor b (r .end)) (cursor (r .end) (r .end)) .1 (refl, f) in
+      let g : expectAt octetStringTag s (cursor (r .start) (r .end))
+      ≡ Found octetStringTag (cursor b (r .end)) (cursor (r .end) (r .end)) =
+      expect-iff octetStringTag s (cursor (r .start) (r .end)) octetStringTag (cursor b (r .end))
+      (cursor (r .end) (r .end)) .1 (refl, f) in
       rw (g, le-leb (r .end) (r .end) (omega arith)) (refl, slice-span s b (r .end) x p))
 
 -- the body of an opaque element is of a length that is read
 module _ (t : ℕ) (x : List ℕ) where
   tree-short : (y : Tree) (rest : List ℕ) → Formed y → encode y ++ rest ≡ tlv t x → length x < lengthBound
   unfolding encode Formed
-  tree-short (primitive u body) rest f e = omega (arith, f .2, ap length (element-unique u t body x rest [] (e ∙ sym (append-nil (tlv t x))) .1))
-  tree-short (constructed u ys) rest f e = omega (arith, f .2, ap length (element-unique u t (encodes ys) x rest [] (e ∙ sym (append-nil (tlv t x))) .1))
+  tree-short (primitive u body) rest f e =
+      omega (arith, f .2, ap length (element-unique u t body x rest [] (e ∙ sym (append-nil (tlv t x))) .1))
+  tree-short (constructed u ys) rest f e =
+      omega (arith, f .2, ap length (element-unique u t (encodes ys) x rest [] (e ∙ sym (append-nil (tlv t x))) .1))
 
   trees-short : (ys : Trees) → AllFormed ys → encodes ys ≡ tlv t x → length x < lengthBound
   unfolding encode Formed tlv
@@ -141,14 +161,21 @@ module _ (t : ℕ) (x : List ℕ) where
   trees-short (more y ys) f e = tree-short y (encodes ys) (f .0) e
 
 -- the values are one OCTET STRING, by their bytes and by their elements
-pub one-element : (v x : List ℕ) (p : Opaques v) → p .as-trees ≡ more (primitive octetStringTag x) none ↔ v ≡ tlv octetStringTag x
+pub one-element : (v x : List ℕ) (p : Opaques v)
+    → p .as-trees ≡ more (primitive octetStringTag x) none ↔ v ≡ tlv octetStringTag x
 unfolding encode Formed
 one-element v x p = (
   λ e. sym (p .whole) ∙ ap encodes e ∙ append-nil (tlv octetStringTag x),
   λ e.
       let q : encodes (p .as-trees) ≡ tlv octetStringTag x = p .whole ∙ e in
-      run-unique (p .as-trees) (more (primitive octetStringTag x) none) (p .formed)
-      ((record { not-zero = λ z. omega arith; low-bits = λ z. omega arith }, refl, trees-short octetStringTag x (p .as-trees) (p .formed) q), tt)
+      run-unique (p .as-trees) (more (primitive octetStringTag x) none) (p .formed) (
+        (
+          record { not-zero = λ z. omega arith; low-bits = λ z. omega arith },
+          refl,
+          trees-short octetStringTag x (p .as-trees) (p .formed) q,
+        ),
+        tt,
+      )
       (q ∙ sym (append-nil (tlv octetStringTag x))),
 )
 
@@ -157,7 +184,8 @@ one-element v x p = (
 pub id-lies : (t : Table) (s : List ℕ) (n : ℕ) → idOf t s n .present ≡ true → Lies s (idOf t s n .range)
 unfolding idOf
 id-lies t s n =
-    by-lt (λ (i : Id). i .present ≡ true → Lies s (i .range)) _ _ (keyRow t s n) (length (attributesOf t)) (λ h. id-in-lies s _) (λ h q. never q)
+    by-lt (λ (i : Id). i .present ≡ true → Lies s (i .range)) _ _ (keyRow t s n) (length (attributesOf t))
+    (λ h. id-in-lies s _) (λ h q. never q)
 
 module _ (t : Table) (s : List ℕ) (n : ℕ) (bytes : Bytes s) (o : Sound t s) where
   key-values : firstKeyId (listed (setInSafes n (o .reading .safes))) ≡ valuesAt s (attributesOf t) (keyRow t s n)
@@ -167,13 +195,18 @@ module _ (t : Table) (s : List ℕ) (n : ℕ) (bytes : Bytes s) (o : Sound t s) 
   -- its first localKeyID, in row j
   module _ (j : ℕ) (h : j < length (attributesOf t)) where
     same-row : getD (attributesOf t) j noAttribute ≡ getD (t .attributes) j noAttribute
-    same-row = getD-take (t .«attribute_count») (t .attributes) j noAttribute (omega (arith, length-take (t .«attribute_count») (t .attributes)))
+    same-row = getD-take (t .«attribute_count») (t .attributes) j noAttribute
+        (omega (arith, length-take (t .«attribute_count») (t .attributes)))
 
-    in-row : (x : List ℕ) → Holds s (idIn s (getD (attributesOf t) j noAttribute .values)) x ↔ bytesIn s (getD (attributesOf t) j noAttribute .values) ≡ tlv octetStringTag x
+    in-row : (x : List ℕ) → Holds s (idIn s (getD (attributesOf t) j noAttribute .values)) x
+        ↔ bytesIn s (getD (attributesOf t) j noAttribute .values) ≡ tlv octetStringTag x
     in-row x =
         let r : Range = getD (attributesOf t) j noAttribute .values in
-        let p = attribute-values-hold t s bytes o j h in
-        (id-sound s r bytes x, λ e. id-complete s r bytes x (p .0) (trees-short octetStringTag x (p .1 .as-trees) (p .1 .formed) (p .1 .whole ∙ e)) e)
+        let p = attribute-values-hold t s bytes o j h in (
+          id-sound s r bytes x,
+          λ e. id-complete s r bytes x (p .0)
+              (trees-short octetStringTag x (p .1 .as-trees) (p .1 .formed) (p .1 .whole ∙ e)) e,
+        )
 
   pub id-of-bag : Shows s (idOf t s n) (listed (setInSafes n (o .reading .safes)))
   unfolding idOf
@@ -184,11 +217,16 @@ module _ (t : Table) (s : List ℕ) (n : ℕ) (bytes : Bytes s) (o : Sound t s) 
       (λ h.
       rw (lt-ltb (keyRow t s n) (length (attributesOf t)) h, ← (same-row (keyRow t s n) h))
       (let p = in-row (keyRow t s n) h x in (λ q. ap some (p .0 q), λ e. p .1 (cc))))
-      (λ h. rw (le-ltb (keyRow t s n) (length (attributesOf t)) h) (λ q. never (q .0), λ e. let z : _≡_ {A = ℕ} 0 1 = cc in absurd (omega arith))))
+      (λ h. rw (le-ltb (keyRow t s n) (length (attributesOf t)) h)
+      (λ q. never (q .0), λ e. let z : _≡_ {A = ℕ} 0 1 = cc in absurd (omega arith))))
 
 -- there is no id exactly if the attributes have none
-none-shown : (s : List ℕ) (i : Id) (xs : List Attribute) → Shows s i xs → i .present ≡ false ↔ ((x : List ℕ) → IsId xs x → ⊥)
-none-shown s i xs p = (λ e x q. never (sym e ∙ p x .1 q .0), λ h. go (i .present) (λ e. h (bytesIn s (i .range)) (p (bytesIn s (i .range)) .0 (e, refl))))
+none-shown : (s : List ℕ) (i : Id) (xs : List Attribute) → Shows s i xs
+    → i .present ≡ false ↔ ((x : List ℕ) → IsId xs x → ⊥)
+none-shown s i xs p = (
+  λ e x q. never (sym e ∙ p x .1 q .0),
+  λ h. go (i .present) (λ e. h (bytesIn s (i .range)) (p (bytesIn s (i .range)) .0 (e, refl))),
+)
   where
     go : (u : Bool) → (u ≡ true → ⊥) → u ≡ false
     go true h = absurd (h refl)

@@ -1,4 +1,5 @@
--- What is proved of identity rows: `Theorems` states it. Below: rules for the code, filling, ids by the reading, the answers of the calls.
+-- What is proved of identity rows: `Theorems` states it. Below: rules for the code, filling, ids by
+-- the reading, the answers of the calls.
 pub mod Theorems
 pub mod Rules
 pub mod Fills

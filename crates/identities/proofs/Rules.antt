@@ -1,4 +1,5 @@
--- Rules by which `search` follows the definitions of identity rows as the code's own tests decided them (see der's Choices), and bounds.
+-- Rules by which `search` follows the definitions of identity rows as the code's own tests decided
+-- them (see der's Choices), and bounds.
 use mathlib.Core.Path.{_≡_, refl, sym, _∙_}
 use mathlib.Core.Bool.{Bool, true, false}
 use mathlib.Core.List.{List, [], map}
@@ -14,13 +15,14 @@ use Rattle.der.specs.declared.Element.{Element}
 use Rattle.der.specs.declared.Element.the-variants.{Found}
 use Rattle.der.proofs.Placed.{expected, found}
 use Rattle.der.proofs.Choices.{at-lt, at-not-lt}
-use Rattle.pkcs12.specs.Numbers.{notSound, noRoom}
-use Rattle.pkcs12.specs.declared.Written.the-variants.{Length}
-use Rattle.pkcs12.specs.Identifiers.{sameBytes}
-use Rattle.pkcs12.specs.Table.{bytesIn, range, noAttribute}
-use Rattle.pkcs12.specs.declared.Range.{Range}
-use Rattle.pkcs12.specs.declared.AttributeRow.{AttributeRow}
-use Rattle.pkcs12.specs.declared.Table.{Table}
+use Rattle.buffer.specs.Numbers.{notSound, shortBuffer}
+use Rattle.buffer.specs.declared.Written.the-variants.{Length}
+use Rattle.buffer.specs.Bytes.{sameBytes}
+use Rattle.buffer.specs.Range.{bytesIn, range}
+use Rattle.pkcs12.specs.Table.{noAttribute}
+use Rattle.buffer.specs.declared.Range.{Range}
+use Rattle.pkcs12.specs.declared.row.AttributeRow.{AttributeRow}
+use Rattle.pkcs12.specs.declared.table.Table.{Table}
 use Rattle.attributes.specs.Reader.{openingOf}
 use Rattle.attributes.specs.declared.Item.{Item}
 use Rattle.attributes.specs.declared.Item.the-variants.{Ready, Done}
@@ -34,14 +36,16 @@ use Rattle.pairing.specs.declared.Paired.{Paired}
 use Rattle.pairing.specs.declared.IdentityRow.{IdentityRow}
 use Rattle.attributes.proofs.First.{counted-length, getD-in, Looking, look-start, look-found, look-on, look-end}
 use Rattle.attributes.specs.Own.{attributesOf}
-use Rattle.identities.specs.Identities.{localKeyType, anId, noId, isLocalKey, keyRow, idIn, idOf, identityOf, identityAt, identityRows, certificateFor}
+use Rattle.identities.specs.Identities.{localKeyType, anId, noId, isLocalKey, keyRow, idIn, idOf}
+use Rattle.identities.specs.Identities.{identityOf, identityAt, identityRows, certificateFor}
 use Rattle.identities.specs.Filling.{fillingAs, refusedFilling, fillingOf}
 use Rattle.identities.specs.declared.Filling.{Filling}
 use Rattle.identities.specs.declared.Id.{Id}
 use Rattle.identities.specs.declared.Identity.{Identity}
 
 -- a body lies within its parent, which ends where a u16 can say
-module _ (due : ℕ) (s : List ℕ) (c : Cursor) (w : Element) (t : ℕ) (b n : Cursor) (e : w ≡ expectAt due s c) (q : w ≡ Found t b n) (h : c .end < 65536) where
+module _ (due : ℕ) (s : List ℕ) (c : Cursor) (w : Element) (t : ℕ) (b n : Cursor) (e : w ≡ expectAt due s c)
+    (q : w ≡ Found t b n) (h : c .end < 65536) where
   pub body-fits : (b .at < 65536) × (b .end < 65536)
   body-fits =
       let p = found s c (elementAt s c) t b n refl (expected due s c w t b n e q .1) in
@@ -64,7 +68,8 @@ module _ (s : List ℕ) (r : Range) (w : Element) (e : w ≡ expectAt octetStrin
 
 -- a localKeyID attribute of the bag: x is the part that the code took
 module _ (s : List ℕ) (bag : ℕ) (r : AttributeRow) where
-  pub local-named : (x : List ℕ) (u : Bool) → r .bag ≡ bag → x ≡ bytesIn s (r .identifier) → u ≡ sameBytes x localKeyType → u ≡ isLocalKey s bag r
+  pub local-named : (x : List ℕ) (u : Bool) → r .bag ≡ bag → x ≡ bytesIn s (r .identifier)
+      → u ≡ sameBytes x localKeyType → u ≡ isLocalKey s bag r
   unfolding isLocalKey
   local-named x u h p e = rw (eq-eqb (r .bag) bag h, ← p) e
 
@@ -72,7 +77,8 @@ module _ (s : List ℕ) (bag : ℕ) (r : AttributeRow) where
   unfolding isLocalKey
   local-other h = rw (ne-eqb (r .bag) bag h)
 
--- Past the end of an array stands what stands for a row that isn't there; k rows, as the code is told of them.
+-- Past the end of an array stands what stands for a row that isn't there; k rows, as the code is
+-- told of them.
 pub past-array : {A : Type 0} (B : Type 0) (f : A → B) (k i : ℕ) (xs : List A) (d : A) → length (map f xs) ≡ k → k ≤ i → d ≡ getD xs i d
 past-array B f k i xs d e h = let l : length (map f xs) ≡ length xs = length-map xs f in sym (List·getD-eq-default xs d {n = i} (omega (arith, e, l, h)))
 
@@ -81,7 +87,8 @@ module _ (t : Table) (s : List ℕ) (bag end : ℕ) where
   abbrev pub Keys : ℕ → Type 0
   Keys i = Looking (isLocalKey s bag) (t .«attribute_count») (t .attributes) 0 end i
 
-  pub keys-start : (B : Type 0) (f : AttributeRow → B) (k : ℕ) → length (map f (t .attributes)) ≡ k → end ≡ min (t .«attribute_count») k → Keys 0
+  pub keys-start : (B : Type 0) (f : AttributeRow → B) (k : ℕ) → length (map f (t .attributes)) ≡ k
+      → end ≡ min (t .«attribute_count») k → Keys 0
   keys-start B f k e g = look-start _ _ _ _ end (counted-length B f k (t .«attribute_count») end (t .attributes) e g)
 
   module _ (i : ℕ) (g : Keys i) where
@@ -98,11 +105,13 @@ module _ (t : Table) (s : List ℕ) (bag end : ℕ) where
     keys-end h = look-end _ _ _ _ end i g h
 
 -- the id of a bag: in its first localKeyID, if it has one
-module _ (t : Table) (s : List ℕ) (bag end i : ℕ) (e : i ≡ keyRow t s bag) (B : Type 0) (f : AttributeRow → B) (k : ℕ) (a : length (map f (t .attributes)) ≡ k) (g : end ≡ min (t .«attribute_count») k) where
+module _ (t : Table) (s : List ℕ) (bag end i : ℕ) (e : i ≡ keyRow t s bag) (B : Type 0) (f : AttributeRow → B) (k : ℕ)
+    (a : length (map f (t .attributes)) ≡ k) (g : end ≡ min (t .«attribute_count») k) where
   counted : end ≡ length (attributesOf t)
   counted = counted-length B f k (t .«attribute_count») end (t .attributes) a g
 
-  pub id-found : (d : AttributeRow) (r : Id) → i < end → r ≡ idIn s (getD (t .attributes) i d .values) → r ≡ idOf t s bag
+  pub id-found : (d : AttributeRow) (r : Id) → i < end
+      → r ≡ idIn s (getD (t .attributes) i d .values) → r ≡ idOf t s bag
   unfolding idOf
   id-found d r h p =
       let m : i < length (attributesOf t) = omega (arith, counted, h) in
@@ -138,16 +147,18 @@ module _ (t : Table) (s : List ℕ) (w : Measured) (e : w ≡ measured t s) wher
   unfolding certificateFor
   certificate-unsound k q = has-no-file t s w _ _ _ e q refl
 
-  pub filling-unsound : (capacity : ℕ) (r : Filling) → w ≡ Unsound → r ≡ refusedFilling notSound → r ≡ fillingOf t s capacity
+  pub filling-unsound : (capacity : ℕ) (r : Filling) → w ≡ Unsound → r ≡ refusedFilling notSound
+      → r ≡ fillingOf t s capacity
   unfolding fillingOf
   filling-unsound capacity r q p = has-no-file t s w r _ _ e q p
 
   module _ (n : ℕ) (q : w ≡ Size n) where
-    pub certificate-paired : (k : ℕ) (rows : List IdentityRow) (r : Paired) → rows ≡ identityRows t s → r ≡ paired s rows k → r ≡ certificateFor t s k
+    pub certificate-paired : (k : ℕ) (rows : List IdentityRow) (r : Paired) → rows ≡ identityRows t s
+        → r ≡ paired s rows k → r ≡ certificateFor t s k
     unfolding certificateFor
     certificate-paired k rows r p g = has-file t s w r _ _ n e q (rw (← p) g)
 
-    pub filling-short : (capacity : ℕ) (r : Filling) → capacity < t .«bag_count» → r ≡ refusedFilling noRoom → r ≡ fillingOf t s capacity
+    pub filling-short : (capacity : ℕ) (r : Filling) → capacity < t .«bag_count» → r ≡ refusedFilling shortBuffer → r ≡ fillingOf t s capacity
     unfolding fillingOf
     filling-short capacity r h p = has-file t s w r _ _ n e q (at-lt capacity (t .«bag_count») r _ _ h p)
 

@@ -1,15 +1,17 @@
--- Storing the identity rows of a table in a caller's rows. The scope doesn't speak of this; 11, 10 and what a refusal leaves are those of the writer.
+-- Storing the identity rows of a table in a caller's rows. No rule is about this; 11, 10 and what a
+-- refusal leaves are those of the writer (Rules 6.8 to 6.10).
 use mathlib.Core.List.{List, _++_}
 use Prim.Native.Nat.{ℕ}
 use lib.Dec.{ltb}
 use lib.ListN.{length, drop, replicate}
 use Rattle.der.specs.Choice.{if_then_else_}
 use Rattle.der.specs.Element.{fault}
-use Rattle.pkcs12.specs.Numbers.{bagRows, noRoom, notSound}
+use Rattle.pkcs12.specs.Numbers.{bagRows}
+use Rattle.buffer.specs.Numbers.{shortBuffer, notSound}
 use Rattle.pkcs12.specs.Written.{fileOf, onFile}
-use Rattle.pkcs12.specs.declared.Table.{Table}
-use Rattle.pkcs12.specs.declared.Written.{Written}
-use Rattle.pkcs12.specs.declared.Written.the-variants.{Length}
+use Rattle.pkcs12.specs.declared.table.Table.{Table}
+use Rattle.buffer.specs.declared.Written.{Written}
+use Rattle.buffer.specs.declared.Written.the-variants.{Length}
 use Rattle.pairing.specs.Pairs.{noIdentity}
 use Rattle.pairing.specs.declared.IdentityRow.{IdentityRow}
 use Rattle.identities.specs.Identities.{identitiesOf, identityRows}
@@ -33,7 +35,7 @@ unfoldable pub fillOf : Table → List ℕ → List IdentityRow → Filled
 fillOf t s out =
     onFile (fileOf t s)
     (refusal notSound out)
-    (λ f. if ltb (length out) (t .«bag_count») then refusal noRoom out else success (identitiesOf t s) out)
+    (λ f. if ltb (length out) (t .«bag_count») then refusal shortBuffer out else success (identitiesOf t s) out)
 
 -- ---- what the private functions compute
 
@@ -47,4 +49,4 @@ unfoldable pub fillingOf : Table → List ℕ → ℕ → Filling
 fillingOf t s capacity =
     onFile (fileOf t s)
     (refusedFilling notSound)
-    (λ f. if ltb capacity (t .«bag_count») then refusedFilling noRoom else fillingAs (Length (t .«bag_count»)) (t .«bag_count») (identityRows t s))
+    (λ f. if ltb capacity (t .«bag_count») then refusedFilling shortBuffer else fillingAs (Length (t .«bag_count»)) (t .«bag_count») (identityRows t s))

@@ -1,21 +1,22 @@
--- The identity rows of a table's bags (scope, "Attributes and pairs").
+-- The identity rows of a table's bags (Rules 7.3, 7.4).
 use mathlib.Core.Bool.{Bool, true, false}
 use mathlib.Core.List.{List, [], _∷_, _++_}
 use Prim.Native.Nat.{ℕ, zero, suc, min}
 use lib.Dec.{leb, ltb}
 use lib.ListN.{length, getD}
-use Rattle.der.specs.Choice.{if_then_else_}
+use Rattle.der.specs.Choice.{if_then_else_, both}
 use Rattle.der.specs.Numbers.{octetStringTag}
 use Rattle.der.specs.Element.{cursor, expectAt, onElement}
 use Rattle.der.specs.declared.Fault.{Fault}
-use Rattle.pkcs12.specs.Numbers.{bagRows, notSound}
-use Rattle.pkcs12.specs.Identifiers.{sameBytes}
-use Rattle.pkcs12.specs.Checks.{both}
-use Rattle.pkcs12.specs.Table.{range, noRange, noBag, noAttribute, padded, bytesIn}
+use Rattle.pkcs12.specs.Numbers.{bagRows}
+use Rattle.buffer.specs.Numbers.{notSound}
+use Rattle.buffer.specs.Bytes.{sameBytes}
+use Rattle.buffer.specs.Range.{range, noRange, bytesIn}
+use Rattle.pkcs12.specs.Table.{noBag, noAttribute, padded}
 use Rattle.pkcs12.specs.Written.{fileOf, onFile}
-use Rattle.pkcs12.specs.declared.Range.{Range}
-use Rattle.pkcs12.specs.declared.AttributeRow.{AttributeRow}
-use Rattle.pkcs12.specs.declared.Table.{Table}
+use Rattle.buffer.specs.declared.Range.{Range}
+use Rattle.pkcs12.specs.declared.row.AttributeRow.{AttributeRow}
+use Rattle.pkcs12.specs.declared.table.Table.{Table}
 use Rattle.attributes.specs.Own.{attributesOf}
 use Rattle.attributes.specs.Reader.{firstFrom, names, openingOf}
 use Rattle.attributes.specs.declared.Item.{Item}
@@ -26,9 +27,9 @@ use Rattle.pairing.specs.declared.Paired.{Paired}
 use Rattle.identities.specs.declared.Id.{Id}
 use Rattle.identities.specs.declared.Identity.{Identity}
 
--- "localKeyID": 2A 86 48 86 F7 0D 01 09 15
+-- Rule 3.23: localKeyID, 2A 86 48 86 F7 0D 01 09 15
 unfoldable pub localKeyType : List ℕ
-localKeyType = 42 ∷ 134 ∷ 72 ∷ 134 ∷ 247 ∷ 13 ∷ 1 ∷ 9 ∷ 21 ∷ []
+localKeyType = 0x2A ∷ 0x86 ∷ 0x48 ∷ 0x86 ∷ 0xF7 ∷ 0x0D ∷ 0x01 ∷ 0x09 ∷ 0x15 ∷ []
 
 abbrev pub anId : Bool → Range → Id
 anId h r = record { present = h; range = r }
@@ -36,7 +37,7 @@ anId h r = record { present = h; range = r }
 abbrev pub noId : Id
 noId = anId false noRange
 
--- a bag's "localKeyID attribute"
+-- an attribute row of a bag that is a localKeyID
 unfoldable pub isLocalKey : List ℕ → ℕ → AttributeRow → Bool
 isLocalKey s bag r = both (names bag r) (sameBytes (bytesIn s (r .identifier)) localKeyType)
 
@@ -44,18 +45,21 @@ isLocalKey s bag r = both (names bag r) (sameBytes (bytesIn s (r .identifier)) l
 unfoldable pub keyRow : Table → List ℕ → ℕ → ℕ
 keyRow t s bag = firstFrom (isLocalKey s bag) (attributesOf t) 0
 
--- "if that holds exactly one element and it is an OCTET STRING; otherwise the bag has none"
+-- Rule 7.4: the id, if the attribute has exactly one element and that is an OCTET STRING; otherwise
+-- none
 unfoldable pub idIn : List ℕ → Range → Id
 idIn s r =
     onElement (expectAt octetStringTag s (cursor (r .start) (r .end)))
     (λ f. noId)
     (λ t b n. if leb (n .end) (n .at) then anId true (range (b .at) (b .end)) else noId)
 
--- "A bag's id comes from its first localKeyID attribute"
+-- Rule 7.4: a bag's id is taken from its first localKeyID attribute
 unfoldable pub idOf : Table → List ℕ → ℕ → Id
-idOf t s bag = if ltb (keyRow t s bag) (length (attributesOf t)) then idIn s (getD (t .attributes) (keyRow t s bag) noAttribute .values) else noId
+idOf t s bag = if ltb (keyRow t s bag) (length (attributesOf t)) then
+    idIn s (getD (t .attributes) (keyRow t s bag) noAttribute .values) else
+    noId
 
--- "kind, whether an id is there, and the id's bytes"
+-- Rule 7.3: the kind, whether there is an id, and the id's bytes
 unfoldable pub identityOf : Table → List ℕ → ℕ → IdentityRow
 identityOf t s bag = identity (getD (t .bags) bag noBag .kind) (idOf t s bag .present) (idOf t s bag .range)
 

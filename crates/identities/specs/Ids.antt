@@ -1,4 +1,4 @@
--- What a bag's id is, by the table's reading (scope, "Attributes and pairs").
+-- What a bag's id is, by the table's reading (Rule 7.4).
 use mathlib.Core.Bool.{true, false}
 use mathlib.Core.Logic.{_↔_, _⊎_}
 use mathlib.Core.Path.{_≡_}
@@ -10,24 +10,25 @@ use lib.ListN.{getD}
 use Rattle.der.specs.Choice.{if_then_else_}
 use Rattle.der.specs.Numbers.{octetStringTag}
 use Rattle.der.specs.Octets.{tlv}
-use Rattle.pkcs12.specs.Identifiers.{sameBytes}
+use Rattle.buffer.specs.Bytes.{sameBytes}
 use Rattle.pkcs12.specs.Syntax.{Attribute, Safe, kindOfLeaf}
 use Rattle.pkcs12.specs.Values.{Content, empty-bag, leaf, nested, BagValue, bagsOfSafes}
-use Rattle.pkcs12.specs.Table.{bytesIn}
-use Rattle.pkcs12.specs.declared.BagKind.{BagKind}
-use Rattle.pkcs12.specs.declared.BagKind.the-variants.{Key, ShroudedKey, Certificate, Nested}
-use Rattle.pkcs12.specs.declared.Enclosing.{Enclosing}
+use Rattle.buffer.specs.Range.{bytesIn}
+use Rattle.pkcs12.specs.declared.kind.BagKind.{BagKind}
+use Rattle.pkcs12.specs.declared.kind.BagKind.the-variants.{Key, ShroudedKey, Certificate, Nested}
+use Rattle.pkcs12.specs.declared.row.Enclosing.{Enclosing}
 use Rattle.attributes.specs.Own.{setInSafes, listed}
 use Rattle.pairing.specs.declared.IdentityRow.{IdentityRow}
 use Rattle.identities.specs.Identities.{localKeyType, anId}
 use Rattle.identities.specs.declared.Id.{Id}
 
--- the values of the "first localKeyID attribute" of a list
+-- the values of the first localKeyID attribute of a list
 unfoldable pub firstKeyId : List Attribute → Option (List ℕ)
 firstKeyId [] = option.none
 firstKeyId (a ∷ xs) = if sameBytes (a .identifier) localKeyType then some (a .values) else firstKeyId xs
 
--- "if that holds exactly one element and it is an OCTET STRING": x, its body, is the id of a bag with these attributes
+-- Rule 7.4: the attribute has exactly one element, an OCTET STRING, and x, its body, is the id of a
+-- bag with these attributes
 abbrev pub IsId : List Attribute → List ℕ → Type 0
 IsId xs x = firstKeyId xs ≡ some (tlv octetStringTag x)
 
@@ -35,7 +36,7 @@ IsId xs x = firstKeyId xs ≡ some (tlv octetStringTag x)
 abbrev pub Holds : List ℕ → Id → List ℕ → Type 0
 Holds s i x = (i .present ≡ true) × (bytesIn s (i .range) ≡ x)
 
--- it is that of these attributes, and there where they have one; "otherwise the bag has none"
+-- it is that of these attributes, and there where they have one; else there is none (Rule 7.4)
 abbrev pub Shows : List ℕ → Id → List Attribute → Type 0
 Shows s i xs = (x : List ℕ) → Holds s i x ↔ IsId xs x
 
@@ -58,11 +59,11 @@ kindOfContent nested = Nested
 abbrev pub kindIn : ℕ → List Safe → BagKind
 kindIn n xs = kindOfContent (getD (bagsOfSafes 0 0 xs) n noBagValue .content)
 
--- "a key row (kinds 01 and 02)": bag k is a key's
+-- Rule 7.5: bag k is a key's, of kind 01 or 02
 abbrev pub KeyBag : List Safe → ℕ → Type 0
 KeyBag xs k = (kindIn k xs ≡ Key) ⊎ (kindIn k xs ≡ ShroudedKey)
 
--- a "certificate row with an equal id": bag j is a certificate's, and its id is that of bag k
+-- Rule 7.5: bag j is a certificate's, and its id is equal to that of bag k
 pub record Certifies (xs : List Safe) (k j : ℕ) : Type 0 where
   pub certificate : kindIn j xs ≡ Certificate
   pub id : List ℕ

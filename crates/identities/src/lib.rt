@@ -2,14 +2,17 @@
 ghost use mathlib.Core.Path.{_≡_};
 ghost use lib.ListN.{getD};
 ghost use Rattle.der.specs.Span.{Bytes};
-ghost use Rattle.pkcs12.specs.Report.{writtenReport};
+ghost use Rattle.buffer.specs.Report.{writtenReport};
 ghost use Rattle.pkcs12.specs.Table.{noBag};
 ghost use Rattle.pairing.specs.Pairs.{noIdentity};
 ghost use Rattle.pairing.specs.Report.{pairedReport};
-ghost use Rattle.identities.specs.Identities.{isLocalKey, keyRow, idIn, idOf, identityOf, identityAt, identityRows, certificateFor};
+ghost use Rattle.identities.specs.Identities.{isLocalKey, keyRow, idIn, idOf, identityOf, identityAt};
+ghost use Rattle.identities.specs.Identities.{identityRows, certificateFor};
 ghost use Rattle.identities.specs.Report.{identityReport};
 ghost use Rattle.identities.specs.Filling.{refusedFilling, fillingOf, fillOf};
 use attributes::Item;
+use buffer::Range;
+use buffer::Written;
 use der::Cursor;
 use der::Element;
 use der::Fault;
@@ -17,9 +20,7 @@ use pairing::IdentityRow;
 use pairing::Paired;
 use pkcs12::AttributeRow;
 use pkcs12::BagKind;
-use pkcs12::Range;
 use pkcs12::Table;
-use pkcs12::Written;
 use sound::Measured;
 
 // The identifier of the attribute that ids are taken from, by its body.
@@ -56,7 +57,7 @@ fn is_local_key(bytes: &[u8], bag: usize, row: AttributeRow) -> bool
     let owner = row.bag as usize;
     if owner == bag {
         let identifier = row.identifier;
-        return pkcs12::same(identifier.part(bytes), &LOCAL_KEY_ID);
+        return buffer::same(identifier.part(bytes), &LOCAL_KEY_ID);
     }
     false
 }
@@ -65,7 +66,7 @@ fn is_local_key(bytes: &[u8], bag: usize, row: AttributeRow) -> bool
 fn key_row(table: Table, bytes: &[u8], bag: usize) -> usize
     ensures { λ r. ⌜ r ≡ keyRow table (now (bytes .entry)) bag ⌝ }
 {
-    let end = pkcs12::fewer(table.attribute_count, pkcs12::ATTRIBUTE_ROWS);
+    let end = buffer::fewer(table.attribute_count, pkcs12::ATTRIBUTE_ROWS);
     let mut i: usize = 0;
     while i < end {
         let row = table.attributes[i];
@@ -108,7 +109,7 @@ fn id_of(table: Table, bytes: &[u8], bag: usize) -> Id
     ensures { λ r. ⌜ r ≡ idOf table (now (bytes .entry)) bag ⌝ }
 {
     let i = key_row(table, bytes, bag);
-    let end = pkcs12::fewer(table.attribute_count, pkcs12::ATTRIBUTE_ROWS);
+    let end = buffer::fewer(table.attribute_count, pkcs12::ATTRIBUTE_ROWS);
     if i < end {
         let row = table.attributes[i];
         let values = row.values;
@@ -162,7 +163,7 @@ pub fn identity_of(table: Table, bytes: &[u8], bag: usize) -> Identity
 fn rows_of(table: Table, bytes: &[u8]) -> [IdentityRow; pkcs12::BAG_ROWS]
     ensures { λ r. ⌜ r ≡ identityRows table (now (bytes .entry)) ⌝ }
 {
-    let end = pkcs12::fewer(table.bag_count, pkcs12::BAG_ROWS);
+    let end = buffer::fewer(table.bag_count, pkcs12::BAG_ROWS);
     let mut rows = [IdentityRow::EMPTY; pkcs12::BAG_ROWS];
     let mut i: usize = 0;
     while i < end {
@@ -180,7 +181,7 @@ pub fn certificate_for(table: Table, bytes: &[u8], key: usize) -> Paired
 {
     match sound::measure(table, bytes) {
         Measured::Unsound => Paired::Refused(Fault {
-            number: pkcs12::NOT_SOUND,
+            number: buffer::NOT_SOUND,
             offset: 0,
         }),
         Measured::Size(_) => {
@@ -206,11 +207,11 @@ fn prepared(table: Table, bytes: &[u8], capacity: usize) -> Filling
     ensures { λ r. ⌜ r ≡ fillingOf table (now (bytes .entry)) capacity ⌝ }
 {
     match sound::measure(table, bytes) {
-        Measured::Unsound => refused(pkcs12::NOT_SOUND),
+        Measured::Unsound => refused(buffer::NOT_SOUND),
         Measured::Size(_) => {
             let count = table.bag_count;
             if capacity < count {
-                return refused(pkcs12::NO_ROOM);
+                return refused(buffer::SHORT_BUFFER);
             }
             let rows = rows_of(table, bytes);
             Filling {

@@ -1,21 +1,24 @@
--- The scope's listing of M, and a line of each kind, computed.
+-- The listing of M (Rule 8.2), and a line of each kind, computed.
 use mathlib.Core.Path.{_≡_, refl, ap}
 use mathlib.Core.Bool.{true, false}
 use mathlib.Core.List.{List}
 use lib.ListN.{length, getD}
 use Rattle.pkcs12.specs.Bench.{accepted, m, quiet, digested, benchCases}
-use Rattle.pkcs12.specs.Table.{range, parts, noRange, noParts, safeRow, bagRow, attributeRow, tableOf}
+use Rattle.buffer.specs.Range.{range, noRange}
+use Rattle.pkcs12.specs.Table.{parts, noParts, safeRow, bagRow, attributeRow, tableOf}
 use Rattle.pkcs12.specs.Walk.{readFile}
-use Rattle.pkcs12.specs.declared.BagKind.the-variants.{Key, ShroudedKey, Certificate, Nested}
-use Rattle.pkcs12.specs.declared.Enclosing.{Enclosing}
-use Rattle.pkcs12.specs.declared.Enclosing.the-variants.{Bag}
-use Rattle.pkcs12.specs.declared.Reading.{Reading}
-use Rattle.pkcs12.specs.declared.SafeKind.the-variants.{Plain, Encrypted}
-use Rattle.pkcs12.specs.declared.Table.{Table}
+use Rattle.pkcs12.specs.declared.kind.BagKind.the-variants.{Key, ShroudedKey, Certificate, Nested}
+use Rattle.pkcs12.specs.declared.row.Enclosing.{Enclosing}
+use Rattle.pkcs12.specs.declared.row.Enclosing.the-variants.{Bag}
+use Rattle.pkcs12.specs.declared.answers.Reading.{Reading}
+use Rattle.pkcs12.specs.declared.kind.SafeKind.the-variants.{Plain, Encrypted}
+use Rattle.pkcs12.specs.declared.table.Table.{Table}
 use Rattle.pkcs12.proofs.Theorems.{bench-table}
-use Rattle.pkcs12.specs.Placed.{each}
-use Rattle.listing.specs.Text.{ascii, digits, decimal}
-use Rattle.listing.specs.Lines.{numberText, rangeText, sealedText, typedText, safeText, safeLine, kindText, enclosingText, partsText, setText, bagStart, bagLine, attributeLine, fileLine, countsLine, macLine, headLines, acceptedLines, answered, listing}
+use Rattle.buffer.specs.Placed.{each}
+use Rattle.buffer.specs.Text.{ascii, digits, decimal}
+use Rattle.listing.specs.Lines.{numberText, rangeText, sealedText, typedText, safeText, safeLine, kindText}
+use Rattle.listing.specs.Lines.{enclosingText, partsText, setText, bagStart, bagLine, attributeLine, fileLine}
+use Rattle.listing.specs.Lines.{countsLine, macLine, headLines, acceptedLines, answered, listing}
 
 tableOfM : Table
 tableOfM = quiet (range 22 24) (digested (range 32 41) (range 41 41) (range 43 44) (range 46 47) 1) 13
@@ -41,7 +44,8 @@ encrypted : safeLine 1 (safeRow Encrypted (parts (range 79 88) (range 88 88) (ra
 unfolding ascii digits decimal numberText rangeText sealedText safeText safeLine
 encrypted = refl
 
-key : bagLine 0 (bagRow Key 0 Enclosing.None (parts noRange noRange (range 532 534)) false) 0 ≡ ascii "bag 0: key, safe 0, in none, key 532..534, no attributes\n"
+key : bagLine 0 (bagRow Key 0 Enclosing.None (parts noRange noRange (range 532 534)) false) 0
+    ≡ ascii "bag 0: key, safe 0, in none, key 532..534, no attributes\n"
 unfolding ascii digits decimal numberText rangeText kindText enclosingText partsText setText bagStart bagLine
 key = refl
 

@@ -1,8 +1,7 @@
--- What is proved of the listing: `Theorems` states it. Below: the algebra of writing, the loops over rows, lengths, digits, the outcomes, and lines computed.
+-- What is proved of the listing: `Theorems` states it. Below: the loop over the attribute rows of
+-- a bag, lengths, and lines computed.
 pub mod Theorems
-pub mod Puts
 pub mod Loops
 pub mod Short
-pub mod Decimal
-pub mod Whole
 pub mod Bench
+pub mod Numbered

@@ -1,37 +1,14 @@
--- The loops over rows: lines one behind another, and the attribute rows of a bag.
+-- The loop over the attribute rows of a bag.
 use mathlib.Core.Path.{_≡_, refl, ap, _∙_}
 use mathlib.Core.Bool.{Bool, true, false}
-use mathlib.Core.List.{List}
 use Prim.Native.Nat.{ℕ, suc, _+_, _≤_, _<_}
 use native.Mathlib.Omega.{arith}
 use lib.Dec.{eqb}
-use lib.ListN.{length, getD}
+use lib.ListN.{getD}
 use Rattle.der.specs.Choice.{if_then_else_}
 use Rattle.pkcs12.specs.Table.{noAttribute}
-use Rattle.pkcs12.specs.declared.Table.{Table}
-use Rattle.pkcs12.specs.Placed.{each}
+use Rattle.pkcs12.specs.declared.table.Table.{Table}
 use Rattle.listing.specs.Lines.{ownAmong}
-use Rattle.listing.specs.Put.{Put}
-use Rattle.listing.proofs.Puts.{put-nothing, _then_}
-
--- i of n lines were written, up to the place r
-pub record Lined (line : ℕ → List ℕ) (d : List ℕ) (at n : ℕ) (e : List ℕ) (r i : ℕ) : Type 0 where
-  pub some : i ≤ n
-  pub put : Put d at (each line i) e r
-  pub long : length e ≡ length d
-
-module _ (line : ℕ → List ℕ) (d : List ℕ) (at n : ℕ) where
-  pub lines-start : Lined line d at n d at 0
-  unfolding each
-  lines-start = record { some = omega arith; put = put-nothing d at; long = refl }
-
-  module _ (e : List ℕ) (r i : ℕ) (g : Lined line d at n e r i) where
-    pub lines-turn : (f : List ℕ) (q : ℕ) → i < n → length f ≡ length e → Put e r (line i) f q → Lined line d at n f q (i + 1)
-    unfolding each
-    lines-turn f q h l w = let s : i + 1 ≡ suc i = omega arith in record { some = omega (arith, h); put = rw s (g .put then w); long = l ∙ g .long }
-
-    pub lines-end : (m : ℕ) → n ≡ m → n ≤ i → Put d at (each line m) e r
-    lines-end m p h = let s : i ≡ m = omega (arith, p, h, g .some) in rw s at (g .put)
 
 -- ---- the attribute rows of a bag
 
@@ -56,7 +33,11 @@ module _ (t : Table) (bag n : ℕ) where
     own-turn one h e =
         let s : i + 1 ≡ suc i = omega arith in
         let a : own + one ≡ ownAmong t bag i + one = ap (λ (x : ℕ). x + one) (g .among) in
-        record { some = omega (arith, h); among = rw s (a ∙ ap (λ (x : ℕ). ownAmong t bag i + x) e); few = omega (arith, one-most (eqb (getD (t .attributes) i noAttribute .bag) bag) one e, g .few) }
+        record {
+          some = omega (arith, h);
+          among = rw s (a ∙ ap (λ (x : ℕ). ownAmong t bag i + x) e);
+          few = omega (arith, one-most (eqb (getD (t .attributes) i noAttribute .bag) bag) one e, g .few);
+        }
 
     pub own-end : (m : ℕ) → n ≡ m → n ≤ i → own ≡ ownAmong t bag m
     own-end m p h = let s : i ≡ m = omega (arith, p, h, g .some) in rw s at (g .among)

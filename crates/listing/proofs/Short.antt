@@ -9,26 +9,31 @@ use lib.ListN.{length, getD, length-append}
 use Rattle.der.specs.Choice.{if_then_else_}
 use Rattle.der.specs.declared.Fault.{Fault}
 use Rattle.pkcs12.specs.Table.{noSafe, noBag, noAttribute}
-use Rattle.pkcs12.specs.declared.Answer.{Answer}
-use Rattle.pkcs12.specs.declared.Answer.the-variants.{Accepted, Refused}
-use Rattle.pkcs12.specs.declared.AttributeRow.{AttributeRow}
-use Rattle.pkcs12.specs.declared.BagKind.{BagKind}
-use Rattle.pkcs12.specs.declared.BagKind.the-variants.{Key, ShroudedKey, Certificate, Crl, Secret, Nested}
-use Rattle.pkcs12.specs.declared.BagRow.{BagRow}
-use Rattle.pkcs12.specs.declared.Enclosing.{Enclosing}
-use Rattle.pkcs12.specs.declared.Enclosing.the-variants.{Bag}
-use Rattle.pkcs12.specs.declared.Mac.{Mac}
-use Rattle.pkcs12.specs.declared.Parts.{Parts}
-use Rattle.pkcs12.specs.declared.Range.{Range}
-use Rattle.pkcs12.specs.declared.Reading.{Reading}
-use Rattle.pkcs12.specs.declared.SafeKind.{SafeKind}
-use Rattle.pkcs12.specs.declared.SafeKind.the-variants.{Plain, Encrypted}
-use Rattle.pkcs12.specs.declared.SafeRow.{SafeRow}
-use Rattle.pkcs12.specs.declared.Table.{Table}
-use Rattle.pkcs12.specs.Placed.{each}
-use Rattle.listing.specs.Text.{ascii, digit, digits, decimal}
-use Rattle.listing.specs.Lines.{numberText, rangeText, sealedText, typedText, safeText, safeLine, kindText, enclosingText, partsText, setText, bagStart, bagLine, attributeLine, safes, bags, attributes, own, safeAt, bagAt, attributeAt, fileLine, countsLine, macLine, headLines, acceptedLines, refusedLine, answered, listing}
-use Rattle.listing.specs.Put.{limit}
+use Rattle.pkcs12.specs.declared.answers.Answer.{Answer}
+use Rattle.pkcs12.specs.declared.answers.Answer.the-variants.{Accepted, Refused}
+use Rattle.pkcs12.specs.declared.row.AttributeRow.{AttributeRow}
+use Rattle.pkcs12.specs.declared.kind.BagKind.{BagKind}
+use Rattle.pkcs12.specs.declared.kind.BagKind.the-variants.{Key, ShroudedKey, Certificate, Crl, Secret, Nested}
+use Rattle.pkcs12.specs.declared.row.BagRow.{BagRow}
+use Rattle.pkcs12.specs.declared.row.Enclosing.{Enclosing}
+use Rattle.pkcs12.specs.declared.row.Enclosing.the-variants.{Bag}
+use Rattle.pkcs12.specs.declared.row.Mac.{Mac}
+use Rattle.pkcs12.specs.declared.row.Parts.{Parts}
+use Rattle.buffer.specs.declared.Range.{Range}
+use Rattle.pkcs12.specs.declared.answers.Reading.{Reading}
+use Rattle.pkcs12.specs.declared.kind.SafeKind.{SafeKind}
+use Rattle.pkcs12.specs.declared.kind.SafeKind.the-variants.{Plain, Encrypted}
+use Rattle.pkcs12.specs.declared.row.SafeRow.{SafeRow}
+use Rattle.pkcs12.specs.declared.table.Table.{Table}
+use Rattle.buffer.specs.Placed.{each}
+use Rattle.buffer.specs.Text.{ascii, digit, digits, decimal}
+use Rattle.listing.specs.Lines.{numberText, rangeText, sealedText, typedText, safeText, safeLine, kindText}
+use Rattle.listing.specs.Lines.{enclosingText, partsText, setText, bagStart, bagLine, attributeLine, safes}
+use Rattle.listing.specs.Lines.{bags, attributes, own, safeRowLine, bagRowLine, attributeRowLine, fileLine}
+use Rattle.listing.specs.Lines.{countsLine}
+use Rattle.listing.specs.Lines.{macLine, headLines, acceptedLines, refusedLine, answered, listing}
+use Rattle.buffer.specs.Placed.{greatest}
+use Rattle.listing.specs.Listed.{listingBytes}
 
 pub record Short (m : ℕ) (x : List ℕ) : Type 0 where
   pub most : length x ≤ m
@@ -64,7 +69,10 @@ range name r = within (length name + 42) (omega arith) (number name (r .start) a
 
 sealed : (p : Parts) → Short 164 (sealedText p)
 unfolding sealedText ascii
-sealed p = within 164 (omega arith) (range (ascii ", algorithm ") (p .identifier) and range (ascii ", parameters ") (p .parameters) and range (ascii ", ciphertext ") (p .value))
+sealed p =
+    within 164 (omega arith)
+    (range (ascii ", algorithm ") (p .identifier) and range (ascii ", parameters ") (p .parameters)
+    and range (ascii ", ciphertext ") (p .value))
 
 typed : (p : Parts) → Short 99 (typedText p)
 unfolding typedText ascii
@@ -128,7 +136,8 @@ attribute-line : (i : ℕ) (r : AttributeRow) → Short 157 (attributeLine i r)
 unfolding attributeLine ascii
 attribute-line i r =
     within 157 (omega arith)
-    (number (ascii "attribute ") i and number (ascii ": bag ") (r .bag) and range (ascii ", type ") (r .identifier) and range (ascii ", values ") (r .values) and word (ascii "\n"))
+    (number (ascii "attribute ") i and number (ascii ": bag ") (r .bag) and range (ascii ", type ") (r .identifier)
+    and range (ascii ", values ") (r .values) and word (ascii "\n"))
 
 file-line : (size elements : ℕ) → Short 62 (fileLine size elements)
 unfolding fileLine ascii
@@ -143,7 +152,8 @@ mac-line : (input : Range) (m : Mac) → Short 186 (macLine input m)
 unfolding macLine ascii
 mac-line input m =
     within 186 (omega arith)
-    (range (ascii "mac input ") input and range (ascii ", digest ") (m .parts .value) and range (ascii ", salt ") (m .salt) and number (ascii ", iterations ") (m .iterations) and word (ascii "\n"))
+    (range (ascii "mac input ") input and range (ascii ", digest ") (m .parts .value)
+    and range (ascii ", salt ") (m .salt) and number (ascii ", iterations ") (m .iterations) and word (ascii "\n"))
 
 pub refused-line : (f : Fault) → Short 53 (refusedLine f)
 unfolding refusedLine ascii
@@ -157,21 +167,25 @@ unfolding each
 lines line m h zero = within (0 * m) (omega arith) (word [])
 lines line m h (suc n) = within (suc n * m) (rw (suc-mul n m) (omega arith)) (lines line m h n and h n)
 
-accepted : (size : ℕ) (t : Table) → Short limit (acceptedLines size t)
+accepted : (size : ℕ) (t : Table) → Short listingBytes (acceptedLines size t)
 unfolding acceptedLines headLines
 accepted size t =
-    within limit (omega arith)
+    within listingBytes (omega arith)
     (file-line size (t .elements) and counts-line (safes t) (bags t) (attributes t) and mac-line (t .«mac_input») (t .mac)
-    and lines (safeAt t) 201 (λ i. safe-line i (getD (t .safes) i noSafe)) (safes t)
-    and lines (bagAt t) 292 (λ i. bag-line i (getD (t .bags) i noBag) (own t i)) (bags t)
-    and lines (attributeAt t) 157 (λ i. attribute-line i (getD (t .attributes) i noAttribute)) (attributes t))
+    and lines (safeRowLine t) 201 (λ i. safe-line i (getD (t .safes) i noSafe)) (safes t)
+    and lines (bagRowLine t) 292 (λ i. bag-line i (getD (t .bags) i noBag) (own t i)) (bags t)
+    and lines (attributeRowLine t) 157 (λ i. attribute-line i (getD (t .attributes) i noAttribute)) (attributes t))
 
-answered-short : (a : Answer) (size : ℕ) (t : Table) → Short limit (answered a size t)
+answered-short : (a : Answer) (size : ℕ) (t : Table) → Short listingBytes (answered a size t)
 unfolding answered
 answered-short Accepted size t = accepted size t
-answered-short (Refused f) size t = within limit (omega arith) (refused-line f)
+answered-short (Refused f) size t = within listingBytes (omega arith) (refused-line f)
 
 -- every listing is within the limit
-pub short : (size : ℕ) (r : Reading) → length (listing size r) ≤ limit
+pub short : (size : ℕ) (r : Reading) → length (listing size r) ≤ listingBytes
 unfolding listing
 short size r = answered-short (r .answer) size (r .table) .most
+
+-- so it has no offset past the greatest
+pub counted : (size : ℕ) (r : Reading) → length (listing size r) ≤ greatest
+counted size r = omega (arith, short size r)

@@ -1,6 +1,4 @@
--- The text of a listing, and what the functions that write it do.
-pub mod Text
-pub mod Decimal
+-- The text of a listing, and what writing it into a buffer comes to.
 pub mod Lines
 pub mod Listed
-pub mod Put
+pub mod Numbered

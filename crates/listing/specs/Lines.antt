@@ -1,4 +1,5 @@
--- The listing of a file: three lines and one for each row, or the line of a refusal. The lines in quotes are the scope's, and for rows those of docs/TESTS.md.
+-- The listing of a file: three lines and one for each row, or the line of a refusal. The lines in
+-- quotes are those of Rules 8.2 and 8.3, and for rows those of docs/USING.md.
 use mathlib.Core.Bool.{Bool, true, false}
 use mathlib.Core.List.{List, [], _++_}
 use Prim.Native.Nat.{ℕ, zero, suc, _+_, min}
@@ -8,24 +9,24 @@ use Rattle.der.specs.Choice.{if_then_else_}
 use Rattle.der.specs.declared.Fault.{Fault}
 use Rattle.pkcs12.specs.Numbers.{safeRows, bagRows, attributeRows}
 use Rattle.pkcs12.specs.Table.{noSafe, noBag, noAttribute}
-use Rattle.pkcs12.specs.Placed.{each}
-use Rattle.pkcs12.specs.declared.Answer.{Answer}
-use Rattle.pkcs12.specs.declared.Answer.the-variants.{Accepted, Refused}
-use Rattle.pkcs12.specs.declared.AttributeRow.{AttributeRow}
-use Rattle.pkcs12.specs.declared.BagKind.{BagKind}
-use Rattle.pkcs12.specs.declared.BagKind.the-variants.{Key, ShroudedKey, Certificate, Crl, Secret, Nested}
-use Rattle.pkcs12.specs.declared.BagRow.{BagRow}
-use Rattle.pkcs12.specs.declared.Enclosing.{Enclosing}
-use Rattle.pkcs12.specs.declared.Enclosing.the-variants.{Bag}
-use Rattle.pkcs12.specs.declared.Mac.{Mac}
-use Rattle.pkcs12.specs.declared.Parts.{Parts}
-use Rattle.pkcs12.specs.declared.Range.{Range}
-use Rattle.pkcs12.specs.declared.Reading.{Reading}
-use Rattle.pkcs12.specs.declared.SafeKind.{SafeKind}
-use Rattle.pkcs12.specs.declared.SafeKind.the-variants.{Plain, Encrypted}
-use Rattle.pkcs12.specs.declared.SafeRow.{SafeRow}
-use Rattle.pkcs12.specs.declared.Table.{Table}
-use Rattle.listing.specs.Text.{ascii, decimal}
+use Rattle.buffer.specs.Placed.{each}
+use Rattle.pkcs12.specs.declared.answers.Answer.{Answer}
+use Rattle.pkcs12.specs.declared.answers.Answer.the-variants.{Accepted, Refused}
+use Rattle.pkcs12.specs.declared.row.AttributeRow.{AttributeRow}
+use Rattle.pkcs12.specs.declared.kind.BagKind.{BagKind}
+use Rattle.pkcs12.specs.declared.kind.BagKind.the-variants.{Key, ShroudedKey, Certificate, Crl, Secret, Nested}
+use Rattle.pkcs12.specs.declared.row.BagRow.{BagRow}
+use Rattle.pkcs12.specs.declared.row.Enclosing.{Enclosing}
+use Rattle.pkcs12.specs.declared.row.Enclosing.the-variants.{Bag}
+use Rattle.pkcs12.specs.declared.row.Mac.{Mac}
+use Rattle.pkcs12.specs.declared.row.Parts.{Parts}
+use Rattle.buffer.specs.declared.Range.{Range}
+use Rattle.pkcs12.specs.declared.answers.Reading.{Reading}
+use Rattle.pkcs12.specs.declared.kind.SafeKind.{SafeKind}
+use Rattle.pkcs12.specs.declared.kind.SafeKind.the-variants.{Plain, Encrypted}
+use Rattle.pkcs12.specs.declared.row.SafeRow.{SafeRow}
+use Rattle.pkcs12.specs.declared.table.Table.{Table}
+use Rattle.buffer.specs.Text.{ascii, decimal}
 
 -- ---- parts of lines
 
@@ -50,7 +51,7 @@ typedText p = rangeText (ascii ", type ") (p .identifier) ++ rangeText (ascii ",
 
 -- ---- safes
 
--- "an empty row has the kind `none`"
+-- an empty row has the kind `none`
 unfoldable pub safeText : SafeKind → Parts → List ℕ
 safeText SafeKind.None p = ascii ": none"
 safeText Plain p = ascii ": plain"
@@ -76,7 +77,7 @@ unfoldable pub enclosingText : Enclosing → List ℕ
 enclosingText Enclosing.None = ascii ", in none"
 enclosingText (Bag n) = numberText (ascii ", in bag ") n
 
--- the ranges that a bag of a kind has: ", key A..B"; "`crl` and `secret` have the same parts" as a certificate
+-- the ranges that a bag of a kind has: ", key A..B"; a CRL and a secret have those of a certificate
 unfoldable pub partsText : BagKind → Parts → List ℕ
 partsText BagKind.None p = []
 partsText Key p = rangeText (ascii ", key ") (p .value)
@@ -86,7 +87,7 @@ partsText Crl p = typedText p
 partsText Secret p = typedText p
 partsText Nested p = []
 
--- "`attributes N` counts the attribute rows that name the bag; `no attributes` says that no set stands there."
+-- `attributes N` counts the attribute rows that name the bag; `no attributes`: it has no set
 unfoldable pub setText : Bool → ℕ → List ℕ
 setText true own = numberText (ascii ", attributes ") own
 setText false own = ascii ", no attributes"
@@ -112,7 +113,7 @@ attributeLine i r =
 
 -- ---- the rows of a table
 
--- "a count past its array counts as the array's rows"
+-- a count past its array counts as the array's rows
 abbrev pub safes : Table → ℕ
 safes t = min (t .«safe_count») safeRows
 
@@ -130,14 +131,14 @@ ownAmong t bag (suc n) = ownAmong t bag n + (if eqb (getD (t .attributes) n noAt
 abbrev pub own : Table → ℕ → ℕ
 own t bag = ownAmong t bag (attributes t)
 
-abbrev pub safeAt : Table → ℕ → List ℕ
-safeAt t i = safeLine i (getD (t .safes) i noSafe)
+abbrev pub safeRowLine : Table → ℕ → List ℕ
+safeRowLine t i = safeLine i (getD (t .safes) i noSafe)
 
-abbrev pub bagAt : Table → ℕ → List ℕ
-bagAt t i = bagLine i (getD (t .bags) i noBag) (own t i)
+abbrev pub bagRowLine : Table → ℕ → List ℕ
+bagRowLine t i = bagLine i (getD (t .bags) i noBag) (own t i)
 
-abbrev pub attributeAt : Table → ℕ → List ℕ
-attributeAt t i = attributeLine i (getD (t .attributes) i noAttribute)
+abbrev pub attributeRowLine : Table → ℕ → List ℕ
+attributeRowLine t i = attributeLine i (getD (t .attributes) i noAttribute)
 
 -- ---- the whole
 
@@ -161,11 +162,11 @@ macLine input m =
 unfoldable pub headLines : ℕ → Table → List ℕ
 headLines size t = fileLine size (t .elements) ++ countsLine (safes t) (bags t) (attributes t) ++ macLine (t .«mac_input») (t .mac)
 
--- "An accepted file has three lines and then one for each row"
+-- an accepted file has three lines, and then one for each row
 unfoldable pub acceptedLines : ℕ → Table → List ℕ
-acceptedLines size t = headLines size t ++ each (safeAt t) (safes t) ++ each (bagAt t) (bags t) ++ each (attributeAt t) (attributes t)
+acceptedLines size t = headLines size t ++ each (safeRowLine t) (safes t) ++ each (bagRowLine t) (bags t) ++ each (attributeRowLine t) (attributes t)
 
--- "A refusal lists as `refused N at P`."
+-- Rule 8.3: a refusal is listed as `refused N at P`
 unfoldable pub refusedLine : Fault → List ℕ
 refusedLine f = numberText (ascii "refused ") (f .number) ++ numberText (ascii " at ") (f .offset) ++ ascii "\n"
 

@@ -1,35 +1,36 @@
-// Writes the listing of a file into a lent buffer: three lines and one for each row, or the line of a refusal. docs/TESTS.md has the forms.
+// Writes the listing of a file into a lent buffer: three lines and one for each row, or the line of
+// a refusal. docs/USING.md has the forms.
 ghost use mathlib.Core.Path.{_≡_};
 ghost use lib.ListN.{length};
-ghost use Rattle.pkcs12.specs.Report.{writtenReport};
+ghost use Rattle.buffer.specs.Report.{writtenReport};
 ghost use Rattle.listing.specs.Lines.{headLines, acceptedLines, answered, listing};
 ghost use Rattle.listing.specs.Listed.{listed};
-ghost use Rattle.listing.specs.Put.{Put};
+ghost use Rattle.buffer.specs.Placed.{Placed};
 
 pub mod lines;
 pub mod out;
 mod rows;
 
+use buffer::Written;
 use der::Fault;
 use pkcs12::Answer;
 use pkcs12::Reading;
 use pkcs12::Table;
-use pkcs12::Written;
 
 // The three lines that every accepted file has.
 fn head(out: &mut [u8], at: usize, size: usize, table: Table) -> usize
-    ensures { λ r. ⌜ Put (now (out .entry)) at (headLines size table) (now (out .exit)) r ⌝ }
+    ensures { λ r. ⌜ Placed (now (out .entry)) at (headLines size table) (now (out .exit)) r ⌝ }
 {
-    let safes = pkcs12::fewer(table.safe_count, pkcs12::SAFE_ROWS);
-    let bags = pkcs12::fewer(table.bag_count, pkcs12::BAG_ROWS);
-    let attributes = pkcs12::fewer(table.attribute_count, pkcs12::ATTRIBUTE_ROWS);
+    let safes = buffer::fewer(table.safe_count, pkcs12::SAFE_ROWS);
+    let bags = buffer::fewer(table.bag_count, pkcs12::BAG_ROWS);
+    let attributes = buffer::fewer(table.attribute_count, pkcs12::ATTRIBUTE_ROWS);
     let first = lines::file_line(out, at, size, table.elements);
     let second = lines::counts_line(out, first, safes, bags, attributes);
     lines::mac_line(out, second, table.mac_input, table.mac)
 }
 
 fn accepted(out: &mut [u8], at: usize, size: usize, table: Table) -> usize
-    ensures { λ r. ⌜ Put (now (out .entry)) at (acceptedLines size table) (now (out .exit)) r ⌝ }
+    ensures { λ r. ⌜ Placed (now (out .entry)) at (acceptedLines size table) (now (out .exit)) r ⌝ }
 {
     let safes = head(out, at, size, table);
     let bags = rows::safe_lines(out, safes, table);
@@ -38,7 +39,7 @@ fn accepted(out: &mut [u8], at: usize, size: usize, table: Table) -> usize
 }
 
 fn answered(out: &mut [u8], answer: Answer, size: usize, table: Table) -> usize
-    ensures { λ r. ⌜ Put (now (out .entry)) 0 (answered answer size table) (now (out .exit)) r ⌝ }
+    ensures { λ r. ⌜ Placed (now (out .entry)) 0 (answered answer size table) (now (out .exit)) r ⌝ }
 {
     match answer {
         Answer::Accepted => accepted(out, 0, size, table),
@@ -55,7 +56,8 @@ fn measured(size: usize, reading: Reading) -> usize
     answered(&mut none, answer, size, reading.table)
 }
 
-// Writes the listing of a file of this size. Nothing is written before it is known that the buffer has room.
+// Writes the listing of a file of this size. Nothing is written before it is known that the buffer
+// has room.
 pub fn list(size: usize, reading: Reading, out: &mut [u8]) -> Written
     ensures { λ r. ⌜ r ≡ listed size reading (now (out .entry)) .answer ⌝ }
     ensures { λ r. ⌜ writtenReport r ≡ writtenReport (listed size reading (now (out .entry)) .answer) ⌝ }
@@ -64,7 +66,7 @@ pub fn list(size: usize, reading: Reading, out: &mut [u8]) -> Written
     let n = measured(size, reading);
     if out.len() < n {
         return Written::Refused(Fault {
-            number: pkcs12::NO_ROOM,
+            number: buffer::SHORT_BUFFER,
             offset: 0,
         });
     }

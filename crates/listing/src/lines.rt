@@ -1,7 +1,11 @@
 // One line of a listing, or a part of one.
-ghost use Rattle.listing.specs.Lines.{safeText, safeLine, kindText, enclosingText, partsText, setText, bagStart, bagLine, attributeLine, fileLine, countsLine, macLine, refusedLine};
-ghost use Rattle.listing.specs.Put.{Put};
+ghost use Rattle.listing.specs.Lines.{safeText, safeLine, kindText, enclosingText, partsText, setText};
+ghost use Rattle.listing.specs.Lines.{bagStart, bagLine, attributeLine, fileLine, countsLine, macLine};
+ghost use Rattle.listing.specs.Lines.{refusedLine};
+ghost use Rattle.buffer.specs.Placed.{Placed};
 use crate::out;
+use buffer::Range;
+use buffer::write;
 use der::Fault;
 use pkcs12::AttributeRow;
 use pkcs12::BagKind;
@@ -9,51 +13,50 @@ use pkcs12::BagRow;
 use pkcs12::Enclosing;
 use pkcs12::Mac;
 use pkcs12::Parts;
-use pkcs12::Range;
 use pkcs12::SafeKind;
 use pkcs12::SafeRow;
 
 fn safe_kind(out: &mut [u8], at: usize, kind: SafeKind, p: Parts) -> usize
-    ensures { λ r. ⌜ Put (now (out .entry)) at (safeText kind p) (now (out .exit)) r ⌝ }
+    ensures { λ r. ⌜ Placed (now (out .entry)) at (safeText kind p) (now (out .exit)) r ⌝ }
 {
     match kind {
-        SafeKind::None => out::text(out, at, b": none"),
-        SafeKind::Plain => out::text(out, at, b": plain"),
+        SafeKind::None => write::bytes(out, at, b": none"),
+        SafeKind::Plain => write::bytes(out, at, b": plain"),
         SafeKind::Encrypted => {
-            let next = out::text(out, at, b": encrypted");
+            let next = write::bytes(out, at, b": encrypted");
             out::sealed(out, next, p)
         }
     }
 }
 
 pub(crate) fn safe_line(out: &mut [u8], at: usize, i: usize, row: SafeRow) -> usize
-    ensures { λ r. ⌜ Put (now (out .entry)) at (safeLine i row) (now (out .exit)) r ⌝ }
+    ensures { λ r. ⌜ Placed (now (out .entry)) at (safeLine i row) (now (out .exit)) r ⌝ }
 {
     let kind = row.kind;
     let number = out::number(out, at, b"safe ", i);
     let end = safe_kind(out, number, kind, row.parts);
-    out::text(out, end, b"\n")
+    write::bytes(out, end, b"\n")
 }
 
 fn bag_kind(out: &mut [u8], at: usize, kind: BagKind) -> usize
-    ensures { λ r. ⌜ Put (now (out .entry)) at (kindText kind) (now (out .exit)) r ⌝ }
+    ensures { λ r. ⌜ Placed (now (out .entry)) at (kindText kind) (now (out .exit)) r ⌝ }
 {
     match kind {
-        BagKind::None => out::text(out, at, b": none"),
-        BagKind::Key => out::text(out, at, b": key"),
-        BagKind::ShroudedKey => out::text(out, at, b": shrouded key"),
-        BagKind::Certificate => out::text(out, at, b": certificate"),
-        BagKind::Crl => out::text(out, at, b": crl"),
-        BagKind::Secret => out::text(out, at, b": secret"),
-        BagKind::Nested => out::text(out, at, b": nested"),
+        BagKind::None => write::bytes(out, at, b": none"),
+        BagKind::Key => write::bytes(out, at, b": key"),
+        BagKind::ShroudedKey => write::bytes(out, at, b": shrouded key"),
+        BagKind::Certificate => write::bytes(out, at, b": certificate"),
+        BagKind::Crl => write::bytes(out, at, b": crl"),
+        BagKind::Secret => write::bytes(out, at, b": secret"),
+        BagKind::Nested => write::bytes(out, at, b": nested"),
     }
 }
 
 fn enclosing(out: &mut [u8], at: usize, e: Enclosing) -> usize
-    ensures { λ r. ⌜ Put (now (out .entry)) at (enclosingText e) (now (out .exit)) r ⌝ }
+    ensures { λ r. ⌜ Placed (now (out .entry)) at (enclosingText e) (now (out .exit)) r ⌝ }
 {
     match e {
-        Enclosing::None => out::text(out, at, b", in none"),
+        Enclosing::None => write::bytes(out, at, b", in none"),
         Enclosing::Bag(n) => {
             let bag = n as usize;
             out::number(out, at, b", in bag ", bag)
@@ -63,7 +66,7 @@ fn enclosing(out: &mut [u8], at: usize, e: Enclosing) -> usize
 
 // The ranges that a bag of this kind has.
 fn bag_parts(out: &mut [u8], at: usize, kind: BagKind, p: Parts) -> usize
-    ensures { λ r. ⌜ Put (now (out .entry)) at (partsText kind p) (now (out .exit)) r ⌝ }
+    ensures { λ r. ⌜ Placed (now (out .entry)) at (partsText kind p) (now (out .exit)) r ⌝ }
 {
     match kind {
         BagKind::None => at,
@@ -78,17 +81,17 @@ fn bag_parts(out: &mut [u8], at: usize, kind: BagKind, p: Parts) -> usize
 
 // How many attribute rows name the bag, if a set stands there.
 fn bag_set(out: &mut [u8], at: usize, has_set: bool, own: usize) -> usize
-    ensures { λ r. ⌜ Put (now (out .entry)) at (setText «has_set» own) (now (out .exit)) r ⌝ }
+    ensures { λ r. ⌜ Placed (now (out .entry)) at (setText «has_set» own) (now (out .exit)) r ⌝ }
 {
     if has_set {
         return out::number(out, at, b", attributes ", own);
     }
-    out::text(out, at, b", no attributes")
+    write::bytes(out, at, b", no attributes")
 }
 
 // What every bag has.
 fn bag_start(out: &mut [u8], at: usize, i: usize, row: BagRow) -> usize
-    ensures { λ r. ⌜ Put (now (out .entry)) at (bagStart i row) (now (out .exit)) r ⌝ }
+    ensures { λ r. ⌜ Placed (now (out .entry)) at (bagStart i row) (now (out .exit)) r ⌝ }
 {
     let kind = row.kind;
     let safe = row.safe as usize;
@@ -100,32 +103,32 @@ fn bag_start(out: &mut [u8], at: usize, i: usize, row: BagRow) -> usize
 }
 
 pub(crate) fn bag_line(out: &mut [u8], at: usize, i: usize, row: BagRow, own: usize) -> usize
-    ensures { λ r. ⌜ Put (now (out .entry)) at (bagLine i row own) (now (out .exit)) r ⌝ }
+    ensures { λ r. ⌜ Placed (now (out .entry)) at (bagLine i row own) (now (out .exit)) r ⌝ }
 {
     let kind = row.kind;
     let start = bag_start(out, at, i, row);
     let parts = bag_parts(out, start, kind, row.parts);
     let set = bag_set(out, parts, row.has_set, own);
-    out::text(out, set, b"\n")
+    write::bytes(out, set, b"\n")
 }
 
 pub(crate) fn attribute_line(out: &mut [u8], at: usize, i: usize, row: AttributeRow) -> usize
-    ensures { λ r. ⌜ Put (now (out .entry)) at (attributeLine i row) (now (out .exit)) r ⌝ }
+    ensures { λ r. ⌜ Placed (now (out .entry)) at (attributeLine i row) (now (out .exit)) r ⌝ }
 {
     let bag = row.bag as usize;
     let first = out::number(out, at, b"attribute ", i);
     let second = out::number(out, first, b": bag ", bag);
     let identifier = out::range(out, second, b", type ", row.identifier);
     let values = out::range(out, identifier, b", values ", row.values);
-    out::text(out, values, b"\n")
+    write::bytes(out, values, b"\n")
 }
 
 pub(crate) fn file_line(out: &mut [u8], at: usize, size: usize, elements: usize) -> usize
-    ensures { λ r. ⌜ Put (now (out .entry)) at (fileLine size elements) (now (out .exit)) r ⌝ }
+    ensures { λ r. ⌜ Placed (now (out .entry)) at (fileLine size elements) (now (out .exit)) r ⌝ }
 {
     let bytes = out::number(out, at, b"pfx ", size);
     let count = out::number(out, bytes, b" bytes, ", elements);
-    out::text(out, count, b" elements\n")
+    write::bytes(out, count, b" elements\n")
 }
 
 pub(crate) fn counts_line(
@@ -135,16 +138,16 @@ pub(crate) fn counts_line(
     bags: usize,
     attributes: usize,
 ) -> usize
-    ensures { λ r. ⌜ Put (now (out .entry)) at (countsLine safes bags attributes) (now (out .exit)) r ⌝ }
+    ensures { λ r. ⌜ Placed (now (out .entry)) at (countsLine safes bags attributes) (now (out .exit)) r ⌝ }
 {
     let first = out::number(out, at, b"safes ", safes);
     let second = out::number(out, first, b", bags ", bags);
     let third = out::number(out, second, b", attributes ", attributes);
-    out::text(out, third, b"\n")
+    write::bytes(out, third, b"\n")
 }
 
 pub(crate) fn mac_line(out: &mut [u8], at: usize, input: Range, mac: Mac) -> usize
-    ensures { λ r. ⌜ Put (now (out .entry)) at (macLine input mac) (now (out .exit)) r ⌝ }
+    ensures { λ r. ⌜ Placed (now (out .entry)) at (macLine input mac) (now (out .exit)) r ⌝ }
 {
     let parts = mac.parts;
     let iterations = mac.iterations as usize;
@@ -152,14 +155,14 @@ pub(crate) fn mac_line(out: &mut [u8], at: usize, input: Range, mac: Mac) -> usi
     let digest = out::range(out, first, b", digest ", parts.value);
     let salt = out::range(out, digest, b", salt ", mac.salt);
     let number = out::number(out, salt, b", iterations ", iterations);
-    out::text(out, number, b"\n")
+    write::bytes(out, number, b"\n")
 }
 
 pub fn refused(out: &mut [u8], at: usize, f: Fault) -> usize
-    ensures { λ r. ⌜ Put (now (out .entry)) at (refusedLine f) (now (out .exit)) r ⌝ }
+    ensures { λ r. ⌜ Placed (now (out .entry)) at (refusedLine f) (now (out .exit)) r ⌝ }
 {
     let number = f.number as usize;
     let first = out::number(out, at, b"refused ", number);
     let second = out::number(out, first, b" at ", f.offset);
-    out::text(out, second, b"\n")
+    write::bytes(out, second, b"\n")
 }

@@ -2,9 +2,9 @@
 ghost use mathlib.Core.Path.{_≡_};
 ghost use lib.Dec.{eqb};
 ghost use Rattle.der.specs.Choice.{if_then_else_};
-ghost use Rattle.pkcs12.specs.Placed.{each};
-ghost use Rattle.listing.specs.Lines.{own, safes, bags, attributes, safeAt, bagAt, attributeAt};
-ghost use Rattle.listing.specs.Put.{Put};
+ghost use Rattle.buffer.specs.Placed.{each};
+ghost use Rattle.listing.specs.Lines.{own, safes, bags, attributes, safeRowLine, bagRowLine, attributeRowLine};
+ghost use Rattle.buffer.specs.Placed.{Placed};
 use crate::lines;
 use pkcs12::ATTRIBUTE_ROWS;
 use pkcs12::BAG_ROWS;
@@ -22,7 +22,7 @@ fn one_if_own(owner: usize, bag: usize) -> usize
 fn own_attributes(table: Table, bag: usize) -> usize
     ensures { λ r. ⌜ r ≡ own table bag ⌝ }
 {
-    let n = pkcs12::fewer(table.attribute_count, ATTRIBUTE_ROWS);
+    let n = buffer::fewer(table.attribute_count, ATTRIBUTE_ROWS);
     let mut own = 0;
     let mut i = 0;
     while i < n {
@@ -35,9 +35,9 @@ fn own_attributes(table: Table, bag: usize) -> usize
 }
 
 pub(crate) fn safe_lines(out: &mut [u8], at: usize, table: Table) -> usize
-    ensures { λ r. ⌜ Put (now (out .entry)) at (each (safeAt table) (safes table)) (now (out .exit)) r ⌝ }
+    ensures { λ r. ⌜ Placed (now (out .entry)) at (each (safeRowLine table) (safes table)) (now (out .exit)) r ⌝ }
 {
-    let n = pkcs12::fewer(table.safe_count, SAFE_ROWS);
+    let n = buffer::fewer(table.safe_count, SAFE_ROWS);
     let mut to = at;
     let mut i = 0;
     while i < n {
@@ -49,9 +49,9 @@ pub(crate) fn safe_lines(out: &mut [u8], at: usize, table: Table) -> usize
 }
 
 pub(crate) fn bag_lines(out: &mut [u8], at: usize, table: Table) -> usize
-    ensures { λ r. ⌜ Put (now (out .entry)) at (each (bagAt table) (bags table)) (now (out .exit)) r ⌝ }
+    ensures { λ r. ⌜ Placed (now (out .entry)) at (each (bagRowLine table) (bags table)) (now (out .exit)) r ⌝ }
 {
-    let n = pkcs12::fewer(table.bag_count, BAG_ROWS);
+    let n = buffer::fewer(table.bag_count, BAG_ROWS);
     let mut to = at;
     let mut i = 0;
     while i < n {
@@ -64,9 +64,9 @@ pub(crate) fn bag_lines(out: &mut [u8], at: usize, table: Table) -> usize
 }
 
 pub(crate) fn attribute_lines(out: &mut [u8], at: usize, table: Table) -> usize
-    ensures { λ r. ⌜ Put (now (out .entry)) at (each (attributeAt table) (attributes table)) (now (out .exit)) r ⌝ }
+    ensures { λ r. ⌜ Placed (now (out .entry)) at (each (attributeRowLine table) (attributes table)) (now (out .exit)) r ⌝ }
 {
-    let n = pkcs12::fewer(table.attribute_count, ATTRIBUTE_ROWS);
+    let n = buffer::fewer(table.attribute_count, ATTRIBUTE_ROWS);
     let mut to = at;
     let mut i = 0;
     while i < n {

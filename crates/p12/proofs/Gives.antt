@@ -8,14 +8,15 @@ use lib.Dec.{ltb}
 use lib.ListN.{length, drop}
 use Rattle.der.specs.declared.Fault.{Fault}
 use Rattle.der.proofs.Choices.{told-true, told-false}
-use Rattle.pkcs12.specs.Numbers.{noRoom, notSound}
+use Rattle.buffer.specs.Numbers.{shortBuffer, notSound}
 use Rattle.pkcs12.specs.Walk.{readFile}
-use Rattle.pkcs12.specs.Written.{Outcome, lengthOf, writeFile}
-use Rattle.pkcs12.specs.declared.Range.{Range}
-use Rattle.pkcs12.specs.declared.AttributeRow.{AttributeRow}
-use Rattle.pkcs12.specs.declared.Table.{Table}
-use Rattle.pkcs12.specs.declared.Reading.{Reading}
-use Rattle.pkcs12.specs.declared.Written.{Written}
+use Rattle.buffer.specs.Written.{Outcome, lengthOf}
+use Rattle.pkcs12.specs.Written.{writeFile}
+use Rattle.buffer.specs.declared.Range.{Range}
+use Rattle.pkcs12.specs.declared.row.AttributeRow.{AttributeRow}
+use Rattle.pkcs12.specs.declared.table.Table.{Table}
+use Rattle.pkcs12.specs.declared.answers.Reading.{Reading}
+use Rattle.buffer.specs.declared.Written.{Written}
 use Rattle.attributes.specs.Reader.{openingOf, itemAfter}
 use Rattle.attributes.specs.Elements.{elementRanges, countedOf}
 use Rattle.attributes.specs.declared.Counted.{Counted}
@@ -30,8 +31,8 @@ use Rattle.words.specs.Loaded.{tableIn}
 use Rattle.words.proofs.Whole.{words-length, stored-whole}
 use Rattle.listing.specs.Listed.{listed}
 use Rattle.pair_lines.specs.Listed.{pairsListed}
-use Rattle.p12.specs.Calls.{done, readNumber, readOffset, writtenNumber, Called, called, wrote, put, readCall, onTable, writeCall, itemAs, attributeCall, certificateCall, listCall}
-use Rattle.p12.specs.Calls.{pairsCall}
+use Rattle.p12.specs.Calls.{done, readNumber, readOffset, writtenNumber, Called, called, wrote, put, readCall}
+use Rattle.p12.specs.Calls.{onTable, writeCall, itemAs, attributeCall, certificateCall, listCall, pairsCall}
 
 -- two or three promises of a call, and that its slice holds bytes
 pub two-and : {A B C : Type 0} → A × B → C → A × (B × C)
@@ -59,9 +60,9 @@ module _ (o : Outcome) (w : Written) (z : List ℕ) (p : w ≡ o .answer) (q : z
 
 -- u: whether the memory is too short for a table, as it was tested
 module _ (f room : List ℕ) (u : Bool) (h : u ≡ ltb (length room) tableWords) where
-  pub read-short : u ≡ true → Gives (readCall f room) noRoom room 0
+  pub read-short : u ≡ true → Gives (readCall f room) shortBuffer room 0
   unfolding readCall
-  read-short q = gives-all _ noRoom room 0 (told-true _ u _ _ _ h q refl)
+  read-short q = gives-all _ shortBuffer room 0 (told-true _ u _ _ _ h q refl)
 
   module _ (q : u ≡ false) where
     -- the memory with a table at its front
@@ -180,5 +181,7 @@ element-gives s r q i x e p =
 pub input-gives : (f : List ℕ) (rd : Reading) → rd ≡ readFile f → (n : ℕ) → n ≡ readNumber (rd .answer)
     → (n ≡ readNumber (readFile f .answer))
     × ((rd .table .«mac_input» .start ≡ readFile f .table .«mac_input» .start) × (rd .table .«mac_input» .end ≡ readFile f .table .«mac_input» .end))
-input-gives f rd e n p =
-    (p ∙ ap (λ (x : Reading). readNumber (x .answer)) e, (ap (λ (x : Reading). x .table .«mac_input» .start) e, ap (λ (x : Reading). x .table .«mac_input» .end) e))
+input-gives f rd e n p = (
+  p ∙ ap (λ (x : Reading). readNumber (x .answer)) e,
+  (ap (λ (x : Reading). x .table .«mac_input» .start) e, ap (λ (x : Reading). x .table .«mac_input» .end) e),
+)

@@ -7,14 +7,15 @@ use lib.ListN.{length, drop, replicate, length-append}
 use Rattle.der.specs.Span.{Bytes}
 use Rattle.der.specs.declared.Fault.{Fault}
 use Rattle.der.proofs.Choices.{at-lt, at-not-lt}
-use Rattle.pkcs12.specs.Numbers.{noRoom}
+use Rattle.buffer.specs.Numbers.{shortBuffer}
 use Rattle.pkcs12.specs.Accepted.{IsAccepted, tableFrom}
-use Rattle.pkcs12.specs.Report.{answerReport, writtenReport}
+use Rattle.pkcs12.specs.Report.{answerReport}
+use Rattle.buffer.specs.Report.{writtenReport}
 use Rattle.pkcs12.specs.Walk.{readFile}
 use Rattle.pkcs12.specs.Written.{writeFile}
-use Rattle.pkcs12.specs.declared.Answer.{Answer}
-use Rattle.pkcs12.specs.declared.Answer.the-variants.{Accepted}
-use Rattle.pkcs12.specs.declared.Table.{Table}
+use Rattle.pkcs12.specs.declared.answers.Answer.{Answer}
+use Rattle.pkcs12.specs.declared.answers.Answer.the-variants.{Accepted}
+use Rattle.pkcs12.specs.declared.table.Table.{Table}
 use Rattle.pkcs12.proofs.Theorems.{refused-table-empty, read-is-written}
 use Rattle.words.specs.Layout.{tableWords}
 use Rattle.words.specs.Stored.{wordsOf}
@@ -24,7 +25,7 @@ use Rattle.words.proofs.Theorems.{words-count, stored-is-loaded, accepted-worda
 use Rattle.p12.specs.Calls.{ok, readNumber, readOffset, Called, called, wrote, readCall, writeCall, Is11}
 use Rattle.p12.proofs.Unsound.{empty-is-11}
 
-pub short-is-10 : (f words : List ℕ) → length words < tableWords → readCall f words ≡ called noRoom words 0
+pub short-is-10 : (f words : List ℕ) → length words < tableWords → readCall f words ≡ called shortBuffer words 0
 unfolding readCall
 short-is-10 f words h = sym (at-lt _ _ _ _ _ h refl)
 

@@ -1,18 +1,18 @@
--- What is proved of the calls for C together: what one gives is what another takes, and what a refusal leaves. The
--- proofs are elsewhere. `Bytes f`: each number of the list is below 256. `IsAccepted f`: `readFile f` accepts.
--- `tableFrom f`: the table of the reading of f. `readCall`, `writeCall`: what `p12_read` and `p12_write` give.
--- `Is11 words s`: the calls that take a table from these words, over the bytes s, are 11, and leave what they would
--- write to.
+-- What is proved of the calls for C together: what one gives is what another takes, and what a
+-- refusal leaves. The proofs are elsewhere. `Bytes f`: each number of the list is below 256.
+-- `IsAccepted f`: `readFile f` accepts. `tableFrom f`: the table of the reading of f. `readCall`,
+-- `writeCall`: what `p12_read` and `p12_write` give. `Is11 words s`: the calls that take a table
+-- from these words, over the bytes s, are 11, and leave what they would write to.
 use mathlib.Core.Path.{_≡_}
 use mathlib.Core.List.{List, _++_}
 use Prim.Native.Nat.{ℕ, _≤_, _<_}
 use lib.ListN.{length, drop, replicate}
 use Rattle.der.specs.Span.{Bytes}
 use Rattle.der.specs.declared.Fault.{Fault}
-use Rattle.pkcs12.specs.Numbers.{noRoom}
+use Rattle.buffer.specs.Numbers.{shortBuffer}
 use Rattle.pkcs12.specs.Accepted.{IsAccepted, tableFrom}
 use Rattle.pkcs12.specs.Walk.{readFile}
-use Rattle.pkcs12.specs.declared.Answer.{Answer}
+use Rattle.pkcs12.specs.declared.answers.Answer.{Answer}
 use Rattle.words.specs.Layout.{tableWords}
 use Rattle.words.specs.Stored.{wordsOf}
 use Rattle.words.specs.Loaded.{tableIn}
@@ -23,7 +23,7 @@ use Rattle.p12.proofs.Unsound as unsound
 -- ---- memory that is shorter than a table
 
 -- `p12_read` into it is 10 with offset 0, whatever the file, and leaves it as it was.
-pub short-is-10 : (f words : List ℕ) → length words < tableWords → readCall f words ≡ called noRoom words 0
+pub short-is-10 : (f words : List ℕ) → length words < tableWords → readCall f words ≡ called shortBuffer words 0
 short-is-10 = memory.short-is-10
 
 -- A call that takes a table from it is 11, whatever the bytes, and leaves everything as it was.
@@ -33,17 +33,20 @@ short-is-11 = unsound.short-is-11
 -- ---- reading into memory
 
 module _ (f words : List ℕ) (h : tableWords ≤ length words) where
-  -- An accepted file is read into the words of its table, whatever stood there; words behind them stay.
+  -- An accepted file is read into the words of its table, whatever stood there; words behind them
+  -- stay.
   pub read-stores : IsAccepted f → readCall f words ≡ called ok (wordsOf (tableFrom f) ++ drop tableWords words) 0
   read-stores = memory.read-stores f words h
 
-  -- After a refused file every word of the table is 0, whatever stood there; words behind them stay.
+  -- After a refused file every word of the table is 0, whatever stood there; words behind them
+  -- stay.
   pub refused-is-cleared : (x : Fault) → readFile f .answer ≡ Answer.Refused x
       → readCall f words ≡ called (x .number) (replicate tableWords 0 ++ drop tableWords words) (x .offset)
   refused-is-cleared = memory.refused-is-cleared f words h
 
   module _ (b : Bytes f) where
-    -- The table that a later call loads from the memory is the one that reading gave, for every file.
+    -- The table that a later call loads from the memory is the one that reading gave, for every
+    -- file.
     pub read-is-loaded : tableIn (readCall f words .memory) ≡ tableFrom f
     read-is-loaded = memory.read-is-loaded f words h b
 

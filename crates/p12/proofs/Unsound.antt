@@ -9,12 +9,13 @@ use lib.ListN.{length}
 use Rattle.der.specs.Content.{identifierBody}
 use Rattle.der.specs.Element.{fault}
 use Rattle.der.proofs.Choices.{at-lt, at-not-lt}
-use Rattle.pkcs12.specs.Numbers.{notSound}
+use Rattle.buffer.specs.Numbers.{notSound}
 use Rattle.pkcs12.specs.Table.{noMac, rowsIn, tableOf, emptyTable}
-use Rattle.pkcs12.specs.Checks.{countsFit, all, lies, namesType, isSealed, macTest, rowsTest, keepsRules}
-use Rattle.pkcs12.specs.Report.{writtenReport}
+use Rattle.pkcs12.specs.Checks.{countsFit, all, namesType, isSealed, macTest, rowsTest, keepsRules}
+use Rattle.buffer.specs.Range.{lies}
+use Rattle.buffer.specs.Report.{writtenReport}
 use Rattle.pkcs12.specs.Written.{fileOf, writeFile}
-use Rattle.pkcs12.specs.declared.Table.{Table}
+use Rattle.pkcs12.specs.declared.table.Table.{Table}
 use Rattle.attributes.specs.Reader.{refusedBy, openingOf, itemAfter}
 use Rattle.attributes.specs.declared.Item.{Item}
 use Rattle.attributes.proofs.Theorems.{refused-stays}

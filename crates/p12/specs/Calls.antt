@@ -1,17 +1,20 @@
--- What the calls for C give, in terms of the definitions of the crates below. A call's number is 0 or that of the refusal.
+-- What the calls for C give, in terms of the definitions of the crates below. A call's number is 0
+-- or that of the refusal.
 use mathlib.Core.Path.{_≡_}
 use mathlib.Core.List.{List, _++_}
 use Prim.Native.Nat.{ℕ}
 use lib.Dec.{ltb}
 use lib.ListN.{length, getD, drop}
 use Rattle.der.specs.Choice.{if_then_else_}
-use Rattle.pkcs12.specs.Numbers.{noRoom, notSound}
-use Rattle.pkcs12.specs.Report.{answerReport, writtenReport}
+use Rattle.buffer.specs.Numbers.{shortBuffer, notSound}
+use Rattle.pkcs12.specs.Report.{answerReport}
+use Rattle.buffer.specs.Report.{writtenReport}
 use Rattle.pkcs12.specs.Walk.{readFile}
-use Rattle.pkcs12.specs.Written.{Outcome, lengthOf, writeFile}
-use Rattle.pkcs12.specs.declared.Table.{Table}
-use Rattle.pkcs12.specs.declared.Answer.{Answer}
-use Rattle.pkcs12.specs.declared.Written.{Written}
+use Rattle.buffer.specs.Written.{Outcome, lengthOf}
+use Rattle.pkcs12.specs.Written.{writeFile}
+use Rattle.pkcs12.specs.declared.table.Table.{Table}
+use Rattle.pkcs12.specs.declared.answers.Answer.{Answer}
+use Rattle.buffer.specs.declared.Written.{Written}
 use Rattle.attributes.specs.Reader.{openingOf, itemAfter}
 use Rattle.attributes.specs.declared.Item.{Item}
 use Rattle.attributes.specs.declared.Item.the-variants.{Ready, Done}
@@ -29,7 +32,7 @@ use Rattle.pair_lines.specs.Listed.{pairsListed}
 abbrev pub ok : ℕ
 ok = 0
 
--- "then says it is done": no refusal has this number
+-- Rule 7.1: the reader is done; no refusal has this number
 abbrev pub done : ℕ
 done = 255
 
@@ -68,12 +71,12 @@ wrote o = called (writtenNumber (o .answer)) (o .buffer) (lengthOf (o .answer))
 abbrev pub put : Outcome → Called
 put o = called (writtenNumber (o .answer)) (o .buffer) 0
 
--- `p12_read`: 10 where the memory has fewer words than a table, whatever the file. Else the memory begins with the
--- words of the reading's table, and those behind them are as before; so for every file, since "A refused reading has
--- an empty table".
+-- `p12_read`: 10 where the memory has fewer words than a table, whatever the file. Else the memory
+-- begins with the words of the reading's table, and those behind them are as before; so for every
+-- file, since a refused one has the empty table (Rule 5.22).
 unfoldable pub readCall : List ℕ → List ℕ → Called
 readCall f memory =
-    if ltb (length memory) tableWords then called noRoom memory 0 else
+    if ltb (length memory) tableWords then called shortBuffer memory 0 else
     called (readNumber (readFile f .answer)) (wordsOf (readFile f .table) ++ drop tableWords memory)
     (readOffset (readFile f .answer))
 

@@ -1,2 +1,3 @@
 -- What the calls for C give.
 pub mod Calls
+pub mod Numbered

@@ -1,20 +1,21 @@
-// The calls for programs in C; include/p12.h says in C's words what each does. A slice is a pointer and a length there.
+// The calls for programs in C; include/p12.h says in C's words what each does. A slice is a pointer
+// and a length there.
 ghost use mathlib.Core.Path.{_≡_};
 ghost use lib.Dec.{ltb};
 ghost use Rattle.der.specs.Span.{Bytes};
 ghost use Rattle.pkcs12.specs.Walk.{readFile};
-ghost use Rattle.pkcs12.specs.Written.{lengthOf};
+ghost use Rattle.buffer.specs.Written.{lengthOf};
 ghost use Rattle.attributes.specs.Elements.{elementRanges, countedOf};
 ghost use Rattle.words.specs.Layout.{tableWords};
 ghost use Rattle.words.specs.Stored.{stored};
 ghost use Rattle.words.specs.Loaded.{rangeOf};
-ghost use Rattle.p12.specs.Calls.{readNumber, readOffset, writtenNumber, pairedNumber, pairedRow, readCall, writeCall, attributeCall, certificateCall, listCall};
-ghost use Rattle.p12.specs.Calls.{pairsCall};
+ghost use Rattle.p12.specs.Calls.{readNumber, readOffset, writtenNumber, pairedNumber, pairedRow, readCall};
+ghost use Rattle.p12.specs.Calls.{writeCall, attributeCall, certificateCall, listCall, pairsCall};
 use attributes::Item;
+use buffer::Written;
 use pairing::Paired;
 use pkcs12::Answer;
 use pkcs12::Reading;
-use pkcs12::Written;
 
 // The number of an answer that is no refusal.
 pub const OK: u8 = 0;
@@ -85,7 +86,8 @@ fn is_short(size: usize) -> bool
     size < words::TABLE_WORDS
 }
 
-// Stores the table of a reading, the empty one of a refused file too, and returns the reading's number.
+// Stores the table of a reading, the empty one of a refused file too, and returns the reading's
+// number.
 fn store_reading(reading: Reading, table: &mut [u32]) -> u8
     ensures { λ r. ⌜ r ≡ readNumber (reading .answer) ⌝ }
     ensures { λ _. ⌜ now (table .exit) ≡ stored (reading .table) (now (table .entry)) .buffer ⌝ }
@@ -105,7 +107,7 @@ pub extern "C" fn p12_read(file: &[u8], table: &mut [u32], offset: &mut usize) -
 {
     if is_short(table.len()) {
         *offset = 0;
-        return pkcs12::NO_ROOM;
+        return buffer::SHORT_BUFFER;
     }
     let reading = reader::read(file);
     let answer = reading.answer;
@@ -140,7 +142,7 @@ pub extern "C" fn p12_write(table: &[u32], bytes: &[u8], out: &mut [u8], written
 {
     if is_short(table.len()) {
         *written = 0;
-        return pkcs12::NOT_SOUND;
+        return buffer::NOT_SOUND;
     }
     let file = writer::write(words::load(table), bytes, out);
     *written = length_of(file);
@@ -161,7 +163,7 @@ pub extern "C" fn p12_attribute(
     ensures { λ _. ⌜ Bytes (now (bytes .entry)) ⌝ }
 {
     if is_short(table.len()) {
-        return pkcs12::NOT_SOUND;
+        return buffer::NOT_SOUND;
     }
     match attributes::attribute(words::load(table), bytes, bag, i) {
         Item::Attribute(a) => written_number(words::store_row(a, row)),
@@ -207,7 +209,7 @@ pub extern "C" fn p12_certificate_for(
 {
     if is_short(table.len()) {
         *bag = 0;
-        return pkcs12::NOT_SOUND;
+        return buffer::NOT_SOUND;
     }
     let paired = identities::certificate_for(words::load(table), bytes, key);
     *bag = paired_row(paired);

@@ -9,16 +9,16 @@ use lib.Dec.{eqb, ltb}
 use lib.ListN.{getD}
 use Rattle.der.specs.Choice.{if_then_else_}
 use Rattle.pkcs12.specs.Table.{noBag}
-use Rattle.pkcs12.specs.Placed.{each}
-use Rattle.pkcs12.specs.declared.BagKind.{BagKind}
-use Rattle.pkcs12.specs.declared.Table.{Table}
-use Rattle.listing.specs.Text.{ascii, digit, digits, decimal}
+use Rattle.buffer.specs.Placed.{each}
+use Rattle.pkcs12.specs.declared.kind.BagKind.{BagKind}
+use Rattle.pkcs12.specs.declared.table.Table.{Table}
+use Rattle.buffer.specs.Text.{ascii, digit, digits, decimal}
 use Rattle.listing.specs.Lines.{numberText, bags}
 use Rattle.pairing.specs.Pairs.{isKey}
 use Rattle.pairing.specs.declared.Paired.{Paired}
 use Rattle.pairing.specs.declared.Paired.the-variants.{Certificate}
 use Rattle.identities.specs.Identities.{certificateFor}
-use Rattle.pair_lines.specs.Lines.{answerText, pairLine, bagLine, bagAt, pairLines}
+use Rattle.pair_lines.specs.Lines.{answerText, pairLine, bagLine, pairRowLine, pairLines}
 use Rattle.pair_lines.specs.Counts.{linesIn, oneIfKey, keysAmong, keyBags}
 
 both : (x y : List ℕ) → linesIn (x ++ y) ≡ linesIn x + linesIn y
@@ -64,11 +64,11 @@ bag-in kind i p = go (isKey kind)
     go true = pair-in i p
     go false = refl
 
-pub lines-among : (t : Table) (s : List ℕ) (n : ℕ) → linesIn (each (bagAt t s) n) ≡ keysAmong t n
+pub lines-among : (t : Table) (s : List ℕ) (n : ℕ) → linesIn (each (pairRowLine t s) n) ≡ keysAmong t n
 unfolding each keysAmong linesIn
 lines-among t s zero = refl
 lines-among t s (suc n) =
-    both (each (bagAt t s) n) (bagAt t s n)
+    both (each (pairRowLine t s) n) (pairRowLine t s n)
     ∙ omega (arith, lines-among t s n, bag-in (getD (t .bags) n noBag .kind) n (certificateFor t s n))
 
 pub lines-are-keys : (t : Table) (s : List ℕ) → linesIn (pairLines t s) ≡ keyBags t

@@ -1,18 +1,18 @@
--- What is proved of the pairs' text, beside the contract of `list`. `pairsText s r`: the text for the reading r of the
--- file s. `pairLines t s`: that for the table t over the bytes s.
+-- What is proved of the pairs' text, beside the contract of `list`. `pairsText s r`: the text for
+-- the reading r of the file s. `pairLines t s`: that for the table t over the bytes s.
 use mathlib.Core.Path.{_≡_, refl}
 use mathlib.Core.List.{List}
 use Prim.Native.Nat.{ℕ, _≤_}
 use native.Mathlib.Omega.{arith}
 use lib.ListN.{length}
 use Rattle.der.specs.Element.{fault}
-use Rattle.pkcs12.specs.Written.{success}
-use Rattle.pkcs12.specs.declared.Answer.{Answer}
-use Rattle.pkcs12.specs.declared.Reading.{Reading}
-use Rattle.pkcs12.specs.declared.Table.{Table}
-use Rattle.listing.specs.Text.{ascii, digits, decimal}
+use Rattle.buffer.specs.Written.{success}
+use Rattle.pkcs12.specs.declared.answers.Answer.{Answer}
+use Rattle.pkcs12.specs.declared.answers.Reading.{Reading}
+use Rattle.pkcs12.specs.declared.table.Table.{Table}
+use Rattle.buffer.specs.Text.{ascii, digits, decimal}
 use Rattle.listing.specs.Lines.{numberText, refusedLine}
-use Rattle.listing.proofs.Whole.{written}
+use Rattle.buffer.proofs.Outcomes.{written}
 use Rattle.pairing.specs.Pairs.{refusedBy}
 use Rattle.pairing.specs.declared.Paired.the-variants.{Certificate}
 use Rattle.pair_lines.specs.Lines.{answerText, pairLine, pairLines, answered, pairsText}

@@ -5,12 +5,12 @@ use lib.Dec.{eqb}
 use lib.ListN.{getD}
 use Rattle.der.specs.Choice.{if_then_else_}
 use Rattle.pkcs12.specs.Table.{noBag}
-use Rattle.pkcs12.specs.declared.BagKind.{BagKind}
-use Rattle.pkcs12.specs.declared.Table.{Table}
+use Rattle.pkcs12.specs.declared.kind.BagKind.{BagKind}
+use Rattle.pkcs12.specs.declared.table.Table.{Table}
 use Rattle.listing.specs.Lines.{bags}
 use Rattle.pairing.specs.Pairs.{isKey}
 
--- "Every line ends in one byte 0A"
+-- every line ends in one byte 0A
 unfoldable pub linesIn : List ℕ → ℕ
 linesIn [] = 0
 linesIn (b ∷ text) = (if eqb b 0x0A then 1 else 0) + linesIn text

@@ -2,3 +2,4 @@
 pub mod Lines
 pub mod Listed
 pub mod Counts
+pub mod Numbered

@@ -1,26 +1,27 @@
-// Writes the pairs of a file into a lent buffer: a line for each key bag with the row of its certificate, or with the
-// refusal; of a refused file the line of its refusal. docs/TESTS.md has the forms.
+// Writes the pairs of a file into a lent buffer: a line for each key bag with the row of its
+// certificate, or with the refusal; of a refused file the line of its refusal. docs/USING.md has
+// the forms.
 ghost use mathlib.Core.Path.{_≡_};
 ghost use Rattle.der.specs.Span.{Bytes};
-ghost use Rattle.pkcs12.specs.Report.{writtenReport};
-ghost use Rattle.listing.specs.Put.{Put};
+ghost use Rattle.buffer.specs.Report.{writtenReport};
+ghost use Rattle.buffer.specs.Placed.{Placed};
 ghost use Rattle.identities.specs.Identities.{certificateFor};
 ghost use Rattle.pair_lines.specs.Lines.{answerText, pairLine, bagLine, pairLines, answered};
 ghost use Rattle.pair_lines.specs.Listed.{pairsListed};
+use buffer::Written;
 use der::Fault;
 use pairing::Paired;
 use pkcs12::Answer;
 use pkcs12::BagKind;
 use pkcs12::Reading;
 use pkcs12::Table;
-use pkcs12::Written;
 
 // No text is longer: 67 bytes a line, and a line for each bag row.
-pub const TEXT_BYTES: usize = 4288;
+pub const PAIRS_BYTES: usize = 4288;
 
 // The row of a certificate, or the number of a refusal.
 fn answer_text(out: &mut [u8], at: usize, paired: Paired) -> usize
-    ensures { λ r. ⌜ Put (now (out .entry)) at (answerText paired) (now (out .exit)) r ⌝ }
+    ensures { λ r. ⌜ Placed (now (out .entry)) at (answerText paired) (now (out .exit)) r ⌝ }
 {
     match paired {
         Paired::Certificate(row) => listing::out::number(out, at, b": certificate bag ", row),
@@ -32,11 +33,11 @@ fn answer_text(out: &mut [u8], at: usize, paired: Paired) -> usize
 }
 
 fn pair_line(out: &mut [u8], at: usize, key: usize, paired: Paired) -> usize
-    ensures { λ r. ⌜ Put (now (out .entry)) at (pairLine key paired) (now (out .exit)) r ⌝ }
+    ensures { λ r. ⌜ Placed (now (out .entry)) at (pairLine key paired) (now (out .exit)) r ⌝ }
 {
     let number = listing::out::number(out, at, b"key bag ", key);
     let answer = answer_text(out, number, paired);
-    listing::out::text(out, answer, b"\n")
+    buffer::write::bytes(out, answer, b"\n")
 }
 
 // The line of a bag, if it is a key's.
@@ -48,7 +49,7 @@ fn bag_line(
     bag: usize,
     kind: BagKind,
 ) -> usize
-    ensures { λ r. ⌜ Put (now (out .entry)) at (bagLine kind bag (certificateFor table (now (file .entry)) bag))
+    ensures { λ r. ⌜ Placed (now (out .entry)) at (bagLine kind bag (certificateFor table (now (file .entry)) bag))
         (now (out .exit)) r ⌝ }
 {
     if pairing::is_key(kind) {
@@ -60,9 +61,9 @@ fn bag_line(
 
 // A line for each key bag, in the order of the rows.
 fn bag_lines(out: &mut [u8], table: Table, file: &[u8]) -> usize
-    ensures { λ r. ⌜ Put (now (out .entry)) 0 (pairLines table (now (file .entry))) (now (out .exit)) r ⌝ }
+    ensures { λ r. ⌜ Placed (now (out .entry)) 0 (pairLines table (now (file .entry))) (now (out .exit)) r ⌝ }
 {
-    let n = pkcs12::fewer(table.bag_count, pkcs12::BAG_ROWS);
+    let n = buffer::fewer(table.bag_count, pkcs12::BAG_ROWS);
     let mut to = 0;
     let mut i = 0;
     while i < n {
@@ -75,7 +76,7 @@ fn bag_lines(out: &mut [u8], table: Table, file: &[u8]) -> usize
 }
 
 fn answered(out: &mut [u8], answer: Answer, table: Table, file: &[u8]) -> usize
-    ensures { λ r. ⌜ Put (now (out .entry)) 0 (answered answer table (now (file .entry))) (now (out .exit)) r ⌝ }
+    ensures { λ r. ⌜ Placed (now (out .entry)) 0 (answered answer table (now (file .entry))) (now (out .exit)) r ⌝ }
 {
     match answer {
         Answer::Accepted => bag_lines(out, table, file),
@@ -83,23 +84,23 @@ fn answered(out: &mut [u8], answer: Answer, table: Table, file: &[u8]) -> usize
     }
 }
 
-// Writes the pairs of a file that was read. The text is made in a buffer that holds any, so that each key is paired
-// once, and nothing of `out` is written before it is known that the text fits.
+// Writes the pairs of a file that was read. The text is made in a buffer that holds any, so that
+// each key is paired once, and nothing of `out` is written before it is known that the text fits.
 pub fn list(file: &[u8], reading: Reading, out: &mut [u8]) -> Written
     ensures { λ r. ⌜ r ≡ pairsListed (now (file .entry)) reading (now (out .entry)) .answer ⌝ }
     ensures { λ r. ⌜ writtenReport r ≡ writtenReport (pairsListed (now (file .entry)) reading (now (out .entry)) .answer) ⌝ }
     ensures { λ _. ⌜ now (out .exit) ≡ pairsListed (now (file .entry)) reading (now (out .entry)) .buffer ⌝ }
     ensures { λ _. ⌜ Bytes (now (file .entry)) ⌝ }
 {
-    let mut text = [0u8; TEXT_BYTES];
+    let mut text = [0u8; PAIRS_BYTES];
     let answer = reading.answer;
     let n = answered(&mut text, answer, reading.table, file);
     if out.len() < n {
         return Written::Refused(Fault {
-            number: pkcs12::NO_ROOM,
+            number: buffer::SHORT_BUFFER,
             offset: 0,
         });
     }
-    let end = listing::out::text(out, 0, &text[0..n]);
+    let end = buffer::write::bytes(out, 0, &text[0..n]);
     Written::Length(n)
 }

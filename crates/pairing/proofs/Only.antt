@@ -1,4 +1,5 @@
--- The answers of pairing by the rows that match: the tests say what they should, and the list of matches has them all, in order.
+-- The answers of pairing by the rows that match: the tests say what they should, and the list of
+-- matches has them all, in order.
 use mathlib.Core.Bool.{Bool, true, false}
 use mathlib.Core.Logic.{_↔_, _⊎_, inl, inr}
 use mathlib.Core.Path.{_≡_, refl, sym, ap, _∙_}
@@ -8,16 +9,21 @@ use native.Mathlib.Omega.{arith}
 use borrow.Author.Tests.{leb-true, le-leb}
 use lib.ListN.{length, getD, List·getD-eq-default}
 use Rattle.der.proofs.Choices.{never, by-test, either}
-use Rattle.pkcs12.specs.Numbers.{notSound, noRow, noCertificate, moreThanOne}
-use Rattle.pkcs12.specs.Checks.{both, all, lies}
+use Rattle.buffer.specs.Numbers.{notSound}
+use Rattle.pkcs12.specs.Numbers.{noRow}
+use Rattle.pairing.specs.Numbers.{noCertificate, moreCertificates}
+use Rattle.der.specs.Choice.{both}
+use Rattle.pkcs12.specs.Checks.{all}
+use Rattle.buffer.specs.Range.{lies, bytesIn}
 use Rattle.pkcs12.specs.Sound.{Lies}
-use Rattle.pkcs12.specs.Table.{bytesIn}
-use Rattle.pkcs12.specs.declared.Range.{Range}
-use Rattle.pkcs12.specs.declared.BagKind.{BagKind}
-use Rattle.pkcs12.specs.declared.BagKind.the-variants.{Key, ShroudedKey, Certificate, Crl, Secret, Nested}
-use Rattle.pkcs12.proofs.SameBytes.{same-self, same-is}
-use Rattle.pairing.specs.Pairs.{noIdentity, isKey, isCertificate, idLies, sameId, pairsWith, matching, refusedBy, onlyOne, paired}
-use Rattle.pairing.specs.Only.{Matches, IdsLie, IsKey, Answered, answer-row, answer-11, answer-12, answer-13, answer-14}
+use Rattle.buffer.specs.declared.Range.{Range}
+use Rattle.pkcs12.specs.declared.kind.BagKind.{BagKind}
+use Rattle.pkcs12.specs.declared.kind.BagKind.the-variants.{Key, ShroudedKey, Certificate, Crl, Secret, Nested}
+use Rattle.buffer.proofs.SameBytes.{same-self, same-is}
+use Rattle.pairing.specs.Pairs.{noIdentity, isKey, isCertificate, idLies, sameId, pairsWith}
+use Rattle.pairing.specs.Pairs.{matching, refusedBy, onlyOne, paired}
+use Rattle.pairing.specs.Only.{Matches, IdsLie, IsKey, Answered, answer-row, answer-11}
+use Rattle.pairing.specs.Only.{answer-12, answer-13, answer-14}
 use Rattle.pairing.specs.declared.IdentityRow.{IdentityRow}
 use Rattle.pairing.specs.declared.Paired.{Paired}
 
@@ -45,13 +51,15 @@ unfolding idLies
 id-told s r f = by-test (λ u. u ≡ true) _ _ (r .«has_id») (λ h. lies-told s (r .id) (f h)) (λ h. refl)
 
 -- a test of each row, by its number
-all-says : {A : Type 0} (test : A → Bool) (d : A) (xs : List A) → all test xs ≡ true → (j : ℕ) → j < length xs → test (getD xs j d) ≡ true
+all-says : {A : Type 0} (test : A → Bool) (d : A) (xs : List A) → all test xs ≡ true → (j : ℕ) → j < length xs
+    → test (getD xs j d) ≡ true
 unfolding all
 all-says test d [] e j h = absurd (omega arith)
 all-says test d (x ∷ xs) e zero h = both-says (test x) (all test xs) e .0
 all-says test d (x ∷ xs) e (suc j) h = all-says test d xs (both-says (test x) (all test xs) e .1) j (omega arith)
 
-all-told : {A : Type 0} (test : A → Bool) (d : A) (xs : List A) → ((j : ℕ) → j < length xs → test (getD xs j d) ≡ true) → all test xs ≡ true
+all-told : {A : Type 0} (test : A → Bool) (d : A) (xs : List A)
+    → ((j : ℕ) → j < length xs → test (getD xs j d) ≡ true) → all test xs ≡ true
 unfolding all
 all-told test d [] f = refl
 all-told test d (x ∷ xs) f = rw (f 0 (omega arith)) (all-told test d xs (λ j h. f (suc j) (omega arith)))
@@ -63,7 +71,8 @@ ids-told : (s : List ℕ) (rows : List IdentityRow) → IdsLie s rows → all (i
 ids-told s rows f = all-told (idLies s) noIdentity rows (λ j h. id-told s (getD rows j noIdentity) (f j h))
 
 -- where a test of each row fails: at one of them
-all-fails : {A : Type 0} (test : A → Bool) (d : A) (xs : List A) → all test xs ≡ false → (j : ℕ) × (j < length xs) × (test (getD xs j d) ≡ false)
+all-fails : {A : Type 0} (test : A → Bool) (d : A) (xs : List A) → all test xs ≡ false
+    → (j : ℕ) × (j < length xs) × (test (getD xs j d) ≡ false)
 unfolding all
 all-fails test d [] e = never (sym e)
 all-fails test d (x ∷ xs) e =
@@ -131,7 +140,12 @@ module _ (s : List ℕ) (key : IdentityRow) where
   pairing-first n r rs e = record { index = 0; number = omega arith; there = omega arith; pairs = e }
 
   pairing-next : (n : ℕ) (r : IdentityRow) (rs : List IdentityRow) (j : ℕ) → Pairing (n + 1) rs j → Pairing n (r ∷ rs) j
-  pairing-next n r rs j p = record { index = suc (p .index); number = omega (arith, p .number); there = omega (arith, p .there); pairs = p .pairs }
+  pairing-next n r rs j p = record {
+    index = suc (p .index);
+    number = omega (arith, p .number);
+    there = omega (arith, p .there);
+    pairs = p .pairs;
+  }
 
   -- the first row, or one behind it
   pairing-of : {P : Type 0} (n : ℕ) (r : IdentityRow) (rs : List IdentityRow) (j : ℕ) → Pairing n (r ∷ rs) j
@@ -146,14 +160,17 @@ module _ (s : List ℕ) (key : IdentityRow) where
     later : (m : ℕ) → Pairing (n + 1) rs m → n < m
     later m p = omega (arith, p .number)
 
-    listed-first : (ms : List ℕ) → pairsWith s key r ≡ true → Listed (Pairing (n + 1) rs) ms → Listed (Pairing n (r ∷ rs)) (n ∷ ms)
+    listed-first : (ms : List ℕ) → pairsWith s key r ≡ true → Listed (Pairing (n + 1) rs) ms
+        → Listed (Pairing n (r ∷ rs)) (n ∷ ms)
     listed-first [] e l = (pairing-first n r rs e, λ i p. pairing-of n r rs i p (λ h q. h) (λ q. absurd (l i q)))
     listed-first (m ∷ []) e l = (later m (l .0), pairing-first n r rs e, pairing-next n r rs m (l .0))
     listed-first (m ∷ o ∷ ms) e l = (later m (l .1), pairing-first n r rs e, pairing-next n r rs m (l .1))
 
-    listed-next : (ms : List ℕ) → pairsWith s key r ≡ false → Listed (Pairing (n + 1) rs) ms → Listed (Pairing n (r ∷ rs)) ms
+    listed-next : (ms : List ℕ) → pairsWith s key r ≡ false → Listed (Pairing (n + 1) rs) ms
+        → Listed (Pairing n (r ∷ rs)) ms
     listed-next [] e l = λ j p. pairing-of n r rs j p (λ h q. never (sym e ∙ q)) (l j)
-    listed-next (m ∷ []) e l = (pairing-next n r rs m (l .0), λ i p. pairing-of n r rs i p (λ h q. never (sym e ∙ q)) (l .1 i))
+    listed-next (m ∷ []) e l =
+        (pairing-next n r rs m (l .0), λ i p. pairing-of n r rs i p (λ h q. never (sym e ∙ q)) (l .1 i))
     listed-next (m ∷ o ∷ ms) e l = (l .0, pairing-next n r rs m (l .1), pairing-next n r rs o (l .2))
 
   matched : (n : ℕ) (rows : List IdentityRow) → Listed (Pairing n rows) (matching s key n rows)
@@ -198,18 +215,20 @@ module _ (s : List ℕ) (rows : List IdentityRow) (k : ℕ) where
       → (IdsLie s rows → (IsKey rows k → ⊥) → P (refusedBy noRow))
       → (IdsLie s rows → IsKey rows k → ((j : ℕ) → Matches s rows k j → ⊥) → P (refusedBy noCertificate))
       → (IdsLie s rows → IsKey rows k → (j : ℕ) → Matches s rows k j → ((i : ℕ) → Matches s rows k i → i ≡ j) → P (Paired.Certificate j))
-      → (IdsLie s rows → IsKey rows k → (i j : ℕ) → i < j → Matches s rows k i → Matches s rows k j → P (refusedBy moreThanOne))
+      → (IdsLie s rows → IsKey rows k → (i j : ℕ) → i < j → Matches s rows k i → Matches s rows k j → P (refusedBy moreCertificates))
       → P (paired s rows k)
   unfolding paired onlyOne
   by-answer P sound key none one two =
       by-test P _ _ (all (idLies s) rows)
       (λ a.
       by-test P _ _ (isKey (getD rows k noIdentity .kind))
-      (λ b. go (ids-say s rows a) (row-says rows k b) (matching s (getD rows k noIdentity) 0 rows) (matched s (getD rows k noIdentity) 0 rows))
+      (λ b. go (ids-say s rows a) (row-says rows k b) (matching s (getD rows k noIdentity) 0 rows)
+      (matched s (getD rows k noIdentity) 0 rows))
       (λ b. key (ids-say s rows a) (λ q. never (sym b ∙ key-told _ (q .1)))))
       (λ a. sound (λ l. never (sym a ∙ ids-told s rows l)))
     where
-      go : IdsLie s rows → IsKey rows k → (ms : List ℕ) → Listed (Pairing s (getD rows k noIdentity) 0 rows) ms → P (onlyOne ms)
+      go : IdsLie s rows → IsKey rows k → (ms : List ℕ)
+          → Listed (Pairing s (getD rows k noIdentity) 0 rows) ms → P (onlyOne ms)
       go a b [] l = none a b (λ j m. l j (of-matches j m))
       go a b (j ∷ []) l = one a b j (matches-of j (l .0)) (λ i m. l .1 i (of-matches i m))
       go a b (i ∷ j ∷ ms) l = two a b i j (l .0) (matches-of i (l .1)) (matches-of j (l .2))
@@ -228,10 +247,13 @@ alone P i j n h p q f = omega (arith, f i p, f j q)
 
 module _ (s : List ℕ) (rows : List IdentityRow) (k : ℕ) where
   pub only : (j : ℕ)
-      → paired s rows k ≡ Paired.Certificate j ↔ (IdsLie s rows × IsKey rows k × Matches s rows k j × ((i : ℕ) → Matches s rows k i → i ≡ j))
+      → paired s rows k ≡ Paired.Certificate j
+      ↔ (IdsLie s rows × IsKey rows k × Matches s rows k j × ((i : ℕ) → Matches s rows k i → i ≡ j))
   only j = (
-    by-answer s rows k (λ x. x ≡ Paired.Certificate j → IdsLie s rows × IsKey rows k × Matches s rows k j × ((i : ℕ) → Matches s rows k i → i ≡ j))
-        (λ a. other _ _ (λ z. omega arith)) (λ a b. other _ _ (λ z. omega arith)) (λ a b c. other _ _ (λ z. omega arith))
+    by-answer s rows k (λ x. x ≡ Paired.Certificate j
+        → IdsLie s rows × IsKey rows k × Matches s rows k j × ((i : ℕ) → Matches s rows k i → i ≡ j))
+        (λ a. other _ _ (λ z. omega arith)) (λ a b. other _ _ (λ z. omega arith))
+        (λ a b c. other _ _ (λ z. omega arith))
         (λ a b i m u e. let z : i ≡ j = cc in (a, b, rw z at m, rw z at u))
         (λ a b i m l p q. other _ _ (λ z. omega arith)),
     λ f.
@@ -241,9 +263,11 @@ module _ (s : List ℕ) (rows : List IdentityRow) (k : ℕ) where
         (λ a b i m l p q. absurd (alone (Matches s rows k) i m j l p q (f .3))),
   )
 
-  pub refused-13 : paired s rows k ≡ refusedBy noCertificate ↔ (IdsLie s rows × IsKey rows k × ((j : ℕ) → Matches s rows k j → ⊥))
+  pub refused-13 : paired s rows k ≡ refusedBy noCertificate
+      ↔ (IdsLie s rows × IsKey rows k × ((j : ℕ) → Matches s rows k j → ⊥))
   refused-13 = (
-    by-answer s rows k (λ x. x ≡ refusedBy noCertificate → IdsLie s rows × IsKey rows k × ((j : ℕ) → Matches s rows k j → ⊥))
+    by-answer s rows k
+        (λ x. x ≡ refusedBy noCertificate → IdsLie s rows × IsKey rows k × ((j : ℕ) → Matches s rows k j → ⊥))
         (λ a. other _ _ (λ z. omega arith)) (λ a b. other _ _ (λ z. omega arith)) (λ a b c e. (a, b, c))
         (λ a b i m u. other _ _ (λ z. omega arith)) (λ a b i m l p q. other _ _ (λ z. omega arith)),
     λ f.
@@ -252,15 +276,15 @@ module _ (s : List ℕ) (rows : List IdentityRow) (k : ℕ) where
         (λ a b i m u. absurd (f .2 i m)) (λ a b i m l p q. absurd (f .2 i p)),
   )
 
-  pub refused-14 : paired s rows k ≡ refusedBy moreThanOne
+  pub refused-14 : paired s rows k ≡ refusedBy moreCertificates
       ↔ (IdsLie s rows × IsKey rows k × ((i : ℕ) × (j : ℕ) × (i < j) × Matches s rows k i × Matches s rows k j))
   refused-14 = (
     by-answer s rows k
-        (λ x. x ≡ refusedBy moreThanOne → IdsLie s rows × IsKey rows k × ((i : ℕ) × (j : ℕ) × (i < j) × Matches s rows k i × Matches s rows k j))
+        (λ x. x ≡ refusedBy moreCertificates → IdsLie s rows × IsKey rows k × ((i : ℕ) × (j : ℕ) × (i < j) × Matches s rows k i × Matches s rows k j))
         (λ a. other _ _ (λ z. omega arith)) (λ a b. other _ _ (λ z. omega arith)) (λ a b c. other _ _ (λ z. omega arith))
         (λ a b i m u. other _ _ (λ z. omega arith)) (λ a b i m l p q e. (a, b, (i, m, l, p, q))),
     λ f.
-        by-answer s rows k (λ x. x ≡ refusedBy moreThanOne)
+        by-answer s rows k (λ x. x ≡ refusedBy moreCertificates)
         (λ a. absurd (a (f .0))) (λ a b. absurd (b (f .1))) (λ a b c. absurd (c (f .2 .0) (f .2 .3)))
         (λ a b i m u. absurd (alone (Matches s rows k) _ _ i (f .2 .2) (f .2 .3) (f .2 .4) u)) (λ a b i m l p q. refl),
   )
@@ -272,7 +296,8 @@ module _ (s : List ℕ) (rows : List IdentityRow) (k : ℕ) where
         (λ a b i m u. other _ _ (λ z. omega arith)) (λ a b i m l p q. other _ _ (λ z. omega arith)),
     λ f.
         by-answer s rows k (λ x. x ≡ refusedBy noRow)
-        (λ a. absurd (a (f .0))) (λ a b. refl) (λ a b c. absurd (f .1 b)) (λ a b i m u. absurd (f .1 b)) (λ a b i m l p q. absurd (f .1 b)),
+        (λ a. absurd (a (f .0))) (λ a b. refl) (λ a b c. absurd (f .1 b)) (λ a b i m u. absurd (f .1 b))
+        (λ a b i m l p q. absurd (f .1 b)),
   )
 
   pub refused-11 : paired s rows k ≡ refusedBy notSound ↔ (IdsLie s rows → ⊥)
@@ -282,22 +307,26 @@ module _ (s : List ℕ) (rows : List IdentityRow) (k : ℕ) where
         (λ a b i m u. other _ _ (λ z. omega arith)) (λ a b i m l p q. other _ _ (λ z. omega arith)),
     λ f.
         by-answer s rows k (λ x. x ≡ refusedBy notSound)
-        (λ a. refl) (λ a b. absurd (f a)) (λ a b c. absurd (f a)) (λ a b i m u. absurd (f a)) (λ a b i m l p q. absurd (f a)),
+        (λ a. refl) (λ a b. absurd (f a)) (λ a b c. absurd (f a)) (λ a b i m u. absurd (f a))
+        (λ a b i m l p q. absurd (f a)),
   )
 
   -- the row whose id doesn't lie in the bytes
   pub where-11 : paired s rows k ≡ refusedBy notSound
-      → (j : ℕ) × (j < length rows) × (getD rows j noIdentity .«has_id» ≡ true) × (Lies s (getD rows j noIdentity .id) → ⊥)
+      → (j : ℕ) × (j < length rows) × (getD rows j noIdentity .«has_id» ≡ true)
+      × (Lies s (getD rows j noIdentity .id) → ⊥)
   where-11 e = go (all (idLies s) rows) refl
     where
-      go : (u : Bool) → all (idLies s) rows ≡ u → (j : ℕ) × (j < length rows) × (getD rows j noIdentity .«has_id» ≡ true) × (Lies s (getD rows j noIdentity .id) → ⊥)
+      go : (u : Bool) → all (idLies s) rows ≡ u → (j : ℕ) × (j < length rows)
+          × (getD rows j noIdentity .«has_id» ≡ true) × (Lies s (getD rows j noIdentity .id) → ⊥)
       go true a = absurd (refused-11 .0 e (ids-say s rows a))
       go false a =
           let p = all-fails (idLies s) noIdentity rows a in
           let q = id-fails s (getD rows (p .0) noIdentity) (p .2) in
           (p .0, p .1, q .0, q .1)
 
-  pub key-without-id : IdsLie s rows → IsKey rows k → getD rows k noIdentity .«has_id» ≡ false → paired s rows k ≡ refusedBy noCertificate
+  pub key-without-id : IdsLie s rows → IsKey rows k → getD rows k noIdentity .«has_id» ≡ false
+      → paired s rows k ≡ refusedBy noCertificate
   key-without-id a b h = refused-13 .1 (a, b, λ j m. never (sym h ∙ m .key-id))
 
   pub answers : Answered (paired s rows k)
@@ -312,8 +341,10 @@ both-empty [] [] p q = refl
 both-empty [] (b ∷ y) p q = absurd (omega arith)
 both-empty (a ∷ x) y p q = absurd (omega arith)
 
-pub empty-ids : (s : List ℕ) (rows : List IdentityRow) (k j : ℕ) → j < length rows → getD rows j noIdentity .kind ≡ Certificate
+pub empty-ids : (s : List ℕ) (rows : List IdentityRow) (k j : ℕ) → j < length rows
+    → getD rows j noIdentity .kind ≡ Certificate
     → getD rows k noIdentity .«has_id» ≡ true → getD rows j noIdentity .«has_id» ≡ true
-    → length (bytesIn s (getD rows k noIdentity .id)) ≡ 0 → length (bytesIn s (getD rows j noIdentity .id)) ≡ 0 → Matches s rows k j
+    → length (bytesIn s (getD rows k noIdentity .id)) ≡ 0
+    → length (bytesIn s (getD rows j noIdentity .id)) ≡ 0 → Matches s rows k j
 empty-ids s rows k j there kind key-id row-id p q =
     record { there = there; certificate = kind; key-id = key-id; row-id = row-id; equal = both-empty _ _ p q }

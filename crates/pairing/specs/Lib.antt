@@ -1,4 +1,7 @@
--- Pairing: what it answers (`Pairs`), what the answers say (`Only`), and how the code goes over the rows (`Search`, for its private functions).
+-- Pairing: what it answers (`Pairs`), what the answers say (`Only`), and how the code goes over the
+-- rows (`Search`, for its private functions).
+pub mod Numbers
+pub mod Numbered
 pub mod Pairs
 pub mod Report
 pub mod Only

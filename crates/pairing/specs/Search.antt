@@ -1,11 +1,13 @@
--- What the private functions of pairing compute. Nobody has to believe these: `pair` promises `paired`, and they are proved to come to that.
+-- What the private functions of pairing compute. Nobody has to believe these: `pair` promises
+-- `paired`, and they are proved to come to that.
 use mathlib.Core.Bool.{Bool, true}
 use mathlib.Core.List.{List, [], _∷_}
 use Prim.Native.Nat.{ℕ, _+_}
 use lib.Dec.{eqb}
-use Rattle.der.specs.Choice.{if_then_else_}
-use Rattle.pkcs12.specs.Numbers.{notSound, noRow, noCertificate, moreThanOne}
-use Rattle.pkcs12.specs.Checks.{both}
+use Rattle.der.specs.Choice.{if_then_else_, both}
+use Rattle.buffer.specs.Numbers.{notSound}
+use Rattle.pkcs12.specs.Numbers.{noRow}
+use Rattle.pairing.specs.Numbers.{noCertificate, moreCertificates}
 use Rattle.pairing.specs.Pairs.{noIdentity, isKey, idLies, pairsWith, refusedBy}
 use Rattle.pairing.specs.declared.IdentityRow.{IdentityRow}
 use Rattle.pairing.specs.declared.Paired.{Paired}
@@ -29,7 +31,8 @@ firstAt pairs count i row = if pairs then (if eqb count 0 then i else row) else 
 -- one row more
 unfoldable pub visited : List ℕ → ℕ → IdentityRow → Search → Search
 visited s i r st =
-    search (st .number) (keyAt (st .number) i (st .key) r) (both (st .sound) (idLies s r)) (tallied (pairsWith s (st .key) r) (st .count))
+    search (st .number) (keyAt (st .number) i (st .key) r) (both (st .sound) (idLies s r))
+    (tallied (pairsWith s (st .key) r) (st .count))
     (firstAt (pairsWith s (st .key) r) (st .count) i (st .row))
 
 -- all rows, where n stand before these
@@ -47,6 +50,6 @@ unfoldable pub answered : Search → Paired
 answered st =
     if st .sound then
     (if isKey (st .key .kind) then
-    (if eqb (st .count) 0 then refusedBy noCertificate else if eqb (st .count) 1 then Paired.Certificate (st .row) else refusedBy moreThanOne) else
+    (if eqb (st .count) 0 then refusedBy noCertificate else if eqb (st .count) 1 then Paired.Certificate (st .row) else refusedBy moreCertificates) else
     refusedBy noRow) else
     refusedBy notSound

@@ -1,16 +1,22 @@
-// Pairs keys with certificates by their ids. `pair` works over the caller's own list of identity rows; each row is judged by value.
+// Pairs keys with certificates by their ids. `pair` works over the caller's own list of identity
+// rows; each row is judged by value.
 ghost use mathlib.Core.Path.{_≡_};
 ghost use Rattle.der.specs.Element.{fault};
 ghost use Rattle.der.specs.Span.{Bytes};
-ghost use Rattle.pkcs12.specs.Checks.{both};
+ghost use Rattle.der.specs.Choice.{both};
 ghost use Rattle.pairing.specs.Pairs.{isKey, isCertificate, idLies, sameId, pairsWith, paired};
 ghost use Rattle.pairing.specs.Report.{pairedReport};
 ghost use Rattle.pairing.specs.Search.{keyAt, tallied, firstAt, visited, passed, begun, again, answered};
+use buffer::Range;
 use der::Fault;
 use pkcs12::BagKind;
-use pkcs12::Range;
 
-// What pairing goes by: a bag's kind, whether it has an id, and the id's range in the bytes (the scope's lent bytes).
+// The numbers of the refusals that only pairing reports.
+pub const NO_CERTIFICATE: u8 = 13;
+
+pub const MORE_CERTIFICATES: u8 = 14;
+
+// What pairing goes by: a bag's kind, whether it has an id, and the id's range in the lent bytes.
 pub struct IdentityRow {
     pub kind: BagKind,
     pub has_id: bool,
@@ -31,8 +37,9 @@ pub enum Paired {
     Refused(Fault),
 }
 
-// What is known after some rows: the number of the key's row, that row once it was met, whether every id lies in the bytes, and of the certificates
-// with the key's id how many there are, two standing for more, and the row of the first.
+// What is known after some rows: the number of the key's row, that row once it was met, whether
+// every id lies in the bytes, and of the certificates with the key's id how many there are, two
+// standing for more, and the row of the first.
 struct Search {
     number: usize,
     key: IdentityRow,
@@ -103,7 +110,7 @@ fn same_id(bytes: &[u8], key: IdentityRow, row: IdentityRow) -> bool
     }
     let mine = key.id;
     let other = row.id;
-    pkcs12::same(mine.part(bytes), other.part(bytes))
+    buffer::same(mine.part(bytes), other.part(bytes))
 }
 
 // Whether a row is a certificate's with the key's id.
@@ -223,7 +230,7 @@ fn answer(state: Search) -> Paired
     ensures { λ r. ⌜ r ≡ answered state ⌝ }
 {
     if !state.sound {
-        return refused(pkcs12::NOT_SOUND);
+        return refused(buffer::NOT_SOUND);
     }
     let key = state.key;
     let kind = key.kind;
@@ -232,12 +239,12 @@ fn answer(state: Search) -> Paired
     }
     let count = state.count;
     if count == 0 {
-        return refused(pkcs12::NO_CERTIFICATE);
+        return refused(NO_CERTIFICATE);
     }
     if count == 1 {
         return Paired::Certificate(state.row);
     }
-    refused(pkcs12::MORE_THAN_ONE)
+    refused(MORE_CERTIFICATES)
 }
 
 // The only certificate row with the id of the key in row `key`.
@@ -253,7 +260,8 @@ pub fn pair(rows: &[IdentityRow], bytes: &[u8], key: usize) -> Paired
     answer(second)
 }
 
-// The same of as many rows as a table has bags, by value: a caller of this is proved without a walk.
+// The same of as many rows as a table has bags, by value: a caller of this is proved without a
+// walk.
 pub fn pair_all(rows: [IdentityRow; pkcs12::BAG_ROWS], bytes: &[u8], key: usize) -> Paired
     ensures { λ r. ⌜ r ≡ paired (now (bytes .entry)) rows key ⌝ }
     ensures { λ r. ⌜ pairedReport r ≡ pairedReport (paired (now (bytes .entry)) rows key) ⌝ }

@@ -1,26 +1,28 @@
--- Tables that differ only in what is ignored show the same reading, pass the same tests, and are written alike.
+-- Tables that differ only in what is ignored show the same reading, pass the same tests, and are
+-- written alike.
 use mathlib.Core.Bool.{Bool}
 use mathlib.Core.Logic.{_↔_}
 use mathlib.Core.Path.{_≡_, refl, sym, _∙_}
 use mathlib.Core.List.{List, [], _∷_, map}
 use Prim.Native.Nat.{ℕ}
 use Rattle.pkcs12.specs.Table.{contentIn, safeIn, safeShown, bagShown, shown, rowsIn, valuesOf, readingOf}
-use Rattle.pkcs12.specs.Accepted.{Each}
+use Rattle.der.specs.Named.{Each}
 use Rattle.pkcs12.specs.Sound.{PartsLie, SafeLies, Sound}
-use Rattle.pkcs12.specs.Checks.{all, countsFit, isTyped, isCertificate, safeHolds, bagHolds}
-use Rattle.pkcs12.specs.Checks.{safeTest, bagTest, rowsTest, keepsRules}
+use Rattle.pkcs12.specs.Checks.{all, countsFit, isTyped, isCertificate, safeHolds, bagHolds, safeTest, bagTest}
+use Rattle.pkcs12.specs.Checks.{rowsTest, keepsRules}
 use Rattle.pkcs12.specs.Written.{fileOf, writeFile}
 use Rattle.pkcs12.specs.Alike.{SafePartsAlike, BagPartsAlike, SafesAlike, BagsAlike, Pairwise, Alike}
-use Rattle.pkcs12.specs.declared.Parts.{Parts}
-use Rattle.pkcs12.specs.declared.SafeKind.{SafeKind}
-use Rattle.pkcs12.specs.declared.SafeKind.the-variants.{Plain, Encrypted}
-use Rattle.pkcs12.specs.declared.BagKind.{BagKind}
-use Rattle.pkcs12.specs.declared.BagKind.the-variants.{Key, ShroudedKey, Certificate, Crl, Secret, Nested}
-use Rattle.pkcs12.specs.declared.SafeRow.{SafeRow}
-use Rattle.pkcs12.specs.declared.BagRow.{BagRow}
-use Rattle.pkcs12.specs.declared.Table.{Table}
+use Rattle.pkcs12.specs.declared.row.Parts.{Parts}
+use Rattle.pkcs12.specs.declared.kind.SafeKind.{SafeKind}
+use Rattle.pkcs12.specs.declared.kind.SafeKind.the-variants.{Plain, Encrypted}
+use Rattle.pkcs12.specs.declared.kind.BagKind.{BagKind}
+use Rattle.pkcs12.specs.declared.kind.BagKind.the-variants.{Key, ShroudedKey, Certificate, Crl, Secret, Nested}
+use Rattle.pkcs12.specs.declared.row.SafeRow.{SafeRow}
+use Rattle.pkcs12.specs.declared.row.BagRow.{BagRow}
+use Rattle.pkcs12.specs.declared.table.Table.{Table}
 
--- ---- the parts that a kind uses are all that is looked at: what is shown, what is tested, and where ranges lie
+-- ---- the parts that a kind uses are all that is looked at: what is shown, what is tested, and
+-- where ranges lie
 
 module _ (s : List ℕ) where
   safe-parts : (k : SafeKind) (p q : Parts) → SafePartsAlike k p q

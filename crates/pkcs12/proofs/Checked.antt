@@ -1,4 +1,5 @@
--- The tests of a table say exactly that it is sound: counts, ranges and contents by `keepsRules`, the order of the rows by the reading that they show.
+-- The tests of a table say exactly that it is sound: counts, ranges and contents by `keepsRules`,
+-- the order of the rows by the reading that they show.
 use mathlib.Core.Bool.{Bool, true, false}
 use mathlib.Core.Logic.{_↔_}
 use mathlib.Core.Path.{_≡_, refl, sym, ap, _∙_}
@@ -10,7 +11,7 @@ use native.Mathlib.Omega.{arith}
 use lib.Dec.{leb, ltb, eqb}
 use lib.ListN.{length, getD, take, length-append, length-take, length-map}
 use borrow.Author.Tests.{ltb-true, leb-true, eqb-true, lt-ltb, le-leb, eq-eqb, ne-eqb}
-use Rattle.der.specs.Choice.{if_then_else_}
+use Rattle.der.specs.Choice.{if_then_else_, both}
 use Rattle.der.specs.Numbers.{opaqueLevels}
 use Rattle.der.specs.Element.{cursor, wholeOf}
 use Rattle.der.specs.Octets.{IdentifierRule}
@@ -22,28 +23,41 @@ use Rattle.der.proofs.Laws.{identifier-rule-iff, opaque-iff, elements-iff}
 use Rattle.der.proofs.Choices.{never, by-test}
 use Rattle.der.proofs.Spans.{span-whole, span-same, span-to, bytes-drop, bytes-take}
 use Rattle.pkcs12.specs.Numbers.{safeRows, bagRows, attributeRows}
-use Rattle.pkcs12.specs.Identifiers.{sameBytes}
-use Rattle.pkcs12.specs.Syntax.{Leaf, Attribute, Set, absent, present, Bags, none, bag, nest, Safe, plain, encrypted, Pfx}
+use Rattle.buffer.specs.Bytes.{sameBytes}
+use Rattle.pkcs12.specs.Syntax.{Leaf, Attribute, Set, absent, present, Bags, none, bag, nest, Safe, plain}
+use Rattle.pkcs12.specs.Syntax.{encrypted, Pfx}
 use Rattle.pkcs12.specs.Encode.{encode}
-use Rattle.pkcs12.specs.Valid.{Opaque, Opaques, AtMostOne, OpaqueWith, ValidSealed, ValidLeaf, ValidAttribute, ValidAttributes, ValidSet, ValidBags, ValidSafe, ValidSafes, ValidMac, Valid, bagsIn, attributesOf, attributesIn, bagsInSafes, attributesInSafes}
-use Rattle.pkcs12.specs.Values.{SafeValue, empty-safe, plain-safe, encrypted-safe, Content, empty-bag, leaf, nested, BagValue, AttributeValue, Values, bagValues, ownValues, setValues, attributeValues, safeValues, bagsOfSafes, attributesOfSafes, rowsOf, sameEnclosing, ownOf, pastOwn, setOf, pastSet, Taken, nothing, before, onContent, onLevel, bagsFrom, alsoSafe, contentsFrom, safesFrom, withMac, treeOf}
-use Rattle.pkcs12.specs.Table.{Rows, bytesIn, sealedIn, contentIn, safeIn, safeShown, bagShown, attributeShown, macShown, shown, rowsIn, valuesOf, readingOf}
-use Rattle.pkcs12.specs.Accepted.{Each}
+use Rattle.pkcs12.specs.Valid.{Opaque, Opaques, AtMostOne, OpaqueWith, ValidSealed, ValidLeaf, ValidAttribute}
+use Rattle.pkcs12.specs.Valid.{ValidAttributes, ValidSet, ValidBags, ValidSafe, ValidSafes, ValidMac, Valid}
+use Rattle.pkcs12.specs.Valid.{bagsIn, attributesOf, attributesIn, bagsInSafes, attributesInSafes}
+use Rattle.pkcs12.specs.Values.{SafeValue, empty-safe, plain-safe, encrypted-safe, Content, empty-bag, leaf}
+use Rattle.pkcs12.specs.Values.{nested, BagValue, AttributeValue, Values, bagValues, ownValues, setValues}
+use Rattle.pkcs12.specs.Values.{attributeValues, safeValues, bagsOfSafes, attributesOfSafes, rowsOf}
+use Rattle.pkcs12.specs.Values.{sameEnclosing, ownOf, pastOwn, setOf, pastSet, Taken, nothing, before}
+use Rattle.pkcs12.specs.Values.{onContent, onLevel, bagsFrom, alsoSafe, contentsFrom, safesFrom, withMac}
+use Rattle.pkcs12.specs.Values.{treeOf}
+use Rattle.pkcs12.specs.Table.{Rows, sealedIn, contentIn, safeIn, safeShown, bagShown, attributeShown, macShown}
+use Rattle.pkcs12.specs.Table.{shown, rowsIn, valuesOf, readingOf}
+use Rattle.buffer.specs.Range.{bytesIn, lies}
+use Rattle.der.specs.Named.{Each}
 use Rattle.pkcs12.specs.Sound.{Lies, SealedLies, TypedLies, PartsLie, SafeLies, RangesLie, Sound}
-use Rattle.pkcs12.specs.Checks.{both, all, countsFit, lies, namesType, oneOpaque, allOpaque, holdsOpaque, holdsAll, holdsAtMostOne, hasTag, holdsTagged, isSealed, isTyped, isCertificate, safeHolds, bagHolds, safeTest, bagTest, attributeTest, macTest, rowsTest, keepsRules}
+use Rattle.pkcs12.specs.Checks.{all, countsFit, namesType, oneOpaque, allOpaque, holdsOpaque, holdsAll}
+use Rattle.pkcs12.specs.Checks.{holdsAtMostOne, hasTag, holdsTagged, isSealed, isTyped, isCertificate}
+use Rattle.pkcs12.specs.Checks.{safeHolds, bagHolds, safeTest, bagTest, attributeTest, macTest, rowsTest}
+use Rattle.pkcs12.specs.Checks.{keepsRules}
 use Rattle.pkcs12.specs.Written.{writtenAs, fileOf}
-use Rattle.pkcs12.specs.declared.Range.{Range}
-use Rattle.pkcs12.specs.declared.Parts.{Parts}
-use Rattle.pkcs12.specs.declared.SafeKind.{SafeKind}
-use Rattle.pkcs12.specs.declared.SafeKind.the-variants.{Plain, Encrypted}
-use Rattle.pkcs12.specs.declared.BagKind.{BagKind}
-use Rattle.pkcs12.specs.declared.BagKind.the-variants.{Key, ShroudedKey, Certificate, Crl, Secret, Nested}
-use Rattle.pkcs12.specs.declared.Enclosing.{Enclosing}
-use Rattle.pkcs12.specs.declared.Enclosing.the-variants.{Bag}
-use Rattle.pkcs12.specs.declared.AttributeRow.{AttributeRow}
-use Rattle.pkcs12.specs.declared.Mac.{Mac}
-use Rattle.pkcs12.specs.declared.Table.{Table}
-use Rattle.pkcs12.proofs.SameBytes.{same-self, same-is}
+use Rattle.buffer.specs.declared.Range.{Range}
+use Rattle.pkcs12.specs.declared.row.Parts.{Parts}
+use Rattle.pkcs12.specs.declared.kind.SafeKind.{SafeKind}
+use Rattle.pkcs12.specs.declared.kind.SafeKind.the-variants.{Plain, Encrypted}
+use Rattle.pkcs12.specs.declared.kind.BagKind.{BagKind}
+use Rattle.pkcs12.specs.declared.kind.BagKind.the-variants.{Key, ShroudedKey, Certificate, Crl, Secret, Nested}
+use Rattle.pkcs12.specs.declared.row.Enclosing.{Enclosing}
+use Rattle.pkcs12.specs.declared.row.Enclosing.the-variants.{Bag}
+use Rattle.pkcs12.specs.declared.row.AttributeRow.{AttributeRow}
+use Rattle.pkcs12.specs.declared.row.Mac.{Mac}
+use Rattle.pkcs12.specs.declared.table.Table.{Table}
+use Rattle.buffer.proofs.SameBytes.{same-self, same-is}
 use Rattle.pkcs12.proofs.Parents.{by-opaque, by-elements}
 use Rattle.pkcs12.proofs.Shown.{each-join}
 use Rattle.pkcs12.proofs.Rows.{tree-rows}
@@ -182,7 +196,9 @@ module _ (s : List ℕ) (bytes : Bytes s) where
   unfolding isSealed holdsAtMostOne
   sealed-says p =
       says-as
-      (says-both (names-says (p .identifier)) (says-both (says-both (lies-says (p .parameters)) (at-most-says (bytesIn s (p .parameters)) (part-bytes (p .parameters)))) (lies-says (p .value))))
+      (says-both (names-says (p .identifier))
+      (says-both (says-both (lies-says (p .parameters))
+      (at-most-says (bytesIn s (p .parameters)) (part-bytes (p .parameters)))) (lies-says (p .value))))
       (λ q. ((q .0 .0, q .1 .0 .0, q .1 .1), record { identifier = q .0 .1; parameters = q .1 .0 .1 }))
       (λ q. ((q .0 .0, q .1 .identifier), ((q .0 .1, q .1 .parameters), q .0 .2)))
 
@@ -279,7 +295,8 @@ record Fine (l : ℕ) (t : Taken) : Type 0 where
   rest : Each GoodAttribute (t .rest)
 
 -- what holds of each answer holds of the one that is chosen
-by-good : {A : Type 0} (P : A → Type 0) (a : A) (x : Content) (single : Leaf → A) (nests : A) → GoodContent x → ((y : Leaf) → ValidLeaf y → P (single y)) → P nests
+by-good : {A : Type 0} (P : A → Type 0) (a : A) (x : Content) (single : Leaf → A) (nests : A) → GoodContent x
+    → ((y : Leaf) → ValidLeaf y → P (single y)) → P nests
     → P (onContent x a single nests)
 by-good P a empty-bag single nests g q r = absurd g
 by-good P a (leaf y) single nests g q r = q y g
@@ -346,7 +363,8 @@ safes-valid k n (empty-safe ∷ xs) rows rest g p q = tt
 safes-valid k n (plain-safe ∷ xs) rows rest g p q =
     let t : Taken = contentsFrom k n rows rest in
     let h : Fine _ t = fine-from (length rows) _ k Enclosing.None n rows rest p q in
-    also-valid (plain (t .bags)) (safesFrom (k + 1) (t .next) xs (t .rows) (t .rest)) (h .bags) (safes-valid (k + 1) (t .next) xs (t .rows) (t .rest) (g .1) (h .rows) (h .rest))
+    also-valid (plain (t .bags)) (safesFrom (k + 1) (t .next) xs (t .rows) (t .rest)) (h .bags)
+    (safes-valid (k + 1) (t .next) xs (t .rows) (t .rest) (g .1) (h .rows) (h .rest))
 safes-valid k n (encrypted-safe x ∷ xs) rows rest g p q =
     also-valid (encrypted x) (safesFrom (k + 1) n xs rows rest) (g .0) (safes-valid (k + 1) n xs rows rest (g .1) p q)
 
@@ -357,7 +375,9 @@ nothing-is x e = let z : _≡_ {A = ℕ} 0 1 = cc in absurd (omega arith)
 -- the safes and the MAC of a reading that good rows show
 good-valid : (v : Values) (x : Pfx) → GoodValues v → treeOf v ≡ some x → ValidSafes (x .safes) × ValidMac (x .mac)
 unfolding treeOf
-good-valid v x g h = go (safesFrom 0 0 (v .safes) (v .bags) (v .attributes)) (safes-valid 0 0 (v .safes) (v .bags) (v .attributes) (g .safes) (g .bags) (g .attributes)) h
+good-valid v x g h =
+    go (safesFrom 0 0 (v .safes) (v .bags) (v .attributes))
+    (safes-valid 0 0 (v .safes) (v .bags) (v .attributes) (g .safes) (g .bags) (g .attributes)) h
   where
     go : (o : Option (List Safe)) → AnyValid o → withMac (v .mac) o ≡ some x → ValidSafes (x .safes) × ValidMac (x .mac)
     go option.none s e = nothing-is x e
@@ -404,7 +424,8 @@ bag-rows (suc l) k e n (nest inner set xs) v =
     (rowed-more tt (rowed-join (d .0) (q .0)) refl, rowed-join (d .1) (rowed-join (set-rows n set (v .1)) (q .1)))
 
 safe-rows : (k n : ℕ) (xs : List Safe) → ValidSafes xs
-    → Rowed GoodSafe (safeValues xs) (length xs) × Rowed GoodBag (bagsOfSafes k n xs) (bagsInSafes xs) × Rowed GoodAttribute (attributesOfSafes n xs) (attributesInSafes xs)
+    → Rowed GoodSafe (safeValues xs) (length xs) × Rowed GoodBag (bagsOfSafes k n xs) (bagsInSafes xs)
+    × Rowed GoodAttribute (attributesOfSafes n xs) (attributesInSafes xs)
 unfolding safeValues bagsOfSafes attributesOfSafes ValidSafes bagsInSafes attributesInSafes
 safe-rows k n [] v = (rowed-none, rowed-none, rowed-none)
 safe-rows k n (plain x ∷ xs) v =
@@ -432,12 +453,15 @@ shown-long : {A B : Type 0} (f : A → B) (n : ℕ) (xs : List A) → length (ma
 shown-long f n xs = rw (length-map (take n xs) f, length-take n xs) (omega arith)
 
 module _ (t : Table) (s : List ℕ) where
-  values-long : (length (valuesOf t s .safes) ≤ t .«safe_count») × (length (valuesOf t s .bags) ≤ t .«bag_count») × (length (valuesOf t s .attributes) ≤ t .«attribute_count»)
+  values-long : (length (valuesOf t s .safes) ≤ t .«safe_count») × (length (valuesOf t s .bags) ≤ t .«bag_count»)
+      × (length (valuesOf t s .attributes) ≤ t .«attribute_count»)
   unfolding valuesOf shown rowsIn
   values-long = (shown-long _ _ (t .safes), shown-long _ _ (t .bags), shown-long _ _ (t .attributes))
 
   keeps-says : Bytes s
-      → Says (keepsRules t s) (((t .«safe_count» ≤ safeRows) × ((t .«bag_count» ≤ bagRows) × (t .«attribute_count» ≤ attributeRows))) × (RangesLie s (rowsIn t) (t .mac) × GoodValues (valuesOf t s)))
+      → Says (keepsRules t s)
+      (((t .«safe_count» ≤ safeRows) × ((t .«bag_count» ≤ bagRows) × (t .«attribute_count» ≤ attributeRows)))
+      × (RangesLie s (rowsIn t) (t .mac) × GoodValues (valuesOf t s)))
   unfolding keepsRules countsFit valuesOf
   keeps-says b = says-both (says-both (says-le _ _) (says-both (says-le _ _) (says-le _ _))) (table-says s b (rowsIn t) (t .mac))
 

@@ -15,15 +15,16 @@ use Rattle.pkcs12.specs.Valid.{Valid, Opaques}
 use Rattle.pkcs12.specs.Elements.{opaqueCount, elements}
 use Rattle.pkcs12.specs.Table.{Rows, tableOf, rowsIn, valuesOf, readingOf}
 use Rattle.pkcs12.specs.Laid.{ElementLaid, PfxLaid}
-use Rattle.pkcs12.specs.Accepted.{IsAccepted, Follows, tableFrom, readingFrom, endToEnd, Each}
+use Rattle.pkcs12.specs.Accepted.{IsAccepted, Follows, tableFrom, readingFrom, endToEnd}
+use Rattle.der.specs.Named.{Each}
 use Rattle.pkcs12.specs.Sound.{Sound}
-use Rattle.pkcs12.specs.declared.Range.{Range}
-use Rattle.pkcs12.specs.declared.Mac.{Mac}
-use Rattle.pkcs12.specs.declared.Table.{Table}
+use Rattle.buffer.specs.declared.Range.{Range}
+use Rattle.pkcs12.specs.declared.row.Mac.{Mac}
+use Rattle.pkcs12.specs.declared.table.Table.{Table}
 use Rattle.pkcs12.proofs.Rows.{rows-tree}
 use Rattle.pkcs12.proofs.Shown.{pfx-shown, pfx-lies}
-use Rattle.pkcs12.proofs.CompleteRows.{complete}
-use Rattle.pkcs12.proofs.SoundFile.{FileIs, sound, accepted-size}
+use Rattle.pkcs12.proofs.EncodedRows.{complete}
+use Rattle.pkcs12.proofs.AcceptedFile.{FileIs, sound, accepted-size}
 use Rattle.pkcs12.proofs.Unique.{encode-unique}
 use Rattle.pkcs12.proofs.Parents.{opaques-count}
 use Rattle.pkcs12.proofs.Long.{elements-long}
@@ -45,7 +46,8 @@ unfolding tableOf
 rest-in-table st m = (refl, refl)
 
 counts-in-table : (st : Rows) (m : Mac)
-    → (tableOf st m .«safe_count» ≡ length (st .safes)) × (tableOf st m .«bag_count» ≡ length (st .bags)) × (tableOf st m .«attribute_count» ≡ length (st .attributes))
+    → (tableOf st m .«safe_count» ≡ length (st .safes)) × (tableOf st m .«bag_count» ≡ length (st .bags))
+    × (tableOf st m .«attribute_count» ≡ length (st .attributes))
 unfolding tableOf
 counts-in-table st m = (refl, refl, refl)
 

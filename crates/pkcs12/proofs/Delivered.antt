@@ -1,4 +1,5 @@
--- What writing does in each of its four cases; and that a sound table is written, as the one file with its reading.
+-- What writing does in each of its four cases; and that a sound table is written, as the one file
+-- with its reading.
 use mathlib.Core.Path.{_≡_, ap, _∙_}
 use mathlib.Core.List.{List}
 use mathlib.Core.Option.{some}
@@ -7,18 +8,19 @@ use Prim.Native.Nat.{ℕ, _≤_, _<_}
 use lib.ListN.{length}
 use borrow.Author.Tests.{lt-ltb, le-ltb}
 use Rattle.der.specs.Span.{Bytes}
-use Rattle.pkcs12.specs.Numbers.{fileBytes, tooLong, noRoom, notSound}
+use Rattle.buffer.specs.Numbers.{fileBytes, tooLong, shortBuffer, notSound}
 use Rattle.pkcs12.specs.Encode.{encode}
 use Rattle.pkcs12.specs.Accepted.{IsAccepted, tableFrom}
 use Rattle.pkcs12.specs.Sound.{Sound}
-use Rattle.pkcs12.specs.Written.{fileOf, Outcome, refusal, success, writeFile}
+use Rattle.pkcs12.specs.Written.{fileOf, writeFile}
+use Rattle.buffer.specs.Written.{Outcome, refusal, success}
 use Rattle.pkcs12.specs.Delivered.{Delivered}
-use Rattle.pkcs12.specs.declared.Table.{Table}
+use Rattle.pkcs12.specs.declared.table.Table.{Table}
 use Rattle.pkcs12.proofs.Checked.{sound-file}
 use Rattle.pkcs12.proofs.Corollaries.{accepted-follows}
 use Rattle.pkcs12.proofs.Writing.{written-is-read, only-file, read-then-written}
 
--- "Order: 11, 9, 10.": the four cases
+-- Rule 6.8, the order 11, 9, 10: the four cases
 module _ (t : Table) (s buffer : List ℕ) where
   pub writes-none : fileOf t s ≡ option.none → writeFile t s buffer ≡ refusal notSound buffer
   unfolding writeFile
@@ -29,7 +31,7 @@ module _ (t : Table) (s buffer : List ℕ) where
     unfolding writeFile
     writes-long a = rw (h, lt-ltb fileBytes (length f) a)
 
-    pub writes-short : length f ≤ fileBytes → length buffer < length f → writeFile t s buffer ≡ refusal noRoom buffer
+    pub writes-short : length f ≤ fileBytes → length buffer < length f → writeFile t s buffer ≡ refusal shortBuffer buffer
     unfolding writeFile
     writes-short a b = rw (h, le-ltb fileBytes (length f) a, lt-ltb (length buffer) (length f) b)
 

@@ -7,11 +7,12 @@ use lib.ListN.{length, length-append}
 use Rattle.pkcs12.specs.Numbers.{safeRows, bagRows, attributeRows}
 use Rattle.pkcs12.specs.Table.{Rows}
 use Rattle.pkcs12.specs.Walk.{counting, addSafe, addBag, addAttribute}
-use Rattle.pkcs12.specs.declared.SafeRow.{SafeRow}
-use Rattle.pkcs12.specs.declared.BagRow.{BagRow}
-use Rattle.pkcs12.specs.declared.AttributeRow.{AttributeRow}
+use Rattle.pkcs12.specs.declared.row.SafeRow.{SafeRow}
+use Rattle.pkcs12.specs.declared.row.BagRow.{BagRow}
+use Rattle.pkcs12.specs.declared.row.AttributeRow.{AttributeRow}
 
--- A list of rows, for a table that holds n of them, grew from x to y by a. Proved once, for every kind of row.
+-- A list of rows, for a table that holds n of them, grew from x to y by a. Proved once, for every
+-- kind of row.
 pub record Longer {A : Type 0} (n : ℕ) (x y a : List A) : Type 0 where
   pub lists : y ≡ x ++ a
   pub fits : length x ≤ n → length y ≤ n

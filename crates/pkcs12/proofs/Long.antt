@@ -7,15 +7,20 @@ use native.Mathlib.Omega.{arith}
 use lib.Dec.{eqb}
 use lib.ListN.{length, length-append}
 use Rattle.der.specs.Choice.{if_then_else_}
-use Rattle.der.specs.Octets.{tlv}
+use Rattle.der.specs.Octets.{tlv, integer}
 use Rattle.der.proofs.Octets.{tlv-long}
 use Rattle.der.proofs.Trees.{tree-long, trees-long}
 use Rattle.pkcs12.specs.Numbers.{defaultIterations}
-use Rattle.pkcs12.specs.Syntax.{Algorithm, Sealed, Leaf, key, shrouded, typed, Attribute, Set, absent, present, Bags, none, bag, nest, Safe, plain, encrypted, MacData, Pfx}
-use Rattle.pkcs12.specs.Encode.{integer, algorithmBytes, sealedBytes, contentInfo, dataBytes, attributeBytes, attributesBytes, setBytes, leafBytes, bagBytes, bagsBytes, encryptedInfo, safeBytes, safesBytes, iterationsBytes, macBytes, encode}
-use Rattle.pkcs12.specs.Elements.{opaqueCount, algorithmCount, sealedCount, leafCount, attributesCount, setCount, bagsCount, safeCount, safesCount, macCount, elements}
-use Rattle.pkcs12.specs.Valid.{Opaque, Opaques, AtMostOne, ValidAlgorithm, ValidSealed, ValidLeaf, ValidAttributes, ValidSet, ValidBags, ValidSafe, ValidSafes, ValidMac, Valid}
-use Rattle.pkcs12.specs.declared.BagKind.{BagKind}
+use Rattle.pkcs12.specs.Syntax.{Algorithm, Sealed, Leaf, key, shrouded, typed, Attribute, Set, absent, present}
+use Rattle.pkcs12.specs.Syntax.{Bags, none, bag, nest, Safe, plain, encrypted, MacData, Pfx}
+use Rattle.pkcs12.specs.Encode.{algorithmBytes, sealedBytes, contentInfo, dataBytes, attributeBytes}
+use Rattle.pkcs12.specs.Encode.{attributesBytes, setBytes, leafBytes, bagBytes, bagsBytes, encryptedInfo}
+use Rattle.pkcs12.specs.Encode.{safeBytes, safesBytes, iterationsBytes, macBytes, encode}
+use Rattle.pkcs12.specs.Elements.{opaqueCount, algorithmCount, sealedCount, leafCount, attributesCount}
+use Rattle.pkcs12.specs.Elements.{setCount, bagsCount, safeCount, safesCount, macCount, elements}
+use Rattle.pkcs12.specs.Valid.{Opaque, Opaques, AtMostOne, ValidAlgorithm, ValidSealed, ValidLeaf}
+use Rattle.pkcs12.specs.Valid.{ValidAttributes, ValidSet, ValidBags, ValidSafe, ValidSafes, ValidMac, Valid}
+use Rattle.pkcs12.specs.declared.kind.BagKind.{BagKind}
 use Rattle.pkcs12.proofs.Parents.{opaque-count, opaques-count, nothing-count}
 
 -- two bytes at least for each of n elements

@@ -1,4 +1,5 @@
--- The identifiers that the scope names: each keeps the rule of an identifier, and each kind of bag is named by its own.
+-- The identifiers of Rules 3.14 and 3.23: each keeps the rule of an identifier, and each kind of
+-- bag is named by its own.
 use mathlib.Core.Bool.{true, false}
 use mathlib.Core.Path.{_≡_, refl}
 use mathlib.Core.List.{List}
@@ -7,11 +8,12 @@ use Rattle.der.specs.Content.{parts, identifierBody}
 use Rattle.der.specs.Octets.{IdentifierRule}
 use Rattle.der.proofs.Choices.{never, by-test}
 use Rattle.der.proofs.Content.{identifier-rule}
-use Rattle.pkcs12.specs.Identifiers.{dataType, encryptedType, identifierOf, kindOf, sameBytes}
+use Rattle.pkcs12.specs.Identifiers.{dataType, encryptedType, identifierOf, kindOf}
+use Rattle.buffer.specs.Bytes.{sameBytes}
 use Rattle.pkcs12.specs.Walk.{onKind}
-use Rattle.pkcs12.specs.declared.BagKind.{BagKind}
-use Rattle.pkcs12.specs.declared.BagKind.the-variants.{Key, ShroudedKey, Certificate, Crl, Secret, Nested}
-use Rattle.pkcs12.proofs.SameBytes.{same-is}
+use Rattle.pkcs12.specs.declared.kind.BagKind.{BagKind}
+use Rattle.pkcs12.specs.declared.kind.BagKind.the-variants.{Key, ShroudedKey, Certificate, Crl, Secret, Nested}
+use Rattle.buffer.proofs.SameBytes.{same-is}
 
 -- the types of content keep the rule of an identifier
 pub data-rule : IdentifierRule dataType
@@ -70,7 +72,8 @@ kind-names x =
     (λ d. by-test (Names x) _ _ (sameBytes x (identifierOf Secret)) (same-is x _)
     (λ e. by-test (Names x) _ _ (sameBytes x (identifierOf Nested)) (same-is x _) (λ f. tt))))))
 
--- what holds where no kind is named, and of each kind with its identifier, holds of what is made of them
+-- what holds where no kind is named, and of each kind with its identifier, holds of what is made of
+-- them
 pub by-kind : {A : Type 0} (P : A → Type 0) (bad good : A) (x : List ℕ) → P bad → (x ≡ identifierOf (kindOf x) → P good) → P (onKind (kindOf x) bad good)
 by-kind P bad good x f g = go (kindOf x) (kind-names x) g
   where

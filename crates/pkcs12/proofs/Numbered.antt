@@ -1,17 +1,11 @@
--- Each name is the scope's number, computed.
-use mathlib.Core.Path.{_≡_, refl}
-use mathlib.Core.List.{List, [], _∷_, map}
-use Rattle.pkcs12.specs.Identifiers.{dataType, signedType, envelopedType, encryptedType}
-use Rattle.pkcs12.specs.Identifiers.{x509Certificate, identifierOf}
-use Rattle.pkcs12.specs.Accepted.{Each}
-use Rattle.pkcs12.specs.Numbered.{Named, NumbersNamed}
-use Rattle.pkcs12.specs.Numbered.{namedRefusals, namedSizes, namedTags, namedIntegers, namedIdentifiers}
-
--- where the names of a table are its numbers, each is
-each-named : {A : Type 0} (rows : List (A × A)) → map (λ r. r .0) rows ≡ map (λ r. r .1) rows → Named rows
-unfolding Each
-each-named [] e = tt
-each-named (r ∷ rows) e = (cc, each-named rows (cc))
+-- Each name is its number, computed.
+use mathlib.Core.Path.{refl}
+use Rattle.der.specs.Named.{Named}
+use Rattle.der.proofs.Named.{each-named}
+use Rattle.pkcs12.specs.Identifiers.{dataType, signedType, envelopedType, encryptedType, x509Certificate}
+use Rattle.pkcs12.specs.Identifiers.{identifierOf}
+use Rattle.pkcs12.specs.Numbered.{NumbersNamed, namedRefusals, namedSizes, namedTags, namedIntegers}
+use Rattle.pkcs12.specs.Numbered.{namedIdentifiers}
 
 identifiers-named : Named namedIdentifiers
 unfolding namedIdentifiers dataType signedType envelopedType encryptedType x509Certificate identifierOf

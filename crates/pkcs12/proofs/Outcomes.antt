@@ -12,15 +12,16 @@ use Rattle.der.specs.Element.{fault}
 use Rattle.der.specs.Span.{Bytes}
 use Rattle.der.specs.declared.Fault.{Fault}
 use Rattle.der.proofs.Choices.{by-lt}
-use Rattle.pkcs12.specs.Numbers.{fileBytes, tooLong, noRoom, notSound}
+use Rattle.buffer.specs.Numbers.{fileBytes, tooLong, shortBuffer, notSound}
 use Rattle.pkcs12.specs.Encode.{encode}
 use Rattle.pkcs12.specs.Table.{readingOf}
 use Rattle.pkcs12.specs.Accepted.{IsAccepted, readingFrom}
 use Rattle.pkcs12.specs.Sound.{Sound}
-use Rattle.pkcs12.specs.Written.{fileOf, Outcome, refusal, success, writeFile}
-use Rattle.pkcs12.specs.declared.Table.{Table}
-use Rattle.pkcs12.specs.declared.Written.{Written}
-use Rattle.pkcs12.specs.declared.Written.the-variants.{Length}
+use Rattle.pkcs12.specs.Written.{fileOf, writeFile}
+use Rattle.buffer.specs.Written.{Outcome, refusal, success}
+use Rattle.pkcs12.specs.declared.table.Table.{Table}
+use Rattle.buffer.specs.declared.Written.{Written}
+use Rattle.buffer.specs.declared.Written.the-variants.{Length}
 use Rattle.pkcs12.proofs.Checked.{sound-file, file-iff-sound, no-file-iff}
 use Rattle.pkcs12.proofs.Writing.{written-is-read}
 use Rattle.pkcs12.proofs.Delivered.{writes-none, writes-long, writes-short, writes-file}
@@ -36,7 +37,7 @@ module _ (t : Table) (s buffer : List ℕ) where
       → (fileOf t s ≡ option.none → P (refusal notSound buffer))
       → ((f : List ℕ) → fileOf t s ≡ some f → fileBytes < length f → P (refusal tooLong buffer))
       → ((f : List ℕ) → fileOf t s ≡ some f → length f ≤ fileBytes → length buffer < length f
-      → P (refusal noRoom buffer))
+      → P (refusal shortBuffer buffer))
       → ((f : List ℕ) → fileOf t s ≡ some f → length f ≤ fileBytes → length f ≤ length buffer → P (success f buffer))
       → P (writeFile t s buffer)
   by-outcome P unsound long short good = go (fileOf t s) refl
@@ -50,7 +51,8 @@ module _ (t : Table) (s buffer : List ℕ) where
           (λ b. rw (writes-short t s buffer f h a b) (short f h a b))
           (λ b. rw (writes-file t s buffer f h a b) (good f h a b)))
 
-  -- a length: the file stands at the front of the buffer, is accepted, and shows the table's reading
+  -- a length: the file stands at the front of the buffer, is accepted, and shows the table's
+  -- reading
   abbrev Begins : List ℕ → ℕ → Type 0
   Begins after n =
       (f : List ℕ) × (length f ≡ n) × (after ≡ f ++ drop n buffer) × IsAccepted f × (readingFrom f ≡ readingOf t s)
@@ -78,7 +80,7 @@ module _ (t : Table) (s buffer : List ℕ) where
   by-number : {A : Type 0} (n : ℕ)
       → (n ≡ notSound → fileOf t s ≡ option.none → A)
       → ((f : List ℕ) → n ≡ tooLong → fileOf t s ≡ some f → fileBytes < length f → A)
-      → ((f : List ℕ) → n ≡ noRoom → fileOf t s ≡ some f → length f ≤ fileBytes → length buffer < length f → A)
+      → ((f : List ℕ) → n ≡ shortBuffer → fileOf t s ≡ some f → length f ≤ fileBytes → length buffer < length f → A)
       → writeFile t s buffer .answer ≡ Written.Refused (fault n 0) → A
   by-number {A} n unsound long short =
       by-outcome (λ w. w .answer ≡ Written.Refused (fault n 0) → A)
@@ -104,11 +106,11 @@ module _ (t : Table) (s buffer : List ℕ) where
     )
 
     -- 10 exactly if it is, its file is not too long, and the buffer is shorter
-    pub refused-10-iff : writeFile t s buffer .answer ≡ Written.Refused (fault noRoom 0)
+    pub refused-10-iff : writeFile t s buffer .answer ≡ Written.Refused (fault shortBuffer 0)
         ↔ ((o : Sound t s) × (length (encode (o .reading)) ≤ fileBytes)
         × (length buffer < length (encode (o .reading))))
     refused-10-iff = (
-      by-number noRoom (λ n h. absurd (omega arith)) (λ f n. absurd (omega arith))
+      by-number shortBuffer (λ n h. absurd (omega arith)) (λ f n. absurd (omega arith))
           (λ f n h a b. let o = file-iff-sound t s bytes f .0 h in (o .0, rw (o .1) a, rw (o .1) b)),
       λ q. rw (writes-short t s buffer _ (sound-file t s bytes (q .0)) (q .1) (q .2)),
     )

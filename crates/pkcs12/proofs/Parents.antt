@@ -1,4 +1,5 @@
--- Elements in the body of their parent: what is told of an element that was accepted, for the parts above it.
+-- Elements in the body of their parent: what is told of an element that was accepted, for the parts
+-- above it.
 use mathlib.Core.Path.{_≡_, refl, sym, ap, _∙_}
 use mathlib.Core.List.{List, [], _∷_}
 use Prim.Native.Nat.{ℕ, _≤_}
@@ -10,7 +11,8 @@ use Rattle.der.specs.Content.{bytesOf, identifierAt, integerAt, onInteger}
 use Rattle.der.specs.Octets.{tlv}
 use Rattle.der.specs.Opaque.{onChecked, opaqueAt, elementsAt}
 use Rattle.der.specs.Span.{Span, Bytes}
-use Rattle.der.specs.Tree.{Tree, Trees, none, more, encode, encodes, elements, elementsIn, depth, deepest, Formed, AllFormed}
+use Rattle.der.specs.Tree.{Tree, Trees, none, more, encode, encodes, elements, elementsIn, depth, deepest, Formed}
+use Rattle.der.specs.Tree.{AllFormed}
 use Rattle.der.specs.Follows.{Moved, HeaderIs, IdentifierIs, IntegerIs, OpaqueIs, RunIs}
 use Rattle.der.specs.declared.Fault.{Fault}
 use Rattle.der.specs.declared.Cursor.{Cursor}
@@ -29,11 +31,12 @@ use Rattle.pkcs12.specs.Elements.{opaqueCount}
 use Rattle.pkcs12.specs.Valid.{Opaque, AtMostOne}
 use Rattle.pkcs12.specs.Walk.{rangeOf}
 use Rattle.pkcs12.specs.Laid.{ElementLaid, PieceLaid}
-use Rattle.pkcs12.specs.Table.{range}
-use Rattle.pkcs12.specs.declared.Range.{Range}
-use Rattle.pkcs12.specs.declared.Parts.{Parts}
+use Rattle.buffer.specs.Range.{range}
+use Rattle.buffer.specs.declared.Range.{Range}
+use Rattle.pkcs12.specs.declared.row.Parts.{Parts}
 
--- what holds of a refusal and of what was found holds of what is made of them, for each kind of element
+-- what holds of a refusal and of what was found holds of what is made of them, for each kind of
+-- element
 module _ (s : List ℕ) (bytes : Bytes s) {A : Type 0} (P : A → Type 0) (bad : Fault → A) (refusal : (f : Fault) → P (bad f)) (c : Cursor) where
   pub by-expect : (due : ℕ) (good : ℕ → Cursor → Cursor → A) → ((b n : Cursor) → HeaderIs s c due b n → P (good due b n))
       → P (onElement (expectAt due s c) bad good)
@@ -109,7 +112,8 @@ closed s par c t b n x i h p =
     }
 
 -- the same between places that are written otherwise
-pub laid-at : {s : List ℕ} {from to t : ℕ} {r : Range} {x : List ℕ} (start end : ℕ) → from ≡ start → to ≡ end → ElementLaid s from to t r x → ElementLaid s start end t r x
+pub laid-at : {s : List ℕ} {from to t : ℕ} {r : Range} {x : List ℕ} (start end : ℕ) → from ≡ start → to ≡ end
+    → ElementLaid s from to t r x → ElementLaid s start end t r x
 laid-at start end d e l = rw (d, e) at l
 
 pub laid-to : {s : List ℕ} {from to t : ℕ} {r : Range} {x : List ℕ} (end : ℕ) → to ≡ end → ElementLaid s from to t r x → ElementLaid s from end t r x
@@ -151,7 +155,8 @@ pub at-most-one : (x : List ℕ) → Opaque x → AtMostOne x
 at-most-one [] o = tt
 at-most-one (b ∷ x) o = o
 
-pub settled : (s : List ℕ) (par : Range) (c : Cursor) (m : ℕ) (n : Cursor) → In par c → (o : OpaqueIs opaqueLevels s c m n) → Settled s par c m n (encode (o .tree))
+pub settled : (s : List ℕ) (par : Range) (c : Cursor) (m : ℕ) (n : Cursor) → In par c
+    → (o : OpaqueIs opaqueLevels s c m n) → Settled s par c m n (encode (o .tree))
 settled s par c m n i o =
     let e = in-next s par c n (n .at) i (omega (arith, o .whole .size)) (o .moved) in
     record {
@@ -171,8 +176,10 @@ first-byte s c t b n e x h p l =
     ∙ span-at s (c .at) (b .end) 0 (c .at) (tlv t (bytesOf s b)) (h .whole) (omega arith) (omega (arith, tlv-long t (bytesOf s b)))
     ∙ tlv-first t (bytesOf s b)
 
--- parts that were found: the value that they hold, by its rule, its elements, where it stands in the body `par`, and its bytes from c to n
-pub record Is (s : List ℕ) {A : Type 0} (Rule : A → Type 0) (count-of : A → ℕ) (Laid : ℕ → ℕ → Parts → A → Type 0) (bytes-of : A → List ℕ) (par : Range) (c : Cursor) (p : Parts) (m : ℕ) (n : Cursor) : Type 0 where
+-- parts that were found: the value that they hold, by its rule, its elements, where it stands in
+-- the body `par`, and its bytes from c to n
+pub record Is (s : List ℕ) {A : Type 0} (Rule : A → Type 0) (count-of : A → ℕ) (Laid : ℕ → ℕ → Parts → A → Type 0)
+    (bytes-of : A → List ℕ) (par : Range) (c : Cursor) (p : Parts) (m : ℕ) (n : Cursor) : Type 0 where
   pub value : A
   pub valid : Rule value
   pub count : m ≡ count-of value

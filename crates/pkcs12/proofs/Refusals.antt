@@ -15,15 +15,18 @@ use Rattle.der.specs.declared.Integer.the-variants.{Value}
 use Rattle.der.proofs.Choices.{by-test}
 use Rattle.der.proofs.Placed.{by-element}
 use Rattle.der.proofs.Opaque.{by-checked}
-use Rattle.pkcs12.specs.Numbers.{fileBytes, sequenceTag, pfxVersion}
+use Rattle.buffer.specs.Numbers.{fileBytes}
+use Rattle.der.specs.Numbers.{sequenceTag}
+use Rattle.pkcs12.specs.Numbers.{pfxVersion}
 use Rattle.pkcs12.specs.Table.{Rows, emptyTable}
-use Rattle.pkcs12.specs.Walk.{Walked, Refused, Went, onWalked, onMac, outerAt, macAt, bodyAt, refused, onAnswer, alone, pfxAt, readFile}
-use Rattle.pkcs12.specs.declared.Mac.{Mac}
-use Rattle.pkcs12.specs.declared.MacAt.{MacAt}
-use Rattle.pkcs12.specs.declared.Table.{Table}
-use Rattle.pkcs12.specs.declared.Answer.{Answer}
-use Rattle.pkcs12.specs.declared.Answer.the-variants.{Accepted}
-use Rattle.pkcs12.specs.declared.Reading.{Reading}
+use Rattle.pkcs12.specs.Walk.{Walked, Refused, Went, onWalked, onMac, outerAt, macAt, bodyAt, refused, onAnswer}
+use Rattle.pkcs12.specs.Walk.{alone, pfxAt, readFile}
+use Rattle.pkcs12.specs.declared.row.Mac.{Mac}
+use Rattle.pkcs12.specs.declared.answers.MacAt.{MacAt}
+use Rattle.pkcs12.specs.declared.table.Table.{Table}
+use Rattle.pkcs12.specs.declared.answers.Answer.{Answer}
+use Rattle.pkcs12.specs.declared.answers.Answer.the-variants.{Accepted}
+use Rattle.pkcs12.specs.declared.answers.Reading.{Reading}
 
 abbrev Empty : Answer → Table → Type 0
 Empty (Answer.Refused f) t = t ≡ emptyTable

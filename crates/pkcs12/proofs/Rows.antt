@@ -11,11 +11,17 @@ use lib.ListN.{length, length-append}
 use borrow.Author.Tests.{eqb-true, eq-eqb, ne-eqb}
 use Rattle.der.specs.Choice.{if_then_else_}
 use Rattle.der.proofs.Choices.{by-test, by-eq}
-use Rattle.pkcs12.specs.Syntax.{Leaf, Attribute, Set, absent, present, Bags, none, bag, nest, Safe, plain, encrypted, Pfx}
+use Rattle.pkcs12.specs.Syntax.{Leaf, Attribute, Set, absent, present, Bags, none, bag, nest, Safe, plain}
+use Rattle.pkcs12.specs.Syntax.{encrypted, Pfx}
 use Rattle.pkcs12.specs.Valid.{bagsIn, bagsInSafe, ValidBags, ValidSafes}
-use Rattle.pkcs12.specs.Values.{SafeValue, empty-safe, plain-safe, encrypted-safe, Content, empty-bag, leaf, nested, BagValue, AttributeValue, Values, stands, bagValue, bagValues, ownValues, setValues, attributeValues, safeValue, safeValues, bagsOfSafe, attributesOfSafe, bagsOfSafes, attributesOfSafes, rowsOf, sameEnclosing, ownOf, pastOwn, setOf, pastSet, Taken, nothing, before, onContent, onLevel, bagsFrom, alsoSafe, contentsFrom, safesFrom, withMac, treeOf}
-use Rattle.pkcs12.specs.declared.Enclosing.{Enclosing}
-use Rattle.pkcs12.specs.declared.Enclosing.the-variants.{Bag}
+use Rattle.pkcs12.specs.Values.{SafeValue, empty-safe, plain-safe, encrypted-safe, Content, empty-bag, leaf}
+use Rattle.pkcs12.specs.Values.{nested, BagValue, AttributeValue, Values, stands, bagValue, bagValues}
+use Rattle.pkcs12.specs.Values.{ownValues, setValues, attributeValues, safeValue, safeValues, bagsOfSafe}
+use Rattle.pkcs12.specs.Values.{attributesOfSafe, bagsOfSafes, attributesOfSafes, rowsOf, sameEnclosing, ownOf}
+use Rattle.pkcs12.specs.Values.{pastOwn, setOf, pastSet, Taken, nothing, before, onContent, onLevel, bagsFrom}
+use Rattle.pkcs12.specs.Values.{alsoSafe, contentsFrom, safesFrom, withMac, treeOf}
+use Rattle.pkcs12.specs.declared.row.Enclosing.{Enclosing}
+use Rattle.pkcs12.specs.declared.row.Enclosing.the-variants.{Bag}
 
 -- ---- rows that were taken are the rows of what they show
 

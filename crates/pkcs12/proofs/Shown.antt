@@ -1,4 +1,5 @@
--- What rows show of the bytes that a reading stands in: the reading's own values, in ranges that lie in the bytes, and as many as it has.
+-- What rows show of the bytes that a reading stands in: the reading's own values, in ranges that
+-- lie in the bytes, and as many as it has.
 use mathlib.Core.Path.{_≡_, refl}
 use mathlib.Core.List.{List, [], _∷_, _++_, map, map-append}
 use Prim.Native.Nat.{ℕ, _+_}
@@ -6,23 +7,30 @@ use native.Mathlib.Omega.{arith}
 use lib.ListN.{length, length-append}
 use Rattle.der.specs.Span.{Span}
 use Rattle.der.proofs.Spans.{slice-span}
-use Rattle.pkcs12.specs.Syntax.{Sealed, Typed, certificate, crl, secret, Leaf, key, shrouded, typed, Attribute, Set, absent, present, Bags, none, bag, nest, Safe, plain, encrypted, Pfx, kindOfTyped, kindOfLeaf}
+use Rattle.pkcs12.specs.Syntax.{Sealed, Typed, certificate, crl, secret, Leaf, key, shrouded, typed, Attribute}
+use Rattle.pkcs12.specs.Syntax.{Set, absent, present, Bags, none, bag, nest, Safe, plain, encrypted, Pfx}
+use Rattle.pkcs12.specs.Syntax.{kindOfTyped, kindOfLeaf}
 use Rattle.pkcs12.specs.Valid.{bagsIn, attributesOf, attributesIn, bagsInSafes, attributesInSafes}
-use Rattle.pkcs12.specs.Values.{SafeValue, Content, leaf, BagValue, AttributeValue, bagValue, bagValues, ownValues, setValues, attributeValues, safeValues, bagsOfSafes, attributesOfSafes, rowsOf}
-use Rattle.pkcs12.specs.Table.{Rows, bytesIn, sealedIn, contentIn, safeShown, bagShown, attributeShown, shown}
+use Rattle.pkcs12.specs.Values.{SafeValue, Content, leaf, BagValue, AttributeValue, bagValue, bagValues}
+use Rattle.pkcs12.specs.Values.{ownValues, setValues, attributeValues, safeValues, bagsOfSafes}
+use Rattle.pkcs12.specs.Values.{attributesOfSafes, rowsOf}
+use Rattle.pkcs12.specs.Table.{Rows, sealedIn, contentIn, safeShown, bagShown, attributeShown, shown}
+use Rattle.buffer.specs.Range.{bytesIn}
 use Rattle.pkcs12.specs.Walk.{Owner, owner}
-use Rattle.pkcs12.specs.Laid.{ElementLaid, PieceLaid, AlgorithmLaid, LeafLaid, AttributesLaid, no-attribute, one-attribute, SetLaid, no-set, one-set, BagLaid, BagsLaid, no-bag, one-bag, one-nest, SafesLaid, no-safe, one-plain, one-encrypted, PfxLaid}
-use Rattle.pkcs12.specs.Accepted.{Each}
+use Rattle.pkcs12.specs.Laid.{ElementLaid, PieceLaid, AlgorithmLaid, LeafLaid, AttributesLaid, no-attribute}
+use Rattle.pkcs12.specs.Laid.{one-attribute, SetLaid, no-set, one-set, BagLaid, BagsLaid, no-bag, one-bag}
+use Rattle.pkcs12.specs.Laid.{one-nest, SafesLaid, no-safe, one-plain, one-encrypted, PfxLaid}
+use Rattle.der.specs.Named.{Each}
 use Rattle.pkcs12.specs.Sound.{Lies, SealedLies, PartsLie, SafeLies, RangesLie}
-use Rattle.pkcs12.specs.declared.Range.{Range}
-use Rattle.pkcs12.specs.declared.Parts.{Parts}
-use Rattle.pkcs12.specs.declared.Enclosing.{Enclosing}
-use Rattle.pkcs12.specs.declared.Enclosing.the-variants.{Bag}
-use Rattle.pkcs12.specs.declared.SafeRow.{SafeRow}
-use Rattle.pkcs12.specs.declared.BagKind.{BagKind}
-use Rattle.pkcs12.specs.declared.BagRow.{BagRow}
-use Rattle.pkcs12.specs.declared.AttributeRow.{AttributeRow}
-use Rattle.pkcs12.specs.declared.Mac.{Mac}
+use Rattle.buffer.specs.declared.Range.{Range}
+use Rattle.pkcs12.specs.declared.row.Parts.{Parts}
+use Rattle.pkcs12.specs.declared.row.Enclosing.{Enclosing}
+use Rattle.pkcs12.specs.declared.row.Enclosing.the-variants.{Bag}
+use Rattle.pkcs12.specs.declared.row.SafeRow.{SafeRow}
+use Rattle.pkcs12.specs.declared.kind.BagKind.{BagKind}
+use Rattle.pkcs12.specs.declared.row.BagRow.{BagRow}
+use Rattle.pkcs12.specs.declared.row.AttributeRow.{AttributeRow}
+use Rattle.pkcs12.specs.declared.row.Mac.{Mac}
 
 -- rows that show the values vs by f, n in number, each of which is good
 record Shows {R W : Type 0} (f : R → W) (Good : R → Type 0) (rows : List R) (vs : List W) (n : ℕ) : Type 0 where
@@ -116,7 +124,9 @@ set-shows s from to n absent own no-set = shows-none
 set-shows s from to n (present xs) own (one-set body e l) = attributes-show s _ _ n xs own l
 
 -- one bag more
-bag-shows : {s : List ℕ} {from to : ℕ} {w : Owner} {n : ℕ} {k : BagKind} {p : Parts} {value : Range} {x : List ℕ} {set : Set} {row : BagRow} {own : List AttributeRow} {v : Content} {rows : List BagRow} {vs : List BagValue} {m : ℕ}
+bag-shows : {s : List ℕ} {from to : ℕ} {w : Owner} {n : ℕ} {k : BagKind} {p : Parts} {value : Range} {x : List ℕ}
+    {set : Set} {row : BagRow} {own : List AttributeRow} {v : Content} {rows : List BagRow}
+    {vs : List BagValue} {m : ℕ}
     → BagLaid s from to w n k p value x set row own → (contentIn s k p ≡ v) × PartsLie s k p → BagsShow s rows vs m
     → BagsShow s (row ∷ rows) (bagValue (w .safe) (w .enclosing) v set ∷ vs) (1 + m)
 bag-shows b h r = rw (b .shows) (shows-more (rw (h .0) refl) (h .1) r refl)
@@ -137,7 +147,8 @@ bags-show s from to w n (nest inner set xs) rows own (one-nest value body b e l 
     )
 
 -- as many rows as bags, and as many attribute rows as attributes
-pub laid-bags-long : (s : List ℕ) (from to : ℕ) (w : Owner) (n : ℕ) (x : Bags) (rows : List BagRow) (own : List AttributeRow) → BagsLaid s from to w n x rows own
+pub laid-bags-long : (s : List ℕ) (from to : ℕ) (w : Owner) (n : ℕ) (x : Bags) (rows : List BagRow)
+    (own : List AttributeRow) → BagsLaid s from to w n x rows own
     → (length rows ≡ bagsIn x) × (length own ≡ attributesIn x)
 laid-bags-long s from to w n x rows own l = let q = bags-show s from to w n x rows own l in (q .0 .long, q .1 .long)
 
@@ -201,5 +212,6 @@ module _ (s : List ℕ) (st : Rows) (m : Mac) (x : Pfx) (l : PfxLaid s st m x) w
       }
 
   -- they are as many as the reading has
-  pub pfx-sizes : (length (st .safes) ≡ length (x .safes)) × (length (st .bags) ≡ bagsInSafes (x .safes)) × (length (st .attributes) ≡ attributesInSafes (x .safes))
+  pub pfx-sizes : (length (st .safes) ≡ length (x .safes)) × (length (st .bags) ≡ bagsInSafes (x .safes))
+      × (length (st .attributes) ≡ attributesInSafes (x .safes))
   pfx-sizes = (pfx-safes .in-safes .long, pfx-safes .in-bags .long, pfx-safes .in-attributes .long)

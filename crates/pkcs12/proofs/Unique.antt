@@ -6,14 +6,17 @@ use native.Mathlib.Omega.{arith}
 use lib.ListN.{length, getD, length-append}
 use lib.Dec.{eqb}
 use Rattle.der.specs.Choice.{if_then_else_}
-use Rattle.der.specs.Octets.{tlv, number}
+use Rattle.der.specs.Octets.{tlv, number, integer, identifier, sequence}
 use Rattle.der.proofs.Choices.{by-eq}
 use Rattle.der.proofs.Octets.{tlv-unique, tlv-long, integer-number}
 use Rattle.pkcs12.specs.Numbers.{encryptedVersion}
 use Rattle.pkcs12.specs.Identifiers.{dataType, encryptedType, identifierOf}
-use Rattle.pkcs12.specs.Syntax.{Typed, certificate, crl, secret, Leaf, key, shrouded, typed, Set, absent, present, none, bag, nest, Safe, plain, encrypted, Pfx, kindOfTyped, kindOfLeaf}
-use Rattle.pkcs12.specs.Encode.{integer, identifier, sequence, algorithmBytes, sealedBytes, contentInfo, dataBytes, attributeBytes, attributesBytes, setBytes, leafBytes, bagBytes, bagsBytes, encryptedInfo, safeBytes, safesBytes, iterationsBytes, macBytes, encode}
-use Rattle.pkcs12.specs.declared.BagKind.{BagKind}
+use Rattle.pkcs12.specs.Syntax.{Typed, certificate, crl, secret, Leaf, key, shrouded, typed, Set, absent}
+use Rattle.pkcs12.specs.Syntax.{present, none, bag, nest, Safe, plain, encrypted, Pfx, kindOfTyped, kindOfLeaf}
+use Rattle.pkcs12.specs.Encode.{algorithmBytes, sealedBytes, contentInfo, dataBytes, attributeBytes}
+use Rattle.pkcs12.specs.Encode.{attributesBytes, setBytes, leafBytes, bagBytes, bagsBytes, encryptedInfo}
+use Rattle.pkcs12.specs.Encode.{safeBytes, safesBytes, iterationsBytes, macBytes, encode}
+use Rattle.pkcs12.specs.declared.kind.BagKind.{BagKind}
 
 -- values that are told by their bytes, whatever follows, and by their bytes alone
 abbrev Begins : {A : Type 0} → (A → List ℕ) → Type 0

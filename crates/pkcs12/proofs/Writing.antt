@@ -1,4 +1,5 @@
--- What a sound table is written as: a file of bytes that is accepted and shows the table's reading, and the only one.
+-- What a sound table is written as: a file of bytes that is accepted and shows the table's reading,
+-- and the only one.
 use mathlib.Core.Bool.{true}
 use mathlib.Core.Path.{_≡_, refl, sym, ap, _∙_}
 use mathlib.Core.List.{List, [], _∷_, _++_, map}
@@ -8,33 +9,41 @@ use native.Mathlib.Omega.{arith}
 use lib.Dec.{ltb}
 use lib.ListN.{length, getD, length-append}
 use borrow.Author.Tests.{ltb-true}
-use Rattle.der.specs.Numbers.{octetStringTag, identifierTag, integerTag}
-use Rattle.der.specs.Octets.{tlv, digits, integerOctets}
+use Rattle.der.specs.Numbers.{octetStringTag, identifierTag, integerTag, sequenceTag, setTag, contextTag}
+use Rattle.der.specs.Octets.{tlv, digits, integerOctets, integer, identifier}
 use Rattle.der.specs.Span.{Bytes}
 use Rattle.der.proofs.Choices.{never, by-test, by-lt, by-eq}
 use Rattle.der.proofs.Octets.{bytes-append, digits-bytes, tlv-long, tlv-bytes}
-use Rattle.pkcs12.specs.Numbers.{fileBytes, sequenceTag, setTag, contextTag, ciphertextTag}
-use Rattle.pkcs12.specs.Numbers.{encryptedVersion, pfxVersion, defaultIterations}
+use Rattle.buffer.specs.Numbers.{fileBytes}
+use Rattle.pkcs12.specs.Numbers.{ciphertextTag, encryptedVersion, pfxVersion, defaultIterations}
 use Rattle.pkcs12.specs.Identifiers.{dataType, encryptedType, identifierOf}
-use Rattle.pkcs12.specs.Syntax.{Algorithm, Sealed, Attribute, Set, absent, present, Bags, none, bag, nest, Safe, plain, encrypted, MacData, Pfx, kindOfLeaf}
-use Rattle.pkcs12.specs.Encode.{integer, identifier, algorithmBytes, sealedBytes, contentInfo, dataBytes, attributeBytes, attributesBytes, setBytes, leafBytes, bagBytes, bagsBytes, encryptedInfo, safeBytes, safesBytes, iterationsBytes, macBytes, encode}
+use Rattle.pkcs12.specs.Syntax.{Algorithm, Sealed, Attribute, Set, absent, present, Bags, none, bag, nest, Safe}
+use Rattle.pkcs12.specs.Syntax.{plain, encrypted, MacData, Pfx, kindOfLeaf}
+use Rattle.pkcs12.specs.Encode.{algorithmBytes, sealedBytes, contentInfo, dataBytes, attributeBytes}
+use Rattle.pkcs12.specs.Encode.{attributesBytes, setBytes, leafBytes, bagBytes, bagsBytes, encryptedInfo}
+use Rattle.pkcs12.specs.Encode.{safeBytes, safesBytes, iterationsBytes, macBytes, encode}
 use Rattle.pkcs12.specs.Valid.{bagsIn}
-use Rattle.pkcs12.specs.Values.{SafeValue, empty-safe, plain-safe, encrypted-safe, Content, empty-bag, leaf, nested, BagValue, AttributeValue, Values, bagValues, ownValues, setValues, attributeValues, safeValues, bagsOfSafes, attributesOfSafes, rowsOf}
-use Rattle.pkcs12.specs.Table.{Rows, bytesIn, algorithmIn, sealedIn, contentIn, safeIn, safeShown, bagShown, attributeShown, shown, rowsIn, valuesOf, readingOf}
-use Rattle.pkcs12.specs.Accepted.{IsAccepted, Follows, tableFrom, readingFrom, Each}
+use Rattle.pkcs12.specs.Values.{SafeValue, empty-safe, plain-safe, encrypted-safe, Content, empty-bag, leaf}
+use Rattle.pkcs12.specs.Values.{nested, BagValue, AttributeValue, Values, bagValues, ownValues, setValues}
+use Rattle.pkcs12.specs.Values.{attributeValues, safeValues, bagsOfSafes, attributesOfSafes, rowsOf}
+use Rattle.pkcs12.specs.Table.{Rows, algorithmIn, sealedIn, contentIn, safeIn, safeShown, bagShown}
+use Rattle.pkcs12.specs.Table.{attributeShown, shown, rowsIn, valuesOf, readingOf}
+use Rattle.buffer.specs.Range.{bytesIn}
+use Rattle.pkcs12.specs.Accepted.{IsAccepted, Follows, tableFrom, readingFrom}
+use Rattle.der.specs.Named.{Each}
 use Rattle.pkcs12.specs.Sound.{Sound}
 use Rattle.pkcs12.specs.Checks.{all}
 use Rattle.pkcs12.specs.Written.{fileOf}
-use Rattle.pkcs12.specs.declared.Parts.{Parts}
-use Rattle.pkcs12.specs.declared.SafeKind.{SafeKind}
-use Rattle.pkcs12.specs.declared.SafeKind.the-variants.{Plain, Encrypted}
-use Rattle.pkcs12.specs.declared.BagKind.{BagKind}
-use Rattle.pkcs12.specs.declared.BagKind.the-variants.{Key, ShroudedKey, Certificate, Crl, Secret, Nested}
-use Rattle.pkcs12.specs.declared.Enclosing.{Enclosing}
-use Rattle.pkcs12.specs.declared.Enclosing.the-variants.{Bag}
-use Rattle.pkcs12.specs.declared.AttributeRow.{AttributeRow}
-use Rattle.pkcs12.specs.declared.Mac.{Mac}
-use Rattle.pkcs12.specs.declared.Table.{Table}
+use Rattle.pkcs12.specs.declared.row.Parts.{Parts}
+use Rattle.pkcs12.specs.declared.kind.SafeKind.{SafeKind}
+use Rattle.pkcs12.specs.declared.kind.SafeKind.the-variants.{Plain, Encrypted}
+use Rattle.pkcs12.specs.declared.kind.BagKind.{BagKind}
+use Rattle.pkcs12.specs.declared.kind.BagKind.the-variants.{Key, ShroudedKey, Certificate, Crl, Secret, Nested}
+use Rattle.pkcs12.specs.declared.row.Enclosing.{Enclosing}
+use Rattle.pkcs12.specs.declared.row.Enclosing.the-variants.{Bag}
+use Rattle.pkcs12.specs.declared.row.AttributeRow.{AttributeRow}
+use Rattle.pkcs12.specs.declared.row.Mac.{Mac}
+use Rattle.pkcs12.specs.declared.table.Table.{Table}
 use Rattle.pkcs12.proofs.Rows.{tree-rows}
 use Rattle.pkcs12.proofs.Checked.{part-bytes, sound-file}
 use Rattle.pkcs12.proofs.Corollaries.{accepted-follows, accepted-sound, follows-accepted, follows-reading}
@@ -182,7 +191,8 @@ module _ (s : List ℕ) (bytes : Bytes s) where
   shown-attribute : (r : AttributeRow) → FineAttribute (attributeShown s r)
   unfolding attributeBytes
   shown-attribute r =
-      fine-tlv sequenceTag refl (fine-join (identifier-fine _ (part-bytes s bytes (r .identifier))) (fine-tlv setTag refl (fine-any (part-bytes s bytes (r .values)))))
+      fine-tlv sequenceTag refl (fine-join (identifier-fine _ (part-bytes s bytes (r .identifier)))
+      (fine-tlv setTag refl (fine-any (part-bytes s bytes (r .values)))))
 
   shown-fine : (st : Rows) (m : Mac) → FineValues (shown s st m)
   unfolding shown
@@ -239,7 +249,9 @@ safes-fine k n (encrypted x ∷ xs) g p q = fine-join (g .0) (safes-fine (k + 1)
 pfx-fine : (x : Pfx) → FineValues (rowsOf x) → Fine (encode x)
 unfolding rowsOf encode
 pfx-fine x v =
-    fine-tlv sequenceTag refl (fine-join (integer-fine pfxVersion) (fine-join (data-fine _ (safes-fine 0 0 (x .safes) (v .safes) (v .bags) (v .attributes))) (v .mac)))
+    fine-tlv sequenceTag refl
+    (fine-join (integer-fine pfxVersion)
+    (fine-join (data-fine _ (safes-fine 0 0 (x .safes) (v .safes) (v .bags) (v .attributes))) (v .mac)))
 
 -- what a table shows of bytes is written as bytes, where it is no longer than a file may be
 pub encode-bytes : (t : Table) (s : List ℕ) → Bytes s → (o : Sound t s) → length (encode (o .reading)) ≤ fileBytes → Bytes (encode (o .reading))

@@ -1,25 +1,25 @@
--- What the theorems are stated over: that a file is accepted, that it follows the standard, its table, the reading that the table shows, and files laid
--- end to end.
+-- What the theorems are stated over: that a file is accepted, that it follows the standard, its
+-- table, the reading that the table shows, and files laid end to end.
 use mathlib.Core.Path.{_≡_}
 use mathlib.Core.List.{List, [], _∷_, _++_}
 use mathlib.Core.Option.{Option}
 use Prim.Native.Nat.{ℕ, _≤_}
 use lib.ListN.{length}
-use Rattle.pkcs12.specs.Numbers.{fileBytes}
+use Rattle.buffer.specs.Numbers.{fileBytes}
 use Rattle.pkcs12.specs.Syntax.{Pfx}
 use Rattle.pkcs12.specs.Encode.{encode}
 use Rattle.pkcs12.specs.Valid.{Valid}
 use Rattle.pkcs12.specs.Table.{readingOf}
 use Rattle.pkcs12.specs.Walk.{readFile}
-use Rattle.pkcs12.specs.declared.Table.{Table}
-use Rattle.pkcs12.specs.declared.Answer.the-variants.{Accepted}
+use Rattle.pkcs12.specs.declared.table.Table.{Table}
+use Rattle.pkcs12.specs.declared.answers.Answer.the-variants.{Accepted}
 
 -- a file is accepted
 abbrev pub IsAccepted : List ℕ → Type 0
 IsAccepted f = readFile f .answer ≡ Accepted
 
--- "Reading accepts a file exactly when it is one PFX, with no byte after it, that keeps every rule above.": the file is what a valid reading x is
--- written as, and has at most 65,535 bytes
+-- Rule 4.7: a file is accepted if and only if it is one PFX, with no byte after it, that keeps
+-- every rule. The file is what a valid reading x is written as, and has at most 65,535 bytes.
 pub record Follows (f : List ℕ) (x : Pfx) : Type 0 where
   pub valid : Valid x
   pub written : encode x ≡ f
@@ -36,8 +36,3 @@ readingFrom f = readingOf (tableFrom f) f
 unfoldable pub endToEnd : List (List ℕ) → List ℕ
 endToEnd [] = []
 endToEnd (f ∷ fs) = f ++ endToEnd fs
-
--- each of a list
-unfoldable pub Each : {A : Type 0} → (A → Type 0) → List A → Type 0
-Each P [] = Unit {0}
-Each P (x ∷ xs) = P x × Each P xs

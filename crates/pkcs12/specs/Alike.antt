@@ -1,16 +1,16 @@
--- When two tables differ only in what the writer ignores (scope, "Numbers given back", its last part): "Rows past the
--- counts, the opened count, the MAC input range and fields that a row's kind doesn't use are ignored."
+-- When two tables differ only in what the writer ignores (Rule 6.7): rows past the counts, the
+-- number of elements, the range of the MAC input, and fields that a row's kind doesn't use.
 use mathlib.Core.Path.{_≡_}
 use mathlib.Core.List.{List, [], _∷_}
 use Rattle.pkcs12.specs.Table.{rowsIn}
-use Rattle.pkcs12.specs.declared.Parts.{Parts}
-use Rattle.pkcs12.specs.declared.SafeKind.{SafeKind}
-use Rattle.pkcs12.specs.declared.SafeKind.the-variants.{Plain, Encrypted}
-use Rattle.pkcs12.specs.declared.BagKind.{BagKind}
-use Rattle.pkcs12.specs.declared.BagKind.the-variants.{Key, ShroudedKey, Certificate, Crl, Secret, Nested}
-use Rattle.pkcs12.specs.declared.SafeRow.{SafeRow}
-use Rattle.pkcs12.specs.declared.BagRow.{BagRow}
-use Rattle.pkcs12.specs.declared.Table.{Table}
+use Rattle.pkcs12.specs.declared.row.Parts.{Parts}
+use Rattle.pkcs12.specs.declared.kind.SafeKind.{SafeKind}
+use Rattle.pkcs12.specs.declared.kind.SafeKind.the-variants.{Plain, Encrypted}
+use Rattle.pkcs12.specs.declared.kind.BagKind.{BagKind}
+use Rattle.pkcs12.specs.declared.kind.BagKind.the-variants.{Key, ShroudedKey, Certificate, Crl, Secret, Nested}
+use Rattle.pkcs12.specs.declared.row.SafeRow.{SafeRow}
+use Rattle.pkcs12.specs.declared.row.BagRow.{BagRow}
+use Rattle.pkcs12.specs.declared.table.Table.{Table}
 
 -- the parts that a kind of safe uses are the same: all three of an encrypted one, none of another
 abbrev pub SafePartsAlike : SafeKind → Parts → Parts → Type 0
@@ -51,8 +51,9 @@ Pairwise P [] (y ∷ ys) = ⊥
 Pairwise P (x ∷ xs) [] = ⊥
 Pairwise P (x ∷ xs) (y ∷ ys) = P x y × Pairwise P xs ys
 
--- The counts, the rows below them and the MAC fields are the same, but for fields that a row's kind doesn't use.
--- Nothing is said of rows past the counts, the opened count and the MAC input range. An attribute row has no kind.
+-- The counts, the rows below them and the MAC fields are the same, but for fields that a row's kind
+-- doesn't use. Nothing is said of rows past the counts, the number of elements and the range of the
+-- MAC input. An attribute row has no kind.
 pub record Alike (t u : Table) : Type 0 where
   pub safe-count : t .«safe_count» ≡ u .«safe_count»
   pub bag-count : t .«bag_count» ≡ u .«bag_count»

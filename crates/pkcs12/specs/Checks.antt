@@ -1,45 +1,41 @@
--- The rules of a sound table as tests, all but the order of its rows. With `readingOf`, which asks for that order, they are proved to be `Sound` (see
--- Sound.antt, and `file-iff-sound` among the theorems).
+-- The rules of a sound table as tests, all but the order of its rows. With `readingOf`, which asks
+-- for that order, they are proved to be `Sound` (see Sound.antt, and `file-iff-sound` among the
+-- theorems).
 use mathlib.Core.Bool.{Bool, true, false}
 use mathlib.Core.List.{List, [], _∷_}
 use Prim.Native.Nat.{ℕ}
 use lib.Dec.{leb, ltb, eqb}
 use lib.ListN.{length, getD}
-use Rattle.der.specs.Choice.{if_then_else_}
-use Rattle.der.specs.Numbers.{octetStringTag, integerBound, opaqueLevels}
+use Rattle.der.specs.Choice.{if_then_else_, both}
+use Rattle.der.specs.Numbers.{octetStringTag, integerBound, opaqueLevels, sequenceTag}
 use Rattle.der.specs.Element.{wholeOf}
 use Rattle.der.specs.Content.{identifierBody}
 use Rattle.der.specs.Opaque.{onChecked, opaqueAt, elementsAt}
-use Rattle.pkcs12.specs.Numbers.{safeRows, bagRows, attributeRows, sequenceTag}
-use Rattle.pkcs12.specs.Identifiers.{x509Certificate, sameBytes}
-use Rattle.pkcs12.specs.Table.{Rows, bytesIn, rowsIn}
-use Rattle.pkcs12.specs.declared.Range.{Range}
-use Rattle.pkcs12.specs.declared.Parts.{Parts}
-use Rattle.pkcs12.specs.declared.SafeKind.{SafeKind}
-use Rattle.pkcs12.specs.declared.SafeKind.the-variants.{Plain, Encrypted}
-use Rattle.pkcs12.specs.declared.BagKind.{BagKind}
-use Rattle.pkcs12.specs.declared.BagKind.the-variants.{Key, ShroudedKey, Certificate, Crl, Secret, Nested}
-use Rattle.pkcs12.specs.declared.SafeRow.{SafeRow}
-use Rattle.pkcs12.specs.declared.BagRow.{BagRow}
-use Rattle.pkcs12.specs.declared.AttributeRow.{AttributeRow}
-use Rattle.pkcs12.specs.declared.Mac.{Mac}
-use Rattle.pkcs12.specs.declared.Table.{Table}
+use Rattle.pkcs12.specs.Numbers.{safeRows, bagRows, attributeRows}
+use Rattle.pkcs12.specs.Identifiers.{x509Certificate}
+use Rattle.buffer.specs.Bytes.{sameBytes}
+use Rattle.pkcs12.specs.Table.{Rows, rowsIn}
+use Rattle.buffer.specs.Range.{bytesIn, lies}
+use Rattle.buffer.specs.declared.Range.{Range}
+use Rattle.pkcs12.specs.declared.row.Parts.{Parts}
+use Rattle.pkcs12.specs.declared.kind.SafeKind.{SafeKind}
+use Rattle.pkcs12.specs.declared.kind.SafeKind.the-variants.{Plain, Encrypted}
+use Rattle.pkcs12.specs.declared.kind.BagKind.{BagKind}
+use Rattle.pkcs12.specs.declared.kind.BagKind.the-variants.{Key, ShroudedKey, Certificate, Crl, Secret, Nested}
+use Rattle.pkcs12.specs.declared.row.SafeRow.{SafeRow}
+use Rattle.pkcs12.specs.declared.row.BagRow.{BagRow}
+use Rattle.pkcs12.specs.declared.row.AttributeRow.{AttributeRow}
+use Rattle.pkcs12.specs.declared.row.Mac.{Mac}
+use Rattle.pkcs12.specs.declared.table.Table.{Table}
 
--- two tests, and a test of each of a list
-abbrev pub both : Bool → Bool → Bool
-both t u = if t then u else false
-
+-- a test of each of a list
 unfoldable pub all : {A : Type 0} → (A → Bool) → List A → Bool
 all test [] = true
 all test (x ∷ xs) = both (test x) (all test xs)
 
--- "its counts are within the sizes"
+-- Rule 6.2: the counts are within the sizes
 unfoldable pub countsFit : Table → Bool
 countsFit t = both (leb (t .«safe_count») safeRows) (both (leb (t .«bag_count») bagRows) (leb (t .«attribute_count») attributeRows))
-
--- "its ranges lie anywhere in the bytes"
-unfoldable pub lies : List ℕ → Range → Bool
-lies s r = both (leb (r .start) (r .end)) (leb (r .end) (length s))
 
 -- an identifier's body
 unfoldable pub namesType : List ℕ → Range → Bool
@@ -58,7 +54,7 @@ holdsOpaque s r = both (lies s r) (oneOpaque (bytesIn s r))
 unfoldable pub holdsAll : List ℕ → Range → Bool
 holdsAll s r = both (lies s r) (allOpaque (bytesIn s r))
 
--- "at most one opaque element"
+-- Rule 3.11: at most one opaque element
 unfoldable pub holdsAtMostOne : List ℕ → Range → Bool
 holdsAtMostOne s r = both (lies s r) (if eqb (length (bytesIn s r)) 0 then true else oneOpaque (bytesIn s r))
 
@@ -69,15 +65,15 @@ hasTag s r tag = eqb (getD (bytesIn s r) 0 0) tag
 unfoldable pub holdsTagged : List ℕ → Range → ℕ → Bool
 holdsTagged s r tag = both (holdsOpaque s r) (hasTag s r tag)
 
--- "AlgorithmIdentifier: SEQUENCE of an identifier and at most one opaque element", and the bytes that it made
+-- Rules 3.11, 3.16: an AlgorithmIdentifier's parts, and the bytes that the algorithm made
 unfoldable pub isSealed : List ℕ → Parts → Bool
 isSealed s p = both (namesType s (p .identifier)) (both (holdsAtMostOne s (p .parameters)) (lies s (p .value)))
 
--- "SEQUENCE of an identifier and A0 with one opaque element"
+-- Rule 3.17: an identifier, and one opaque element
 unfoldable pub isTyped : List ℕ → Parts → Bool
 isTyped s p = both (namesType s (p .identifier)) (holdsOpaque s (p .value))
 
--- "For 03 with x509Certificate that element is an OCTET STRING."
+-- Rule 3.19: with x509Certificate that element is an OCTET STRING
 unfoldable pub isCertificate : List ℕ → Parts → Bool
 isCertificate s p = both (isTyped s p) (if sameBytes (bytesIn s (p .identifier)) x509Certificate then hasTag s (p .value) octetStringTag else true)
 
@@ -102,11 +98,11 @@ safeTest s r = safeHolds s (r .kind) (r .parts)
 unfoldable pub bagTest : List ℕ → BagRow → Bool
 bagTest s r = bagHolds s (r .kind) (r .parts)
 
--- "Attribute: SEQUENCE of an identifier and SET of zero or more opaque elements."
+-- Rule 3.20: an identifier, and zero or more opaque elements
 unfoldable pub attributeTest : List ℕ → AttributeRow → Bool
 attributeTest s r = both (namesType s (r .identifier)) (holdsAll s (r .values))
 
--- "Absent means 1; if present it is 2 to 2,147,483,647"
+-- Rules 3.21, 3.22: algorithm, digest and salt; iterations from 1 to 2,147,483,647
 unfoldable pub macTest : List ℕ → Mac → Bool
 macTest s m = both (isSealed s (m .parts)) (both (lies s (m .salt)) (both (leb 1 (m .iterations)) (ltb (m .iterations) integerBound)))
 

@@ -1,4 +1,4 @@
--- What writing a sound table comes to (scope, "Numbers given back", its last part).
+-- What writing a sound table comes to (Rules 6.9, 9.4).
 use mathlib.Core.Path.{_≡_}
 use mathlib.Core.List.{List, _++_}
 use mathlib.Core.Option.{some}
@@ -9,12 +9,13 @@ use Rattle.pkcs12.specs.Syntax.{Pfx}
 use Rattle.pkcs12.specs.Table.{readingOf}
 use Rattle.pkcs12.specs.Accepted.{IsAccepted, readingFrom}
 use Rattle.pkcs12.specs.Written.{writeFile}
-use Rattle.pkcs12.specs.declared.Table.{Table}
-use Rattle.pkcs12.specs.declared.Written.the-variants.{Length}
+use Rattle.pkcs12.specs.declared.table.Table.{Table}
+use Rattle.buffer.specs.declared.Written.the-variants.{Length}
 
--- Writing the table t over the bytes s into the buffer delivers the file f, which has the reading x.
--- "On success the file stands at the front of the room, its length is returned, and every byte after it is as before."
--- The file is accepted, has the table's reading, and is the only accepted file that does.
+-- Writing the table t over the bytes s into the buffer delivers the file f, which has the reading
+-- x. Rule 6.9: the file is at the front of the buffer, its length is returned, and every byte
+-- behind it is as before. The file is accepted, has the table's reading, and is the only accepted
+-- file that does.
 pub record Delivered (t : Table) (s buffer f : List ℕ) (x : Pfx) : Type 0 where
   pub answer : writeFile t s buffer .answer ≡ Length (length f)
   pub buffer-after : writeFile t s buffer .buffer ≡ f ++ drop (length f) buffer

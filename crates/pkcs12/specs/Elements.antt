@@ -1,5 +1,5 @@
--- "the number of elements in it: all those named above, opaque ones with everything checked inside them, and those inside the two kinds of
--- data OCTET STRING" (the scope's opened count), of a reading.
+-- The number of elements of a reading (Rule 4.5): those that section 3 of the rules names, opaque
+-- ones with every element checked in them, and those in the OCTET STRINGs of type data.
 use mathlib.Core.List.{List, [], _∷_}
 use Prim.Native.Nat.{ℕ, _+_}
 use lib.Dec.{eqb}
@@ -8,7 +8,8 @@ use Rattle.der.specs.Numbers.{opaqueLevels}
 use Rattle.der.specs.Element.{wholeOf}
 use Rattle.der.specs.Opaque.{onChecked, elementsAt}
 use Rattle.pkcs12.specs.Numbers.{defaultIterations}
-use Rattle.pkcs12.specs.Syntax.{Algorithm, Sealed, Leaf, key, shrouded, typed, Attribute, Set, absent, present, Bags, none, bag, nest, Safe, plain, encrypted, MacData, Pfx}
+use Rattle.pkcs12.specs.Syntax.{Algorithm, Sealed, Leaf, key, shrouded, typed, Attribute, Set, absent, present}
+use Rattle.pkcs12.specs.Syntax.{Bags, none, bag, nest, Safe, plain, encrypted, MacData, Pfx}
 
 -- the elements in zero or more opaque elements, by `der`'s count: that of their trees
 unfoldable pub opaqueCount : List ℕ → ℕ
@@ -37,14 +38,15 @@ abbrev pub setCount : Set → ℕ
 setCount absent = 0
 setCount (present xs) = attributesCount xs + 1
 
--- SEQUENCE, bagId, [0], what stands in it, and the set; a nested bag has the SEQUENCE of its SafeContents
+-- SEQUENCE, bagId, [0], what stands in it, and the set; a nested bag has the SEQUENCE of its
+-- SafeContents
 unfoldable pub bagsCount : Bags → ℕ
 bagsCount none = 0
 bagsCount (bag x set xs) = ((leafCount x + 3) + setCount set) + bagsCount xs
 bagsCount (nest inner set xs) = ((bagsCount inner + 4) + setCount set) + bagsCount xs
 
--- SEQUENCE, identifier, [0], OCTET STRING, SEQUENCE; or SEQUENCE, identifier, [0], SEQUENCE, version, SEQUENCE, identifier, AlgorithmIdentifier,
--- ciphertext
+-- SEQUENCE, identifier, [0], OCTET STRING, SEQUENCE; or SEQUENCE, identifier, [0], SEQUENCE,
+-- version, SEQUENCE, identifier, AlgorithmIdentifier, ciphertext
 abbrev pub safeCount : Safe → ℕ
 safeCount (plain xs) = bagsCount xs + 5
 safeCount (encrypted x) = algorithmCount (x .algorithm) + 8

@@ -1,46 +1,36 @@
--- What a reading is written as (scope, "The file from outside in"; RFC 7292, section 4; X.690). For values of any size.
+-- What a reading is written as (Rules 3.3 to 3.23; RFC 7292, section 4; X.690). For values of any
+-- size.
 use mathlib.Core.List.{List, [], _∷_, _++_}
 use Prim.Native.Nat.{ℕ}
 use lib.Dec.{eqb}
 use Rattle.der.specs.Choice.{if_then_else_}
-use Rattle.der.specs.Numbers.{integerTag, octetStringTag, identifierTag}
-use Rattle.der.specs.Octets.{tlv, integerOctets}
-use Rattle.pkcs12.specs.Numbers.{sequenceTag, setTag, contextTag, ciphertextTag, pfxVersion, encryptedVersion, defaultIterations}
+use Rattle.der.specs.Numbers.{setTag, contextTag}
+use Rattle.der.specs.Octets.{tlv, integer, octetString, identifier, sequence}
+use Rattle.pkcs12.specs.Numbers.{ciphertextTag, pfxVersion, encryptedVersion, defaultIterations}
 use Rattle.pkcs12.specs.Identifiers.{dataType, encryptedType, identifierOf}
-use Rattle.pkcs12.specs.Syntax.{Algorithm, Sealed, Leaf, key, shrouded, typed, Attribute, Set, absent, present, Bags, none, bag, nest, Safe, plain, encrypted, MacData, Pfx, kindOfLeaf}
-use Rattle.pkcs12.specs.declared.BagKind.{BagKind}
-use Rattle.pkcs12.specs.declared.BagKind.the-variants.{Nested}
+use Rattle.pkcs12.specs.Syntax.{Algorithm, Sealed, Leaf, key, shrouded, typed, Attribute, Set, absent, present}
+use Rattle.pkcs12.specs.Syntax.{Bags, none, bag, nest, Safe, plain, encrypted, MacData, Pfx, kindOfLeaf}
+use Rattle.pkcs12.specs.declared.kind.BagKind.{BagKind}
+use Rattle.pkcs12.specs.declared.kind.BagKind.the-variants.{Nested}
 
--- INTEGER, OCTET STRING, OBJECT IDENTIFIER, SEQUENCE
-abbrev pub integer : ℕ → List ℕ
-integer n = tlv integerTag (integerOctets n)
-
-abbrev pub octetString : List ℕ → List ℕ
-octetString x = tlv octetStringTag x
-
-abbrev pub identifier : List ℕ → List ℕ
-identifier x = tlv identifierTag x
-
-abbrev pub sequence : List ℕ → List ℕ
-sequence x = tlv sequenceTag x
-
--- "AlgorithmIdentifier: SEQUENCE of an identifier and at most one opaque element."
+-- Rule 3.11: AlgorithmIdentifier, a SEQUENCE of an identifier and at most one opaque element
 unfoldable pub algorithmBytes : Algorithm → List ℕ
 algorithmBytes a = sequence (identifier (a .identifier) ++ a .parameters)
 
--- "SEQUENCE of AlgorithmIdentifier and OCTET STRING": a shrouded key, a DigestInfo
+-- Rules 3.16, 3.21: a shrouded key, a DigestInfo, each a SEQUENCE of an AlgorithmIdentifier and an
+-- OCTET STRING
 unfoldable pub sealedBytes : Sealed → List ℕ
 sealedBytes x = sequence (algorithmBytes (x .algorithm) ++ octetString (x .octets))
 
--- "ContentInfo is SEQUENCE: contentType identifier, then [0] (A0) with one element."
+-- Rule 3.4: ContentInfo, a SEQUENCE of an identifier and [0] with one element
 unfoldable pub contentInfo : List ℕ → List ℕ → List ℕ
 contentInfo type content = sequence (identifier type ++ tlv contextTag content)
 
--- "an OCTET STRING whose body is" a SEQUENCE of what is given
+-- Rules 3.5, 3.8: of type data, with an OCTET STRING whose body is a SEQUENCE of what is given
 unfoldable pub dataBytes : List ℕ → List ℕ
 dataBytes x = contentInfo dataType (octetString (sequence x))
 
--- "Attribute: SEQUENCE of an identifier and SET of zero or more opaque elements."
+-- Rule 3.20: an attribute, a SEQUENCE of an identifier and a SET of zero or more opaque elements
 unfoldable pub attributeBytes : Attribute → List ℕ
 attributeBytes a = sequence (identifier (a .identifier) ++ tlv setTag (a .values))
 
@@ -48,7 +38,7 @@ unfoldable pub attributesBytes : List Attribute → List ℕ
 attributesBytes [] = []
 attributesBytes (a ∷ xs) = attributeBytes a ++ attributesBytes xs
 
--- "and optionally SET (31) of attributes"
+-- Rule 3.13: optionally a SET of attributes
 unfoldable pub setBytes : Set → List ℕ
 setBytes absent = []
 setBytes (present xs) = tlv setTag (attributesBytes xs)
@@ -59,21 +49,24 @@ leafBytes (key v) = v
 leafBytes (shrouded x) = sealedBytes x
 leafBytes (typed k t v) = sequence (identifier t ++ tlv contextTag v)
 
--- "SafeBag: SEQUENCE of bagId, [0] (A0) with one element, and optionally SET (31) of attributes."
+-- Rule 3.13: SafeBag, a SEQUENCE of a bagId, [0] with one element, and optionally a SET of
+-- attributes
 unfoldable pub bagBytes : BagKind → List ℕ → Set → List ℕ
 bagBytes k content set = sequence (identifier (identifierOf k) ++ (tlv contextTag content ++ setBytes set))
 
--- the bags of a SafeContents; "06 nested: a SafeContents"
+-- Rules 3.12, 3.18: the bags of a SafeContents; in [0] of a nested bag is a SafeContents
 unfoldable pub bagsBytes : Bags → List ℕ
 bagsBytes none = []
 bagsBytes (bag x set xs) = bagBytes (kindOfLeaf x) (leafBytes x) set ++ bagsBytes xs
 bagsBytes (nest inner set xs) = bagBytes Nested (sequence (bagsBytes inner)) set ++ bagsBytes xs
 
--- "EncryptedContentInfo: SEQUENCE of identifier data, AlgorithmIdentifier, and tag 80 with the ciphertext"
+-- Rule 3.10: EncryptedContentInfo, a SEQUENCE of the identifier data, an AlgorithmIdentifier, and
+-- tag 80 with the ciphertext
 unfoldable pub encryptedInfo : Sealed → List ℕ
 encryptedInfo x = sequence (identifier dataType ++ (algorithmBytes (x .algorithm) ++ tlv ciphertextTag (x .octets)))
 
--- "data: an OCTET STRING whose body is one SafeContents"; "encryptedData: SEQUENCE of version INTEGER 0 and EncryptedContentInfo"
+-- Rule 3.8: of type data, an OCTET STRING whose body is one SafeContents. Rule 3.9: of type
+-- encryptedData, a SEQUENCE of the version 0 and an EncryptedContentInfo
 unfoldable pub safeBytes : Safe → List ℕ
 safeBytes (plain xs) = dataBytes (bagsBytes xs)
 safeBytes (encrypted x) = contentInfo encryptedType (sequence (integer encryptedVersion ++ encryptedInfo x))
@@ -82,14 +75,14 @@ unfoldable pub safesBytes : List Safe → List ℕ
 safesBytes [] = []
 safesBytes (x ∷ xs) = safeBytes x ++ safesBytes xs
 
--- "Absent means 1 .., as DER doesn't encode a default."
+-- Rule 3.22: 1 is the default, and DER leaves a default out
 unfoldable pub iterationsBytes : ℕ → List ℕ
 iterationsBytes n = if eqb n defaultIterations then [] else integer n
 
--- "MacData: SEQUENCE of DigestInfo .., salt OCTET STRING, and optionally INTEGER iterations."
+-- Rule 3.21: MacData, a SEQUENCE of a DigestInfo, the salt, and optionally the iterations
 unfoldable pub macBytes : MacData → List ℕ
 macBytes m = sequence (sealedBytes (m .digest) ++ (octetString (m .salt) ++ iterationsBytes (m .iterations)))
 
--- "PFX is SEQUENCE (30): version INTEGER 3; ContentInfo; MacData."
+-- Rule 3.3: PFX, a SEQUENCE of the version 3, a ContentInfo and a MacData
 unfoldable pub encode : Pfx → List ℕ
 encode x = sequence (integer pfxVersion ++ (dataBytes (safesBytes (x .safes)) ++ macBytes (x .mac)))

@@ -1,32 +1,36 @@
--- Where a reading stands in a file: "Every range lies within its parent's body." Elements fill the body of their parent one behind another, from
--- the file down, and each range is the body of its element, or a whole opaque one. The rows are those of the table, and "fields that a row's kind
--- doesn't use hold 0 or none".
+-- Where a reading stands in a file (Rule 4.2: every range lies within its parent's body). Elements
+-- fill the body of their parent one behind another, from the file down, and each range is the body
+-- of its element, or a whole opaque one. The rows are those of the table, and the fields that a
+-- row's kind doesn't use are 0 or none (Rule 5.24).
 use mathlib.Core.Path.{_≡_}
 use mathlib.Core.List.{List, [], _∷_, _++_}
 use Prim.Native.Nat.{ℕ, _+_}
 use lib.ListN.{length}
-use Rattle.der.specs.Numbers.{octetStringTag, identifierTag}
-use Rattle.der.specs.Octets.{tlv}
+use Rattle.der.specs.Numbers.{octetStringTag, identifierTag, sequenceTag, setTag, contextTag}
+use Rattle.der.specs.Octets.{tlv, integer, octetString, identifier, sequence}
 use Rattle.der.specs.Span.{Span}
-use Rattle.pkcs12.specs.Numbers.{sequenceTag, setTag, contextTag, ciphertextTag, pfxVersion, encryptedVersion}
+use Rattle.pkcs12.specs.Numbers.{ciphertextTag, pfxVersion, encryptedVersion}
 use Rattle.pkcs12.specs.Identifiers.{dataType, encryptedType, identifierOf}
-use Rattle.pkcs12.specs.Syntax.{Algorithm, Sealed, Leaf, key, shrouded, typed, Attribute, Set, absent, present, Bags, none, bag, nest, Safe, plain, encrypted, MacData, Pfx, kindOfLeaf}
-use Rattle.pkcs12.specs.Encode.{integer, octetString, identifier, sequence, algorithmBytes, sealedBytes, dataBytes, attributesBytes, setBytes, leafBytes, bagsBytes, encryptedInfo, safesBytes, macBytes, iterationsBytes}
+use Rattle.pkcs12.specs.Syntax.{Algorithm, Sealed, Leaf, key, shrouded, typed, Attribute, Set, absent, present}
+use Rattle.pkcs12.specs.Syntax.{Bags, none, bag, nest, Safe, plain, encrypted, MacData, Pfx, kindOfLeaf}
+use Rattle.pkcs12.specs.Encode.{algorithmBytes, sealedBytes, dataBytes, attributesBytes, setBytes, leafBytes}
+use Rattle.pkcs12.specs.Encode.{bagsBytes, encryptedInfo, safesBytes, macBytes, iterationsBytes}
 use Rattle.pkcs12.specs.Valid.{bagsIn}
 use Rattle.pkcs12.specs.Values.{stands}
-use Rattle.pkcs12.specs.Table.{noRange, parts, noParts, safeRow, bagRow, Rows}
+use Rattle.buffer.specs.Range.{noRange}
+use Rattle.pkcs12.specs.Table.{parts, noParts, safeRow, bagRow, Rows}
 use Rattle.pkcs12.specs.Walk.{Owner, owner}
-use Rattle.pkcs12.specs.declared.Range.{Range}
-use Rattle.pkcs12.specs.declared.Parts.{Parts}
-use Rattle.pkcs12.specs.declared.SafeKind.the-variants.{Plain, Encrypted}
-use Rattle.pkcs12.specs.declared.BagKind.{BagKind}
-use Rattle.pkcs12.specs.declared.BagKind.the-variants.{Nested}
-use Rattle.pkcs12.specs.declared.Enclosing.{Enclosing}
-use Rattle.pkcs12.specs.declared.Enclosing.the-variants.{Bag}
-use Rattle.pkcs12.specs.declared.SafeRow.{SafeRow}
-use Rattle.pkcs12.specs.declared.BagRow.{BagRow}
-use Rattle.pkcs12.specs.declared.AttributeRow.{AttributeRow}
-use Rattle.pkcs12.specs.declared.Mac.{Mac}
+use Rattle.buffer.specs.declared.Range.{Range}
+use Rattle.pkcs12.specs.declared.row.Parts.{Parts}
+use Rattle.pkcs12.specs.declared.kind.SafeKind.the-variants.{Plain, Encrypted}
+use Rattle.pkcs12.specs.declared.kind.BagKind.{BagKind}
+use Rattle.pkcs12.specs.declared.kind.BagKind.the-variants.{Nested}
+use Rattle.pkcs12.specs.declared.row.Enclosing.{Enclosing}
+use Rattle.pkcs12.specs.declared.row.Enclosing.the-variants.{Bag}
+use Rattle.pkcs12.specs.declared.row.SafeRow.{SafeRow}
+use Rattle.pkcs12.specs.declared.row.BagRow.{BagRow}
+use Rattle.pkcs12.specs.declared.row.AttributeRow.{AttributeRow}
+use Rattle.pkcs12.specs.declared.row.Mac.{Mac}
 
 -- an element with the tag t fills the places from..to; the range r is its body, the bytes x
 pub record ElementLaid (s : List ℕ) (from to t : ℕ) (r : Range) (x : List ℕ) : Type 0 where
@@ -40,7 +44,7 @@ pub record PieceLaid (s : List ℕ) (from to : ℕ) (r : Range) (x : List ℕ) :
   pub ends : r .end ≡ to
   pub bytes : Span s from to x
 
--- an AlgorithmIdentifier; "Absent parameters are an empty range at the parent's end"
+-- an AlgorithmIdentifier; absent parameters are an empty range at the parent's end (Rule 3.11)
 pub record AlgorithmLaid (s : List ℕ) (from to : ℕ) (p : Parts) (a : Algorithm) : Type 0 where
   pub body : Range
   pub rest : ℕ
@@ -100,7 +104,8 @@ pub data SetLaid (s : List ℕ) (n : ℕ) : ℕ → ℕ → Set → List Attribu
       → ElementLaid s from to setTag body (attributesBytes xs) → AttributesLaid s n (body .start) (body .end) xs rs → SetLaid s n from to (present xs) rs
 
 -- one bag, row n: its identifier, [0] whose body `value` holds x, and its set
-pub record BagLaid (s : List ℕ) (from to : ℕ) (w : Owner) (n : ℕ) (k : BagKind) (p : Parts) (value : Range) (x : List ℕ) (set : Set) (row : BagRow) (own : List AttributeRow) : Type 0 where
+pub record BagLaid (s : List ℕ) (from to : ℕ) (w : Owner) (n : ℕ) (k : BagKind) (p : Parts) (value : Range)
+    (x : List ℕ) (set : Set) (row : BagRow) (own : List AttributeRow) : Type 0 where
   pub shows : row ≡ bagRow k (w .safe) (w .enclosing) p (stands set)
   pub body : Range
   pub name : Range
@@ -114,11 +119,13 @@ pub record BagLaid (s : List ℕ) (from to : ℕ) (w : Owner) (n : ℕ) (k : Bag
 -- bags one behind another, the first of which is row n, with their rows and attribute rows
 pub data BagsLaid (s : List ℕ) : ℕ → ℕ → Owner → ℕ → Bags → List BagRow → List AttributeRow → Type 0 where
   no-bag : {at : ℕ} {w : Owner} {n : ℕ} → BagsLaid s at at w n none [] []
-  one-bag : {from mid to : ℕ} {w : Owner} {n : ℕ} {x : Leaf} {set : Set} {xs : Bags} {row : BagRow} {rows : List BagRow} {own rest : List AttributeRow} (p : Parts) (value : Range)
+  one-bag : {from mid to : ℕ} {w : Owner} {n : ℕ} {x : Leaf} {set : Set} {xs : Bags} {row : BagRow}
+      {rows : List BagRow} {own rest : List AttributeRow} (p : Parts) (value : Range)
       → BagLaid s from mid w n (kindOfLeaf x) p value (leafBytes x) set row own → LeafLaid s (value .start) (value .end) p x
       → BagsLaid s mid to w (n + 1) xs rows rest
       → BagsLaid s from to w n (bag x set xs) (row ∷ rows) (own ++ rest)
-  one-nest : {from mid to : ℕ} {w : Owner} {n : ℕ} {inner : Bags} {set : Set} {xs : Bags} {row : BagRow} {below rows : List BagRow} {deep own rest : List AttributeRow} (value body : Range)
+  one-nest : {from mid to : ℕ} {w : Owner} {n : ℕ} {inner : Bags} {set : Set} {xs : Bags} {row : BagRow}
+      {below rows : List BagRow} {deep own rest : List AttributeRow} (value body : Range)
       → BagLaid s from mid w n Nested noParts value (sequence (bagsBytes inner)) set row own
       → ElementLaid s (value .start) (value .end) sequenceTag body (bagsBytes inner)
       → BagsLaid s (body .start) (body .end) (owner (w .safe) (Bag n)) (n + 1) inner below deep
@@ -149,7 +156,8 @@ pub record ContentLaid (s : List ℕ) (from to : ℕ) (type : List ℕ) (value :
   pub named : ElementLaid s (body .start) rest identifierTag name type
   pub context : ElementLaid s rest (body .end) contextTag value x
 
--- the same of type data: the body `octets` of its OCTET STRING holds one SEQUENCE, with the body `inner`
+-- the same of type data: the body `octets` of its OCTET STRING holds one SEQUENCE, with the body
+-- `inner`
 pub record DataLaid (s : List ℕ) (from to : ℕ) (octets inner : Range) (x : List ℕ) : Type 0 where
   pub value : Range
   pub content : ContentLaid s from to dataType value (octetString (sequence x))
@@ -159,11 +167,13 @@ pub record DataLaid (s : List ℕ) (from to : ℕ) (octets inner : Range) (x : L
 -- safes one behind another, from safe k and bag n on, with their rows
 pub data SafesLaid (s : List ℕ) : ℕ → ℕ → ℕ → ℕ → List Safe → List SafeRow → List BagRow → List AttributeRow → Type 0 where
   no-safe : {at k n : ℕ} → SafesLaid s at at k n [] [] [] []
-  one-plain : {from mid to k n : ℕ} {x : Bags} {xs : List Safe} {safes : List SafeRow} {below rows : List BagRow} {deep rest : List AttributeRow} (octets inner : Range)
+  one-plain : {from mid to k n : ℕ} {x : Bags} {xs : List Safe} {safes : List SafeRow} {below rows : List BagRow}
+      {deep rest : List AttributeRow} (octets inner : Range)
       → DataLaid s from mid octets inner (bagsBytes x) → BagsLaid s (inner .start) (inner .end) (owner k Enclosing.None) n x below deep
       → SafesLaid s mid to (k + 1) (n + bagsIn x) xs safes rows rest
       → SafesLaid s from to k n (plain x ∷ xs) (safeRow Plain noParts ∷ safes) (below ++ rows) (deep ++ rest)
-  one-encrypted : {from mid to k n : ℕ} {x : Sealed} {xs : List Safe} {safes : List SafeRow} {rows : List BagRow} {rest : List AttributeRow} (p : Parts) (value : Range)
+  one-encrypted : {from mid to k n : ℕ} {x : Sealed} {xs : List Safe} {safes : List SafeRow} {rows : List BagRow}
+      {rest : List AttributeRow} (p : Parts) (value : Range)
       → ContentLaid s from mid encryptedType value (sequence (integer encryptedVersion ++ encryptedInfo x)) → EncryptedLaid s (value .start) (value .end) p x
       → SafesLaid s mid to (k + 1) n xs safes rows rest
       → SafesLaid s from to k n (encrypted x ∷ xs) (safeRow Encrypted p ∷ safes) rows rest
@@ -179,8 +189,8 @@ pub record MacLaid (s : List ℕ) (from to : ℕ) (m : Mac) (x : MacData) : Type
   pub last : Span s after (body .end) (iterationsBytes (x .iterations))
   pub iterations : m .iterations ≡ x .iterations
 
--- the whole file: "The file is the parent of the outermost element"; the MAC input is the body of the outer OCTET STRING, "without the
--- OCTET STRING's tag and length"
+-- the whole file, which is the parent of the outermost element (Rule 2.4); the MAC input is the
+-- body of the outer OCTET STRING, without its tag and length (Rule 3.6)
 pub record PfxLaid (s : List ℕ) (st : Rows) (m : Mac) (x : Pfx) : Type 0 where
   pub body : Range
   pub inner : Range

@@ -1,5 +1,6 @@
--- What a PKCS #12 file is, twice: as the standard's values and what they are written as (`Syntax`, `Encode`, `Valid`), and as the walk over any
--- bytes that the reading call follows (`Walk`). Between them stand the rows (`Values`, `Table`).
+-- What a PKCS #12 file is, twice: as the standard's values and what they are written as (`Syntax`,
+-- `Encode`, `Valid`), and as the walk over any bytes that the reading call follows (`Walk`).
+-- Between them stand the rows (`Values`, `Table`).
 pub mod Numbers
 pub mod Identifiers
 pub mod Syntax
@@ -17,7 +18,6 @@ pub mod Checks
 pub mod Written
 pub mod Delivered
 pub mod Alike
-pub mod Placed
 pub mod Numbered
 pub mod Bench
 pub mod Telling

@@ -1,82 +1,43 @@
--- The scope's numbers, sizes, tags and identifiers, each beside the name that the definitions use for it. They are
--- written out as the scope has them, and `numbers-named` among the theorems says that each name is what it stands for.
-use mathlib.Core.Path.{_≡_}
+-- The numbers, sizes, tags and identifiers of the rules, each beside the name that the definitions
+-- use for it. They are written out as the rules have them, and `numbers-named` among the theorems
+-- says that each name is what it stands for.
 use mathlib.Core.List.{List, [], _∷_}
 use Prim.Native.Nat.{ℕ}
-use Rattle.der.specs.Numbers.{missing, overrun, tagForm, lengthForm, otherTag, content, leftOver, tooMany}
-use Rattle.der.specs.Numbers.{integerTag, octetStringTag, identifierTag, lengthBound, integerBound, opaqueLevels}
-use Rattle.pkcs12.specs.Numbers.{notServed, tooLong, noRoom, notSound, noRow, noCertificate, moreThanOne}
-use Rattle.pkcs12.specs.Numbers.{safeRows, bagRows, attributeRows, levels, fileBytes}
-use Rattle.pkcs12.specs.Numbers.{sequenceTag, setTag, contextTag, ciphertextTag}
+use Rattle.pkcs12.specs.Numbers.{notServed, noRow, safeRows, bagRows, attributeRows, levels, ciphertextTag}
 use Rattle.pkcs12.specs.Numbers.{pfxVersion, encryptedVersion, attributedVersion, defaultIterations}
-use Rattle.pkcs12.specs.Identifiers.{dataType, signedType, envelopedType, encryptedType}
-use Rattle.pkcs12.specs.Identifiers.{x509Certificate, identifierOf}
-use Rattle.pkcs12.specs.Accepted.{Each}
-use Rattle.pkcs12.specs.declared.BagKind.the-variants.{Key, ShroudedKey, Certificate, Crl, Secret, Nested}
+use Rattle.pkcs12.specs.Identifiers.{dataType, signedType, envelopedType, encryptedType, x509Certificate}
+use Rattle.pkcs12.specs.Identifiers.{identifierOf}
+use Rattle.der.specs.Named.{Named}
+use Rattle.pkcs12.specs.declared.kind.BagKind.the-variants.{Key, ShroudedKey, Certificate, Crl, Secret, Nested}
 
--- each name is what stands beside it
-abbrev pub Named : {A : Type 0} → List (A × A) → Type 0
-Named rows = Each (λ r. r .0 ≡ r .1) rows
-
--- "Numbers given back"
+-- Rules 5.7, 5.12
 unfoldable pub namedRefusals : List (ℕ × ℕ)
-namedRefusals =
-    (missing, 1)
-    ∷ (overrun, 1)
-    ∷ (tagForm, 2)
-    ∷ (lengthForm, 3)
-    ∷ (otherTag, 4)
-    ∷ (content, 5)
-    ∷ (leftOver, 6)
-    ∷ (notServed, 7)
-    ∷ (tooMany, 8)
-    ∷ (tooLong, 9)
-    ∷ (noRoom, 10)
-    ∷ (notSound, 11)
-    ∷ (noRow, 12)
-    ∷ (noCertificate, 13)
-    ∷ (moreThanOne, 14)
-    ∷ []
+namedRefusals = (notServed, 7) ∷ (noRow, 12) ∷ []
 
--- "One table holds 16 safe rows, 64 bag rows and 128 attribute rows"; "Safe contents nest to level 8"; "16 levels at
--- most"; "a file has at most 65,535 bytes"; "82 with 0100..FFFF", the lengths below 10000 (hex)
+-- Rules 1.3 (rows), 1.4 (levels of safe contents)
 unfoldable pub namedSizes : List (ℕ × ℕ)
 namedSizes =
     (safeRows, 16)
     ∷ (bagRows, 64)
     ∷ (attributeRows, 128)
     ∷ (levels, 8)
-    ∷ (opaqueLevels, 16)
-    ∷ (fileBytes, 65_535)
-    ∷ (lengthBound, 0x10000)
     ∷ []
 
--- "SEQUENCE (30)", "SET (31)", "[0] (A0)", "tag 80 with the ciphertext", "INTEGER (02)", "OCTET STRING is tag 04
--- only", "OBJECT IDENTIFIER (06)"
+-- Rule 3.10 (the ciphertext)
 unfoldable pub namedTags : List (ℕ × ℕ)
-namedTags =
-    (sequenceTag, 0x30)
-    ∷ (setTag, 0x31)
-    ∷ (contextTag, 0xA0)
-    ∷ (ciphertextTag, 0x80)
-    ∷ (integerTag, 0x02)
-    ∷ (octetStringTag, 0x04)
-    ∷ (identifierTag, 0x06)
-    ∷ []
+namedTags = (ciphertextTag, 0x80) ∷ []
 
--- "version INTEGER 3"; "version INTEGER 0"; "EncryptedData version 2"; "Absent means 1; if present it is 2 to
--- 2,147,483,647", the numbers below the bound
+-- Rules 3.3 (version of a PFX), 3.9 (of EncryptedData), 5.7 (the one that is 7), 3.22 (iterations
+-- that are absent)
 unfoldable pub namedIntegers : List (ℕ × ℕ)
 namedIntegers =
     (pfxVersion, 3)
     ∷ (encryptedVersion, 0)
     ∷ (attributedVersion, 2)
     ∷ (defaultIterations, 1)
-    ∷ (integerBound, 2_147_483_648)
     ∷ []
 
--- "data", "signedData, envelopedData, encryptedData", "x509Certificate"; "each kind of bag has its own identifier
--- bytes"
+-- Rules 3.23 (types of content, x509Certificate), 3.14 (kinds of bag)
 unfoldable pub namedIdentifiers : List (List ℕ × List ℕ)
 namedIdentifiers =
     (dataType, 0x2A ∷ 0x86 ∷ 0x48 ∷ 0x86 ∷ 0xF7 ∷ 0x0D ∷ 0x01 ∷ 0x07 ∷ 0x01 ∷ [])

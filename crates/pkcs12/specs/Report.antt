@@ -1,35 +1,30 @@
--- What each case of an answer reports: "Where an answer is an enum, a definition gives this paper's number and values
--- for each of the enum's cases." `Report` is that of `der`.
+-- What each case of an answer reports (Rule 9.2). `Report` is that of `der`.
 use mathlib.Core.List.{List, [], _∷_, _++_}
 use Prim.Native.Nat.{ℕ}
 use Rattle.der.specs.Element.{fault}
-use Rattle.der.specs.Report.{Report, passing, refusing}
+use Rattle.der.specs.Report.{Report, passing, refusing, cursorValues}
 use Rattle.der.specs.declared.Cursor.{Cursor}
-use Rattle.pkcs12.specs.declared.Range.{Range}
-use Rattle.pkcs12.specs.declared.Parts.{Parts}
-use Rattle.pkcs12.specs.declared.BagKind.{BagKind}
-use Rattle.pkcs12.specs.declared.BagKind.the-variants.{Key, ShroudedKey, Certificate, Crl, Secret, Nested}
-use Rattle.pkcs12.specs.declared.AttributeRow.{AttributeRow}
-use Rattle.pkcs12.specs.declared.Mac.{Mac}
-use Rattle.pkcs12.specs.declared.Answer.{Answer}
-use Rattle.pkcs12.specs.declared.Answer.the-variants.{Accepted}
-use Rattle.pkcs12.specs.declared.Written.{Written}
-use Rattle.pkcs12.specs.declared.Written.the-variants.{Length}
-use Rattle.pkcs12.specs.declared.PartsAt.{PartsAt}
-use Rattle.pkcs12.specs.declared.MacAt.{MacAt}
+use Rattle.buffer.specs.declared.Range.{Range}
+use Rattle.pkcs12.specs.declared.row.Parts.{Parts}
+use Rattle.pkcs12.specs.declared.kind.BagKind.{BagKind}
+use Rattle.pkcs12.specs.declared.kind.BagKind.the-variants.{Key, ShroudedKey, Certificate, Crl, Secret, Nested}
+use Rattle.pkcs12.specs.declared.row.AttributeRow.{AttributeRow}
+use Rattle.pkcs12.specs.declared.row.Mac.{Mac}
+use Rattle.pkcs12.specs.declared.answers.Answer.{Answer}
+use Rattle.pkcs12.specs.declared.answers.Answer.the-variants.{Accepted}
+use Rattle.buffer.specs.declared.Written.{Written}
+use Rattle.buffer.specs.declared.Written.the-variants.{Length}
+use Rattle.pkcs12.specs.declared.answers.PartsAt.{PartsAt}
+use Rattle.pkcs12.specs.declared.answers.MacAt.{MacAt}
+use Rattle.buffer.specs.Report.{rangeValues}
 
 -- reading: an accepted file's values are in its table
 unfoldable pub answerReport : Answer → Report
 answerReport Accepted = passing []
 answerReport (Answer.Refused f) = refusing f
 
--- writing: "its length is returned"
-unfoldable pub writtenReport : Written → Report
-writtenReport (Length n) = passing (n ∷ [])
-writtenReport (Written.Refused f) = refusing f
-
--- "01 key", "02 shrouded key", "03 certificate, 04 CRL, 05 secret", "06 nested"; "well-formed bagId of another kind"
--- is 7, here at 0: the body of a bagId doesn't say where it stands in a file
+-- Rule 3.14: a kind by its last byte, 01 to 06. Rule 5.7: a bagId of another kind is 7, here at 0:
+-- the body of a bagId doesn't say where it stands in a file
 unfoldable pub kindReport : BagKind → Report
 kindReport Key = passing (1 ∷ [])
 kindReport ShroudedKey = passing (2 ∷ [])
@@ -49,13 +44,6 @@ bagNumber Crl = 4
 bagNumber Secret = 5
 bagNumber Nested = 6
 
--- a range, a cursor: from and to
-abbrev pub rangeValues : Range → List ℕ
-rangeValues r = r .start ∷ r .end ∷ []
-
-abbrev pub cursorValues : Cursor → List ℕ
-cursorValues c = c .at ∷ c .end ∷ []
-
 -- an attribute row: its bag, its identifier, its values
 abbrev pub attributeValues : AttributeRow → List ℕ
 attributeValues r = r .bag ∷ (rangeValues (r .identifier) ++ rangeValues (r .values))
@@ -68,7 +56,8 @@ unfoldable pub partsReport : PartsAt → Report
 partsReport (PartsAt.Found p m n) = passing (partsValues p ++ (m ∷ cursorValues n))
 partsReport (PartsAt.Refused f) = refusing f
 
--- "the MAC algorithm, parameters, digest, salt and iterations"; the number of elements, what follows them
+-- Rule 4.1: algorithm, parameters, digest, salt and iterations of the MAC; the number of elements,
+-- what follows them
 abbrev pub macValues : Mac → List ℕ
 macValues m = partsValues (m .parts) ++ (rangeValues (m .salt) ++ (m .iterations ∷ []))
 

@@ -1,4 +1,4 @@
--- When a table is sound for bytes, as the writer asks (scope, "Numbers given back", its last part).
+-- When a table is sound for bytes, as the writer requires (Rules 6.1 to 6.7).
 use mathlib.Core.Path.{_≡_}
 use mathlib.Core.List.{List}
 use mathlib.Core.Option.{some}
@@ -8,17 +8,17 @@ use Rattle.pkcs12.specs.Numbers.{safeRows, bagRows, attributeRows}
 use Rattle.pkcs12.specs.Syntax.{Pfx}
 use Rattle.pkcs12.specs.Valid.{Valid}
 use Rattle.pkcs12.specs.Table.{Rows, rowsIn, readingOf}
-use Rattle.pkcs12.specs.declared.Range.{Range}
-use Rattle.pkcs12.specs.declared.Parts.{Parts}
-use Rattle.pkcs12.specs.declared.SafeKind.{SafeKind}
-use Rattle.pkcs12.specs.declared.SafeKind.the-variants.{Plain, Encrypted}
-use Rattle.pkcs12.specs.declared.BagKind.{BagKind}
-use Rattle.pkcs12.specs.declared.BagKind.the-variants.{Key, ShroudedKey, Certificate, Crl, Secret, Nested}
-use Rattle.pkcs12.specs.declared.Mac.{Mac}
-use Rattle.pkcs12.specs.declared.Table.{Table}
-use Rattle.pkcs12.specs.Accepted.{Each}
+use Rattle.buffer.specs.declared.Range.{Range}
+use Rattle.pkcs12.specs.declared.row.Parts.{Parts}
+use Rattle.pkcs12.specs.declared.kind.SafeKind.{SafeKind}
+use Rattle.pkcs12.specs.declared.kind.SafeKind.the-variants.{Plain, Encrypted}
+use Rattle.pkcs12.specs.declared.kind.BagKind.{BagKind}
+use Rattle.pkcs12.specs.declared.kind.BagKind.the-variants.{Key, ShroudedKey, Certificate, Crl, Secret, Nested}
+use Rattle.pkcs12.specs.declared.row.Mac.{Mac}
+use Rattle.pkcs12.specs.declared.table.Table.{Table}
+use Rattle.der.specs.Named.{Each}
 
--- "its ranges lie anywhere in the bytes": those that a row's kind uses, in the rows below the counts
+-- Rule 6.5: the ranges lie in the bytes, those that a row's kind uses in the rows below the counts
 pub record Lies (s : List ℕ) (r : Range) : Type 0 where
   pub order : r .start ≤ r .end
   pub inside : r .end ≤ length s
@@ -50,10 +50,11 @@ pub record RangesLie (s : List ℕ) (st : Rows) (m : Mac) : Type 0 where
   pub digest : SealedLies s (m .parts)
   pub salt : Lies s (m .salt)
 
--- "A table is sound when its counts are within the sizes, its rows stand in the order a reading gives, attributes belong only to bags with a
--- set, its ranges lie anywhere in the bytes, and what it shows follows every rule above, the file's size and the length forms of the headers to be
--- written aside": it shows a reading, and that is valid.
--- "Rows past the counts, the opened count, the MAC input range and fields that a row's kind doesn't use are ignored."
+-- Rules 6.2 to 6.6: counts within the sizes, rows in the order of a reading, attributes only of
+-- bags with a set, ranges in the bytes, and every rule of a file but for its size and the length
+-- forms of its headers. That is: the table shows a reading, and that is valid.
+-- Rule 6.7: rows past the counts, the number of elements, the range of the MAC input and fields
+-- that a row's kind doesn't use are ignored.
 pub record Sound (t : Table) (s : List ℕ) : Type 0 where
   pub safe-count : t .«safe_count» ≤ safeRows
   pub bag-count : t .«bag_count» ≤ bagRows

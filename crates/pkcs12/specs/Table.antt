@@ -6,28 +6,23 @@ use Prim.Native.Nat.{ℕ, _+_, _-_}
 use lib.ListN.{length, take, replicate}
 use lib.Seq.{slice}
 use Rattle.pkcs12.specs.Numbers.{safeRows, bagRows, attributeRows}
-use Rattle.pkcs12.specs.Syntax.{Algorithm, Sealed, Typed, certificate, crl, secret, Leaf, key, shrouded, typed, MacData, Pfx}
-use Rattle.pkcs12.specs.Values.{SafeValue, empty-safe, plain-safe, encrypted-safe, Content, empty-bag, leaf, nested, BagValue, AttributeValue, Values, treeOf}
-use Rattle.pkcs12.specs.declared.Range.{Range}
-use Rattle.pkcs12.specs.declared.Parts.{Parts}
-use Rattle.pkcs12.specs.declared.SafeKind.{SafeKind}
-use Rattle.pkcs12.specs.declared.SafeKind.the-variants.{Plain, Encrypted}
-use Rattle.pkcs12.specs.declared.BagKind.{BagKind}
-use Rattle.pkcs12.specs.declared.BagKind.the-variants.{Key, ShroudedKey, Certificate, Crl, Secret, Nested}
-use Rattle.pkcs12.specs.declared.Enclosing.{Enclosing}
-use Rattle.pkcs12.specs.declared.SafeRow.{SafeRow}
-use Rattle.pkcs12.specs.declared.BagRow.{BagRow}
-use Rattle.pkcs12.specs.declared.AttributeRow.{AttributeRow}
-use Rattle.pkcs12.specs.declared.Mac.{Mac}
-use Rattle.pkcs12.specs.declared.Table.{Table}
-
--- "A range a..b has bytes a up to b-1."
-abbrev pub range : ℕ → ℕ → Range
-range a b = record { start = a; end = b }
-
--- "rows past the counts and fields that a row's kind doesn't use hold 0 or none"
-abbrev pub noRange : Range
-noRange = range 0 0
+use Rattle.pkcs12.specs.Syntax.{Algorithm, Sealed, Typed, certificate, crl, secret, Leaf, key, shrouded, typed}
+use Rattle.pkcs12.specs.Syntax.{MacData, Pfx}
+use Rattle.pkcs12.specs.Values.{SafeValue, empty-safe, plain-safe, encrypted-safe, Content, empty-bag, leaf}
+use Rattle.pkcs12.specs.Values.{nested, BagValue, AttributeValue, Values, treeOf}
+use Rattle.buffer.specs.declared.Range.{Range}
+use Rattle.pkcs12.specs.declared.row.Parts.{Parts}
+use Rattle.pkcs12.specs.declared.kind.SafeKind.{SafeKind}
+use Rattle.pkcs12.specs.declared.kind.SafeKind.the-variants.{Plain, Encrypted}
+use Rattle.pkcs12.specs.declared.kind.BagKind.{BagKind}
+use Rattle.pkcs12.specs.declared.kind.BagKind.the-variants.{Key, ShroudedKey, Certificate, Crl, Secret, Nested}
+use Rattle.pkcs12.specs.declared.row.Enclosing.{Enclosing}
+use Rattle.pkcs12.specs.declared.row.SafeRow.{SafeRow}
+use Rattle.pkcs12.specs.declared.row.BagRow.{BagRow}
+use Rattle.pkcs12.specs.declared.row.AttributeRow.{AttributeRow}
+use Rattle.pkcs12.specs.declared.row.Mac.{Mac}
+use Rattle.pkcs12.specs.declared.table.Table.{Table}
+use Rattle.buffer.specs.Range.{noRange, bytesIn}
 
 abbrev pub parts : Range → Range → Range → Parts
 parts i p v = record { identifier = i; parameters = p; value = v }
@@ -88,7 +83,7 @@ table safes i bags j attributes k m input count =
       elements = count;
     }
 
--- "rows past the counts .. hold 0 or none"
+-- Rule 5.24: rows past the counts are 0 or none
 unfoldable pub tableOf : Rows → Mac → Table
 tableOf st m =
     table
@@ -102,7 +97,7 @@ tableOf st m =
     (st .input)
     (st .count)
 
--- "In an empty table every count, number and range end is 0."
+-- Rule 5.23: in the empty table every count, number and range end is 0
 unfoldable pub emptyTable : Table
 emptyTable = tableOf noRows noMac
 
@@ -117,10 +112,7 @@ rowsIn t =
       count = t .elements;
     }
 
--- ---- what rows show of bytes s; "fields that a row's kind doesn't use are ignored"
-
-abbrev pub bytesIn : List ℕ → Range → List ℕ
-bytesIn s r = slice (r .start) (r .end) s
+-- ---- what rows show of bytes s; fields that a row's kind doesn't use are ignored (Rule 6.7)
 
 abbrev pub algorithmIn : List ℕ → Parts → Algorithm
 algorithmIn s p = record { identifier = bytesIn s (p .identifier); parameters = bytesIn s (p .parameters) }

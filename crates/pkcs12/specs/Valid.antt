@@ -1,16 +1,18 @@
--- The rules that a reading keeps, beside its form (scope, "One element" and "The file from outside in", and the sizes).
+-- The rules that a reading keeps, beside its form (sections 1 to 3 of the rules).
 use mathlib.Core.Path.{_≡_}
 use mathlib.Core.List.{List, [], _∷_}
 use Prim.Native.Nat.{ℕ, zero, suc, _+_, _≤_, _<_}
 use lib.ListN.{length, getD}
-use Rattle.der.specs.Numbers.{octetStringTag, integerBound, opaqueLevels}
+use Rattle.der.specs.Numbers.{octetStringTag, integerBound, opaqueLevels, sequenceTag}
 use Rattle.der.specs.Octets.{IdentifierRule}
 use Rattle.der.specs.Tree as tree
-use Rattle.pkcs12.specs.Numbers.{safeRows, bagRows, attributeRows, levels, sequenceTag}
+use Rattle.pkcs12.specs.Numbers.{safeRows, bagRows, attributeRows, levels}
 use Rattle.pkcs12.specs.Identifiers.{x509Certificate}
-use Rattle.pkcs12.specs.Syntax.{Algorithm, Sealed, Typed, certificate, crl, secret, Leaf, key, shrouded, typed, Attribute, Set, absent, present, Bags, none, bag, nest, Safe, plain, encrypted, MacData, Pfx}
+use Rattle.pkcs12.specs.Syntax.{Algorithm, Sealed, Typed, certificate, crl, secret, Leaf, key, shrouded, typed}
+use Rattle.pkcs12.specs.Syntax.{Attribute, Set, absent, present, Bags, none, bag, nest, Safe, plain, encrypted}
+use Rattle.pkcs12.specs.Syntax.{MacData, Pfx}
 
--- "An opaque element is checked through to the bottom, 16 levels at most"
+-- Rules 2.6, 2.7: an opaque element, in all its levels, of which there are at most 16
 pub record Opaque (x : List ℕ) : Type 0 where
   pub as-tree : tree.Tree
   pub formed : tree.Formed as-tree
@@ -24,38 +26,38 @@ pub record Opaques (x : List ℕ) : Type 0 where
   pub depth : tree.deepest as-trees ≤ opaqueLevels
   pub whole : tree.encodes as-trees ≡ x
 
--- "at most one opaque element"
+-- Rule 3.11: at most one opaque element
 abbrev pub AtMostOne : List ℕ → Type 0
 AtMostOne [] = Unit {0}
 AtMostOne (b ∷ bs) = Opaque (b ∷ bs)
 
--- "an opaque SEQUENCE": an opaque element with this tag
+-- Rule 3.15: an opaque element with this tag
 pub record OpaqueWith (tag : ℕ) (x : List ℕ) : Type 0 where
   pub opaque : Opaque x
   pub due : getD x 0 0 ≡ tag
 
--- "AlgorithmIdentifier: SEQUENCE of an identifier and at most one opaque element."
+-- Rule 3.11: an identifier, and at most one opaque element
 pub record ValidAlgorithm (a : Algorithm) : Type 0 where
   pub identifier : IdentifierRule (a .identifier)
   pub parameters : AtMostOne (a .parameters)
 
--- "SEQUENCE of AlgorithmIdentifier and OCTET STRING"; "AlgorithmIdentifier, and tag 80 with the ciphertext": any octets
+-- Rules 3.10, 3.16, 3.21: an AlgorithmIdentifier, and any octets: a ciphertext or a digest
 abbrev pub ValidSealed : Sealed → Type 0
 ValidSealed x = ValidAlgorithm (x .algorithm)
 
--- "For 03 with x509Certificate that element is an OCTET STRING."
+-- Rule 3.19: the value of a certificate with x509Certificate is an OCTET STRING
 abbrev pub ValueRule : Typed → List ℕ → List ℕ → Type 0
 ValueRule certificate type x = type ≡ x509Certificate → getD x 0 0 ≡ octetStringTag
 ValueRule crl type x = Unit {0}
 ValueRule secret type x = Unit {0}
 
--- "01 key: an opaque SEQUENCE", "02 shrouded key", "03 certificate, 04 CRL, 05 secret: SEQUENCE of an identifier and A0 with one opaque element"
+-- Rules 3.15, 3.16, 3.17: an opaque SEQUENCE; a shrouded key; an identifier and one opaque element
 abbrev pub ValidLeaf : Leaf → Type 0
 ValidLeaf (key v) = OpaqueWith sequenceTag v
 ValidLeaf (shrouded x) = ValidSealed x
 ValidLeaf (typed k t v) = IdentifierRule t × Opaque v × ValueRule k t v
 
--- "Attribute: SEQUENCE of an identifier and SET of zero or more opaque elements."
+-- Rule 3.20: an identifier, and zero or more opaque elements
 pub record ValidAttribute (a : Attribute) : Type 0 where
   pub identifier : IdentifierRule (a .identifier)
   pub values : Opaques (a .values)
@@ -64,24 +66,24 @@ unfoldable pub ValidAttributes : List Attribute → Type 0
 ValidAttributes [] = Unit {0}
 ValidAttributes (a ∷ xs) = ValidAttribute a × ValidAttributes xs
 
--- "and optionally SET (31) of attributes"
+-- Rule 3.13: optionally a SET of attributes
 abbrev pub ValidSet : Set → Type 0
 ValidSet absent = Unit {0}
 ValidSet (present xs) = ValidAttributes xs
 
--- "to level 8 and no deeper": bags below which l more levels may stand
+-- Rule 3.18: to level 8 and no deeper; bags below which there may be l more levels
 unfoldable pub ValidBags : ℕ → Bags → Type 0
 ValidBags l none = Unit {0}
 ValidBags l (bag x set xs) = ValidLeaf x × ValidSet set × ValidBags l xs
 ValidBags zero (nest inner set xs) = ⊥
 ValidBags (suc l) (nest inner set xs) = ValidBags l inner × ValidSet set × ValidBags (suc l) xs
 
--- "Safe contents nest to level 8": the bags of safe contents with l levels left, their own among them
+-- Rule 1.4: the bags of safe contents with l levels left, their own among them
 abbrev pub ValidContents : ℕ → Bags → Type 0
 ValidContents zero xs = ⊥
 ValidContents (suc l) xs = ValidBags l xs
 
--- "those of a plain safe are level 1"
+-- Rule 1.4: the safe contents of a plain safe are level 1
 abbrev pub ValidSafe : Safe → Type 0
 ValidSafe (plain xs) = ValidContents levels xs
 ValidSafe (encrypted x) = ValidSealed x
@@ -90,7 +92,7 @@ unfoldable pub ValidSafes : List Safe → Type 0
 ValidSafes [] = Unit {0}
 ValidSafes (x ∷ xs) = ValidSafe x × ValidSafes xs
 
--- "Absent means 1; if present it is 2 to 2,147,483,647"
+-- Rule 3.22: iterations are 1 where they are absent, else 2 to 2,147,483,647
 pub record ValidMac (m : MacData) : Type 0 where
   pub digest : ValidSealed (m .digest)
   pub some : 1 ≤ m .iterations
@@ -127,7 +129,7 @@ unfoldable pub attributesInSafes : List Safe → ℕ
 attributesInSafes [] = 0
 attributesInSafes (x ∷ xs) = attributesInSafe x + attributesInSafes xs
 
--- every rule, and "One table holds 16 safe rows, 64 bag rows and 128 attribute rows"
+-- every rule, and no more rows than a table has (Rule 1.3)
 pub record Valid (x : Pfx) : Type 0 where
   pub safes : ValidSafes (x .safes)
   pub mac : ValidMac (x .mac)

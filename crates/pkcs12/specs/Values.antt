@@ -1,4 +1,4 @@
--- A reading as rows by value, in the order in which a table has them (scope, "The reading"), and back.
+-- A reading as rows by value, in the order in which a table has them (Rules 4.1 to 4.4), and back.
 use mathlib.Core.Bool.{Bool, true, false}
 use mathlib.Core.List.{List, [], _∷_, _++_}
 use mathlib.Core.Option.{Option, some}
@@ -8,10 +8,11 @@ use lib.Dec.{eqb}
 use lib.ListN.{length}
 use Rattle.der.specs.Choice.{if_then_else_}
 use Rattle.pkcs12.specs.Numbers.{levels}
-use Rattle.pkcs12.specs.Syntax.{Sealed, Leaf, Attribute, Set, absent, present, Bags, none, bag, nest, Safe, plain, encrypted, MacData, Pfx}
+use Rattle.pkcs12.specs.Syntax.{Sealed, Leaf, Attribute, Set, absent, present, Bags, none, bag, nest, Safe}
+use Rattle.pkcs12.specs.Syntax.{plain, encrypted, MacData, Pfx}
 use Rattle.pkcs12.specs.Valid.{bagsIn, bagsInSafe}
-use Rattle.pkcs12.specs.declared.Enclosing.{Enclosing}
-use Rattle.pkcs12.specs.declared.Enclosing.the-variants.{Bag}
+use Rattle.pkcs12.specs.declared.row.Enclosing.{Enclosing}
+use Rattle.pkcs12.specs.declared.row.Enclosing.the-variants.{Bag}
 
 -- what a safe row shows; `empty-safe` is no safe
 pub data SafeValue : Type 0 where
@@ -25,14 +26,14 @@ pub data Content : Type 0 where
   leaf : Leaf → Content
   nested : Content
 
--- "each naming its safe and its enclosing bag or none"
+-- Rule 4.3: a bag row names its safe, and its enclosing bag or none
 pub record BagValue : Type 0 where
   pub safe : ℕ
   pub enclosing : Enclosing
   pub content : Content
   pub has-set : Bool
 
--- "each naming its bag"
+-- Rule 4.4: an attribute row names its bag
 pub record AttributeValue : Type 0 where
   pub bag : ℕ
   pub attribute : Attribute
@@ -52,7 +53,8 @@ stands (present xs) = true
 abbrev pub bagValue : ℕ → Enclosing → Content → Set → BagValue
 bagValue k e x set = record { safe = k; enclosing = e; content = x; has-set = stands set }
 
--- "Bag rows stand in file order of their first bytes": the bags in safe k and enclosing bag e, the first of which is row n
+-- Rule 4.3: in the order of their first bytes; the bags in safe k and enclosing bag e, the first of
+-- which is row n
 unfoldable pub bagValues : ℕ → Enclosing → ℕ → Bags → List BagValue
 bagValues k e n none = []
 bagValues k e n (bag x set xs) = bagValue k e (leaf x) set ∷ bagValues k e (n + 1) xs
@@ -68,7 +70,7 @@ abbrev pub setValues : ℕ → Set → List AttributeValue
 setValues n absent = []
 setValues n (present xs) = ownValues n xs
 
--- "Attribute rows stand in file order too (a nested bag's before its enclosing bag's)"
+-- Rule 4.4: in the order of the file, those of the bags in a nested bag before its own
 unfoldable pub attributeValues : ℕ → Bags → List AttributeValue
 attributeValues n none = []
 attributeValues n (bag x set xs) = setValues n set ++ attributeValues (n + 1) xs
@@ -104,7 +106,8 @@ unfoldable pub rowsOf : Pfx → Values
 rowsOf x =
     record { safes = safeValues (x .safes); bags = bagsOfSafes 0 0 (x .safes); attributes = attributesOfSafes 0 (x .safes); mac = x .mac }
 
--- ---- the reading of rows: they are taken in order, each where it belongs, and what belongs nowhere is left
+-- ---- the reading of rows: they are taken in order, each where it belongs, and what belongs
+-- nowhere is left
 
 abbrev pub sameEnclosing : Enclosing → Enclosing → Bool
 sameEnclosing Enclosing.None Enclosing.None = true
@@ -121,7 +124,7 @@ unfoldable pub pastOwn : ℕ → List AttributeValue → List AttributeValue
 pastOwn n [] = []
 pastOwn n (r ∷ rs) = if eqb (r .bag) n then pastOwn n rs else r ∷ rs
 
--- "attributes belong only to bags with a set"
+-- Rule 6.4: attributes name only bags with a set
 abbrev pub setOf : Bool → ℕ → List AttributeValue → Set
 setOf true n rs = present (ownOf n rs)
 setOf false n rs = absent
@@ -153,8 +156,9 @@ abbrev pub onLevel : {A : Type 0} → ℕ → A → (ℕ → A) → A
 onLevel zero no-level below = no-level
 onLevel (suc l) no-level below = below l
 
--- The bags at the front that stand in safe k and enclosing bag e, the first of which is row n, with all that they enclose; l levels are
--- left below them. The first argument bounds the number of rows.
+-- The bags at the front that stand in safe k and enclosing bag e, the first of which is row n, with
+-- all that they enclose; l levels are left below them. The first argument bounds the number of
+-- rows.
 unfoldable pub bagsFrom : ℕ → ℕ → ℕ → Enclosing → ℕ → List BagValue → List AttributeValue → Taken
 bagsFrom zero l k e n rows rest = nothing n rows rest
 bagsFrom (suc f) l k e n [] rest = nothing n [] rest

@@ -1,12 +1,14 @@
--- What reading does with any bytes, front to back: the first fault with its number and offset, or the whole table (scope, "The file from
--- outside in" and "Numbers given back"). A part that is met is entered at once; each parent is finished when its last element was met.
+-- What reading does with any bytes, front to back: the first fault with its number and offset, or
+-- the whole table (sections 3 and 5 of the rules). A part that is met is entered at once
+-- (Rule 5.15); each parent is finished when its last element was met.
 use mathlib.Core.Bool.{Bool, true, false}
 use mathlib.Core.List.{List, [], _∷_, _++_}
 use Prim.Native.Nat.{ℕ, zero, suc, _+_, _-_}
 use lib.Dec.{leb, ltb, eqb}
 use lib.ListN.{length}
 use Rattle.der.specs.Choice.{if_then_else_}
-use Rattle.der.specs.Numbers.{content, tooMany, octetStringTag, integerTag, opaqueLevels}
+use Rattle.der.specs.Numbers.{content, tooMany, octetStringTag, integerTag, opaqueLevels, sequenceTag, setTag}
+use Rattle.der.specs.Numbers.{contextTag}
 use Rattle.der.specs.Element.{cursor, fault, wholeOf, tagAt, finishAt, expectAt, onElement}
 use Rattle.der.specs.Content.{bytesOf, identifierAt, integerAt, onInteger}
 use Rattle.der.specs.Many.{many}
@@ -14,25 +16,31 @@ use Rattle.der.specs.Opaque.{onChecked, opaqueAt, elementsAt}
 use Rattle.der.specs.declared.Fault.{Fault}
 use Rattle.der.specs.declared.Cursor.{Cursor}
 use Rattle.der.specs.declared.Checked.{Checked}
-use Rattle.pkcs12.specs.Numbers.{safeRows, bagRows, attributeRows, levels, fileBytes, notServed, tooLong, sequenceTag, setTag, contextTag, ciphertextTag, pfxVersion, encryptedVersion, attributedVersion, defaultIterations}
-use Rattle.pkcs12.specs.Identifiers.{sameBytes, dataType, signedType, envelopedType, encryptedType, x509Certificate, kindOf}
-use Rattle.pkcs12.specs.Table.{range, noRange, parts, noParts, safeRow, bagRow, attributeRow, macFields, Rows, tableOf, emptyTable}
-use Rattle.pkcs12.specs.declared.Range.{Range}
-use Rattle.pkcs12.specs.declared.Parts.{Parts}
-use Rattle.pkcs12.specs.declared.SafeKind.the-variants.{Plain, Encrypted}
-use Rattle.pkcs12.specs.declared.BagKind.{BagKind}
-use Rattle.pkcs12.specs.declared.BagKind.the-variants.{Key, ShroudedKey, Certificate, Crl, Secret, Nested}
-use Rattle.pkcs12.specs.declared.Enclosing.{Enclosing}
-use Rattle.pkcs12.specs.declared.Enclosing.the-variants.{Bag}
-use Rattle.pkcs12.specs.declared.SafeRow.{SafeRow}
-use Rattle.pkcs12.specs.declared.BagRow.{BagRow}
-use Rattle.pkcs12.specs.declared.AttributeRow.{AttributeRow}
-use Rattle.pkcs12.specs.declared.Mac.{Mac}
-use Rattle.pkcs12.specs.declared.PartsAt.{PartsAt}
-use Rattle.pkcs12.specs.declared.MacAt.{MacAt}
-use Rattle.pkcs12.specs.declared.Answer.{Answer}
-use Rattle.pkcs12.specs.declared.Answer.the-variants.{Accepted}
-use Rattle.pkcs12.specs.declared.Reading.{Reading}
+use Rattle.pkcs12.specs.Numbers.{safeRows, bagRows, attributeRows, levels, notServed, ciphertextTag, pfxVersion}
+use Rattle.pkcs12.specs.Numbers.{encryptedVersion, attributedVersion, defaultIterations}
+use Rattle.buffer.specs.Numbers.{fileBytes, tooLong}
+use Rattle.buffer.specs.Bytes.{sameBytes}
+use Rattle.pkcs12.specs.Identifiers.{dataType, signedType, envelopedType, encryptedType, x509Certificate}
+use Rattle.pkcs12.specs.Identifiers.{kindOf}
+use Rattle.buffer.specs.Range.{range, noRange}
+use Rattle.pkcs12.specs.Table.{parts, noParts, safeRow, bagRow, attributeRow, macFields, Rows, tableOf}
+use Rattle.pkcs12.specs.Table.{emptyTable}
+use Rattle.buffer.specs.declared.Range.{Range}
+use Rattle.pkcs12.specs.declared.row.Parts.{Parts}
+use Rattle.pkcs12.specs.declared.kind.SafeKind.the-variants.{Plain, Encrypted}
+use Rattle.pkcs12.specs.declared.kind.BagKind.{BagKind}
+use Rattle.pkcs12.specs.declared.kind.BagKind.the-variants.{Key, ShroudedKey, Certificate, Crl, Secret, Nested}
+use Rattle.pkcs12.specs.declared.row.Enclosing.{Enclosing}
+use Rattle.pkcs12.specs.declared.row.Enclosing.the-variants.{Bag}
+use Rattle.pkcs12.specs.declared.row.SafeRow.{SafeRow}
+use Rattle.pkcs12.specs.declared.row.BagRow.{BagRow}
+use Rattle.pkcs12.specs.declared.row.AttributeRow.{AttributeRow}
+use Rattle.pkcs12.specs.declared.row.Mac.{Mac}
+use Rattle.pkcs12.specs.declared.answers.PartsAt.{PartsAt}
+use Rattle.pkcs12.specs.declared.answers.MacAt.{MacAt}
+use Rattle.pkcs12.specs.declared.answers.Answer.{Answer}
+use Rattle.pkcs12.specs.declared.answers.Answer.the-variants.{Accepted}
+use Rattle.pkcs12.specs.declared.answers.Reading.{Reading}
 
 abbrev pub rangeOf : Cursor → Range
 rangeOf b = range (b .at) (b .end)
@@ -43,7 +51,8 @@ abbrev pub onParts : {A : Type 0} → PartsAt → (Fault → A) → (Parts → �
 onParts (PartsAt.Refused f) bad good = bad f
 onParts (PartsAt.Found p m n) bad good = good p m n
 
--- "AlgorithmIdentifier: SEQUENCE of an identifier and at most one opaque element. Absent parameters are an empty range at the parent's end"
+-- Rule 3.11: AlgorithmIdentifier, an identifier and at most one opaque element; absent parameters
+-- are an empty range at the parent's end
 unfoldable pub algorithmAt : List ℕ → Cursor → PartsAt
 algorithmAt s c =
     onElement (expectAt sequenceTag s c) PartsAt.Refused
@@ -60,7 +69,8 @@ algorithmAt s c =
 abbrev pub withValue : Parts → Range → Parts
 withValue p v = parts (p .identifier) (p .parameters) v
 
--- "SEQUENCE of AlgorithmIdentifier and OCTET STRING": a shrouded key, a DigestInfo
+-- Rules 3.16, 3.21: a shrouded key, a DigestInfo, each a SEQUENCE of an AlgorithmIdentifier and an
+-- OCTET STRING
 unfoldable pub sealedAt : List ℕ → Cursor → PartsAt
 sealedAt s c =
     onElement (expectAt sequenceTag s c) PartsAt.Refused
@@ -72,7 +82,7 @@ sealedAt s c =
     onChecked (finishAt e) PartsAt.Refused
     (λ z f. PartsAt.Found (withValue p (rangeOf o)) (k + 2) n))))
 
--- "01 key: an opaque SEQUENCE"
+-- Rule 3.15: a key, an opaque SEQUENCE
 unfoldable pub keyAt : List ℕ → Cursor → PartsAt
 keyAt s c =
     onElement (expectAt sequenceTag s c) PartsAt.Refused
@@ -80,12 +90,13 @@ keyAt s c =
     onChecked (opaqueAt opaqueLevels s c) PartsAt.Refused
     (λ k e. PartsAt.Found (parts noRange noRange (range (c .at) (e .at))) k e))
 
--- "one opaque element. For 03 with x509Certificate that element is an OCTET STRING."
+-- Rules 3.17, 3.19: one opaque element; of a certificate with x509Certificate it is an OCTET STRING
 unfoldable pub valueAt : Bool → List ℕ → Cursor → Checked
 valueAt true s c = onElement (expectAt octetStringTag s c) Checked.Refused (λ t b n. opaqueAt opaqueLevels s c)
 valueAt false s c = opaqueAt opaqueLevels s c
 
--- "03 certificate, 04 CRL, 05 secret: SEQUENCE of an identifier and A0 with one opaque element."
+-- Rule 3.17: certificate, CRL, secret, each a SEQUENCE of an identifier and [0] with one opaque
+-- element
 unfoldable pub typedAt : Bool → List ℕ → Cursor → PartsAt
 typedAt is-certificate s c =
     onElement (expectAt sequenceTag s c) PartsAt.Refused
@@ -101,8 +112,8 @@ typedAt is-certificate s c =
     onChecked (finishAt e) PartsAt.Refused
     (λ z h. PartsAt.Found (parts (rangeOf i) noRange (range (v .at) (f .at))) (k + 3) n))))))
 
--- "EncryptedContentInfo: SEQUENCE of identifier data, AlgorithmIdentifier, and tag 80 with the ciphertext"; "no ciphertext" is 7 at the
--- parent's end
+-- Rule 3.10: EncryptedContentInfo, a SEQUENCE of the identifier data, an AlgorithmIdentifier, and
+-- tag 80 with the ciphertext. Rules 5.7, 5.19: no ciphertext is 7 at the parent's end
 unfoldable pub encryptedInfoAt : List ℕ → Cursor → PartsAt
 encryptedInfoAt s c =
     onElement (expectAt sequenceTag s c) PartsAt.Refused
@@ -119,7 +130,7 @@ encryptedInfoAt s c =
     (λ z g. PartsAt.Found (withValue p (rangeOf o)) (k + 3) n))) else
     PartsAt.Refused (fault content (b .at))))
 
--- "encryptedData: SEQUENCE of version INTEGER 0 and EncryptedContentInfo"; "EncryptedData version 2" is 7
+-- Rule 3.9: a SEQUENCE of the version 0 and an EncryptedContentInfo; version 2 is 7 (Rule 5.7)
 unfoldable pub encryptedAt : List ℕ → Cursor → PartsAt
 encryptedAt s c =
     onElement (expectAt sequenceTag s c) PartsAt.Refused
@@ -167,7 +178,7 @@ addBag st r k = record { safes = st .safes; bags = st .bags ++ (r ∷ []); attri
 abbrev pub addAttribute : Rows → AttributeRow → ℕ → Rows
 addAttribute st r k = record { safes = st .safes; bags = st .bags; attributes = st .attributes ++ (r ∷ []); input = st .input; count = st .count + k }
 
--- "Attribute: SEQUENCE of an identifier and SET of zero or more opaque elements", of the bag with this number; a row too many is 8
+-- Rule 3.20: an attribute of the bag with this number; a row too many is 8 (Rule 5.8)
 unfoldable pub attributeAt : List ℕ → ℕ → Rows → Cursor → Walked
 attributeAt s number st c =
     onElement (expectAt sequenceTag s c) Refused
@@ -182,7 +193,7 @@ attributeAt s number st c =
     onChecked (finishAt e) Refused
     (λ z g. Went (addAttribute st (attributeRow number (rangeOf i) (rangeOf v)) (k + 3)) n)))))
 
--- "optionally SET (31) of attributes"; any other byte there is 6
+-- Rule 3.13: optionally a SET of attributes; any other byte there is 6 (Rule 5.18)
 unfoldable pub setAt : List ℕ → ℕ → Rows → Cursor → Walked
 setAt s number st c =
     if eqb (tagAt s c) setTag then
@@ -207,8 +218,9 @@ abbrev pub leafAt : PartsAt → BagKind → Owner → Bool → Rows → Walked
 leafAt x kind w has-set st =
     onParts x Refused (λ p k f. Went (addBag st (bagRow kind (w .safe) (w .enclosing) p has-set) (k + 3)) f)
 
--- what stands in [0] of a bag, by its kind; `inner` reads the SafeContents of a nested bag. The bag's SEQUENCE, bagId and [0] are counted with its
--- row. (`None` doesn't come here: the bagId was refused.)
+-- what stands in [0] of a bag, by its kind; `inner` reads the SafeContents of a nested bag. The
+-- bag's SEQUENCE, bagId and [0] are counted with its row. (`None` doesn't come here: the bagId was
+-- refused.)
 abbrev pub contentAt : (Owner → Rows → Cursor → Walked) → List ℕ → BagKind → Owner → Bool → Rows → Cursor → Walked
 contentAt inner s BagKind.None w h st c = Refused (fault notServed (c .at))
 contentAt inner s Key w h st c = leafAt (keyAt s c) Key w h st
@@ -228,7 +240,8 @@ onKind Crl bad good = good
 onKind Secret bad good = good
 onKind Nested bad good = good
 
--- "SafeBag: SEQUENCE of bagId, [0] (A0) with one element, and optionally SET (31) of attributes." A set stands there if [0] doesn't end the bag.
+-- Rule 3.13: SafeBag, a SEQUENCE of a bagId, [0] with one element, and optionally a SET of
+-- attributes. A set is there if [0] doesn't end the bag.
 unfoldable pub bagAt : (Owner → Rows → Cursor → Walked) → List ℕ → Owner → Rows → Cursor → Walked
 bagAt inner s w st c =
     onElement (expectAt sequenceTag s c) Refused
@@ -245,14 +258,15 @@ bagAt inner s w st c =
     (λ z g.
     onWalked (setAt s (length (st .bags)) st′ e) Refused (λ st″ h. Went st″ n)))))))
 
--- "SafeContents: SEQUENCE of zero or more SafeBag", with l levels left; "safe contents of level 9" are 8
+-- Rule 3.12: SafeContents, a SEQUENCE of zero or more SafeBag, with l levels left; level 9 is 8
+-- (Rule 5.8)
 unfoldable pub safeContentsAt : ℕ → List ℕ → Owner → Rows → Cursor → Walked
 safeContentsAt zero s w st c = onElement (expectAt sequenceTag s c) Refused (λ t b n. Refused (fault tooMany (c .at)))
 safeContentsAt (suc l) s w st c =
     onElement (expectAt sequenceTag s c) Refused
     (λ t b n. onWalked (run (bagAt (safeContentsAt l s) s w) (counting st 1) b) Refused (λ st f. Went st n))
 
--- "[0] (A0) with one element", "an OCTET STRING whose body is one" of what `inner` reads "and nothing more"
+-- Rules 3.5, 3.8: [0] with an OCTET STRING whose body is one of what `inner` reads and no byte more
 unfoldable pub dataAt : (Cursor → Walked) → List ℕ → Cursor → Walked
 dataAt inner s c =
     onElement (expectAt contextTag s c) Refused
@@ -278,7 +292,7 @@ sealedSafeAt s st c =
     (λ p k f.
     onChecked (finishAt f) Refused (λ z g. Went (addSafe st (safeRow Encrypted p) (k + 3)) e)))
 
--- what stands behind the type of a safe, which stands at `at`: "safe of envelopedData" is 7, another is 5
+-- what follows the type of a safe, which is at `at`: envelopedData is 7 (Rule 5.7), another is 5
 unfoldable pub safeValueAt : List ℕ → List ℕ → ℕ → Rows → Cursor → Walked
 safeValueAt s type at st c =
     if sameBytes type dataType then plainAt s st c else
@@ -286,7 +300,7 @@ safeValueAt s type at st c =
     if sameBytes type envelopedType then Refused (fault notServed at) else
     Refused (fault content at)
 
--- "AuthenticatedSafe: SEQUENCE of zero or more ContentInfo, each a safe row"
+-- Rule 3.7: AuthenticatedSafe, a SEQUENCE of zero or more ContentInfo, each with a safe row
 unfoldable pub safeAt : List ℕ → Rows → Cursor → Walked
 safeAt s st c =
     onElement (expectAt sequenceTag s c) Refused
@@ -297,8 +311,9 @@ safeAt s st c =
     onWalked (safeValueAt s (bytesOf s i) (b .at) st m) Refused
     (λ st e. onChecked (finishAt e) Refused (λ z g. Went st n))))
 
--- no row yet, in the body c of the outer OCTET STRING: "That body is the MAC input". Counted so far: PFX, version, ContentInfo, its identifier, [0] and
--- OCTET STRING, and the SEQUENCE of the AuthenticatedSafe.
+-- no row yet, in the body c of the outer OCTET STRING, which is the MAC input (Rule 3.6). Counted
+-- so far: PFX, version, ContentInfo, its identifier, [0] and OCTET STRING, and the SEQUENCE of the
+-- AuthenticatedSafe.
 abbrev pub startRows : Cursor → Rows
 startRows c = record { safes = []; bags = []; attributes = []; input = rangeOf c; count = 7 }
 
@@ -310,7 +325,8 @@ safesAt s c =
     onWalked (run (safeAt s) (startRows c) b) Refused
     (λ st e. Went st n))
 
--- what stands behind the outer type, which stands at `at`: "The outer type is data"; "outer signedData" is 7, another is 5
+-- what follows the outer type, which is at `at`: data (Rule 3.5); signedData is 7 (Rule 5.7),
+-- another is 5
 unfoldable pub outerValueAt : List ℕ → List ℕ → ℕ → Cursor → Walked
 outerValueAt s type at c =
     if sameBytes type dataType then dataAt (safesAt s) s c else
@@ -333,7 +349,8 @@ abbrev pub onMac : {A : Type 0} → MacAt → (Fault → A) → (Mac → ℕ →
 onMac (MacAt.Refused f) bad good = bad f
 onMac (MacAt.Found x m n) bad good = good x m n
 
--- "optionally INTEGER iterations. Absent means 1; if present it is 2 to 2,147,483,647"; any other byte there is 6
+-- Rule 3.22: iterations are 1 where they are absent, else 2 to 2,147,483,647; any other byte there
+-- is 6 (Rule 5.18)
 unfoldable pub iterationsAt : List ℕ → Parts → Range → ℕ → Cursor → MacAt
 iterationsAt s p salt k c =
     if eqb (tagAt s c) integerTag then
@@ -343,7 +360,7 @@ iterationsAt s p salt k c =
     onChecked (finishAt e) MacAt.Refused (λ z f. MacAt.Found (macFields p salt v) (k + 1) e)) else
     onChecked (finishAt c) MacAt.Refused (λ z f. MacAt.Found (macFields p salt defaultIterations) k c)
 
--- "MacData: SEQUENCE of DigestInfo .., salt OCTET STRING, and optionally INTEGER iterations."
+-- Rule 3.21: MacData, a SEQUENCE of a DigestInfo, the salt, and optionally the iterations
 unfoldable pub macAt : List ℕ → Cursor → MacAt
 macAt s c =
     onElement (expectAt sequenceTag s c) MacAt.Refused
@@ -357,7 +374,7 @@ macAt s c =
 abbrev pub refused : Fault → Reading
 refused f = record { answer = Answer.Refused f; table = emptyTable }
 
--- the parts of a PFX behind its version; "no MacData" is 7 at the parent's end
+-- the parts of a PFX behind its version; no MacData is 7 at the parent's end (Rules 5.7, 5.19)
 unfoldable pub bodyAt : List ℕ → Cursor → Reading
 bodyAt s c =
     onWalked (outerAt s c) refused
@@ -371,11 +388,11 @@ abbrev pub onAnswer : {A : Type 0} → Answer → (Fault → A) → A → A
 onAnswer (Answer.Refused f) bad good = bad f
 onAnswer Accepted bad good = good
 
--- after the whole PFX: "one PFX, with no byte after it"
+-- after the whole PFX: it has no byte after it (Rule 4.7)
 abbrev pub alone : Cursor → Reading → Reading
 alone n r = onAnswer (r .answer) refused (onChecked (finishAt n) refused (λ z g. r))
 
--- "PFX is SEQUENCE (30): version INTEGER 3; ContentInfo; MacData."
+-- Rule 3.3: PFX, a SEQUENCE of the version 3, a ContentInfo and a MacData
 unfoldable pub pfxAt : List ℕ → Cursor → Reading
 pfxAt s c =
     onElement (expectAt sequenceTag s c) refused
@@ -383,6 +400,6 @@ pfxAt s c =
     onInteger (integerAt s b) refused
     (λ v m. if eqb v pfxVersion then alone n (bodyAt s m) else refused (fault content (b .at))))
 
--- "Reading checks 9 first, then walks front to back"
+-- Rule 5.15: 9 is tested first, then the file is read front to back
 unfoldable pub readFile : List ℕ → Reading
 readFile s = if ltb fileBytes (length s) then refused (fault tooLong 0) else pfxAt s (wholeOf s)

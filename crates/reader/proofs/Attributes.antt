@@ -1,4 +1,5 @@
--- The loop over the attributes of a bag: each turn of the code is one of the walk, and each way out is the walk's.
+-- The loop over the attributes of a bag: each turn of the code is one of the walk, and each way out
+-- is the walk's.
 use mathlib.Core.Path.{_≡_, refl, sym, ap, _∙_}
 use mathlib.Core.Bool.{Bool, true, false}
 use mathlib.Core.List.{List}
@@ -19,20 +20,24 @@ use Rattle.der.specs.declared.Checked.the-variants.{Passed}
 use Rattle.der.proofs.Choices.{by-test}
 use Rattle.der.proofs.Placed.{by-element, found, expected}
 use Rattle.der.proofs.Opaque.{by-checked}
-use Rattle.pkcs12.specs.Numbers.{attributeRows, sequenceTag, setTag}
+use Rattle.pkcs12.specs.Numbers.{attributeRows}
+use Rattle.der.specs.Numbers.{sequenceTag, setTag}
 use Rattle.pkcs12.specs.Table.{attributeRow, noMac, tableOf, rowsIn}
 use Rattle.pkcs12.specs.Walk.{onParts, Walked, Refused, Went, onWalked, run, counting, addAttribute, attributeAt}
-use Rattle.pkcs12.specs.declared.Parts.{Parts}
-use Rattle.pkcs12.specs.declared.PartsAt.{PartsAt}
-use Rattle.pkcs12.specs.declared.AttributeRow.{AttributeRow}
-use Rattle.pkcs12.specs.declared.Answer.the-variants.{Accepted}
-use Rattle.pkcs12.specs.declared.Table.{Table}
-use Rattle.reader.specs.Steps.{attributeValuesAt, attributePartsAt, onSet, setHeadAt, bagEndAt, progress, startCount, Ready}
+use Rattle.pkcs12.specs.declared.row.Parts.{Parts}
+use Rattle.pkcs12.specs.declared.answers.PartsAt.{PartsAt}
+use Rattle.pkcs12.specs.declared.row.AttributeRow.{AttributeRow}
+use Rattle.pkcs12.specs.declared.answers.Answer.the-variants.{Accepted}
+use Rattle.pkcs12.specs.declared.table.Table.{Table}
+use Rattle.reader.specs.Steps.{attributeValuesAt, attributePartsAt, onSet, setHeadAt, bagEndAt, progress}
+use Rattle.reader.specs.Steps.{startCount, Ready}
 use Rattle.reader.specs.declared.bags.Set.{Set}
 use Rattle.reader.specs.declared.rows.Progress.{Progress}
-use Rattle.reader.proofs.Past.{Past, attribute-past}
+use Rattle.reader.proofs.Past.{attribute-past}
+use Rattle.parts.proofs.Past.{Past}
 use Rattle.reader.proofs.Bridge.{attribute-law, end-law}
-use Rattle.reader.proofs.Stores.{withCount, storedAttribute, attribute-count, stored-count, stored-attribute, rows-of, rows-again}
+use Rattle.reader.proofs.Stores.{withCount, storedAttribute, attribute-count, stored-count, stored-attribute}
+use Rattle.reader.proofs.Stores.{rows-of, rows-again}
 use Rattle.reader.proofs.Loops.{Rowing, rowing-start, rowing-end, rowing-refused, rowing-on}
 
 -- where the set of a bag stands: its body, within the bytes
@@ -134,13 +139,15 @@ module _ (s : List ℕ) (number : ℕ) (t₀ : Table) (e c n : Cursor) (ready : 
     whole-is x h = end-is ∙ rw (q, ← first-rows, h)
 
     module _ (t : Table) (at : ℕ) (g : Rowing s (attributeAt s number) (b .end) (run (attributeAt s number) (rowsIn (withCount t₀ 1)) b) t at) where
-      pub turn-refused : (x : PartsAt) (f : Fault) (r : Progress) → at < b .end → x ≡ attributePartsAt s (leb attributeRows (t .«attribute_count»)) (cursor at (b .end))
+      pub turn-refused : (x : PartsAt) (f : Fault) (r : Progress) → at < b .end
+          → x ≡ attributePartsAt s (leb attributeRows (t .«attribute_count»)) (cursor at (b .end))
           → x ≡ PartsAt.Refused f → r ≡ progress (Refused f) → r ≡ progress (bagEndAt s number (rowsIn t₀) e c n)
       turn-refused x f r h y z i =
           rw (whole-is (Refused f) (rowing-refused s (attributeAt s number) _ _ t at g f h (attribute-refused s number t (g .ready .rows) _ x y f z))) i
 
       -- the row, which the code holds as `row`
-      pub turn-on : (x : PartsAt) (a : Parts) (k : ℕ) (o : Cursor) → at < b .end → x ≡ attributePartsAt s (leb attributeRows (t .«attribute_count»)) (cursor at (b .end))
+      pub turn-on : (x : PartsAt) (a : Parts) (k : ℕ) (o : Cursor) → at < b .end
+          → x ≡ attributePartsAt s (leb attributeRows (t .«attribute_count»)) (cursor at (b .end))
           → x ≡ PartsAt.Found a k o
           → (row : AttributeRow) → row ≡ attributeRow number (a .identifier) (a .value)
           → Rowing s (attributeAt s number) (b .end) (run (attributeAt s number) (rowsIn (withCount t₀ 1)) b) (storedAttribute t row k) (o .at)
@@ -151,7 +158,9 @@ module _ (s : List ℕ) (number : ℕ) (t₀ : Table) (e c n : Cursor) (ready : 
           (stored-attribute t rows _ k (attribute-room s number t rows _ x y a k o z)))
 
       -- the numbers of a turn
-      module _ (x : PartsAt) (a : Parts) (k : ℕ) (o : Cursor) (y : x ≡ attributePartsAt s (leb attributeRows (t .«attribute_count»)) (cursor at (b .end))) (z : x ≡ PartsAt.Found a k o) where
+      module _ (x : PartsAt) (a : Parts) (k : ℕ) (o : Cursor)
+          (y : x ≡ attributePartsAt s (leb attributeRows (t .«attribute_count»)) (cursor at (b .end)))
+          (z : x ≡ PartsAt.Found a k o) where
         pub turn-room : t .«attribute_count» < attributeRows
         turn-room = attribute-room s number t (g .ready .rows) _ x y a k o z
 

@@ -1,5 +1,6 @@
--- The walk's definitions as the code takes them: first what stands before the rows, then the rows. Each law moves what is done with an answer
--- (F) below the tests and calls that the answer depends on.
+-- The walk's definitions as the code takes them: first what stands before the rows, then the rows.
+-- Each law moves what is done with an answer (F) below the tests and calls that the answer depends
+-- on.
 use mathlib.Core.Path.{_≡_, refl, sym, _∙_}
 use mathlib.Core.Bool.{Bool, true, false}
 use mathlib.Core.List.{List}
@@ -7,7 +8,7 @@ use Prim.Native.Nat.{ℕ}
 use lib.Dec.{leb, eqb}
 use lib.ListN.{length}
 use Rattle.der.specs.Choice.{if_then_else_}
-use Rattle.der.specs.Numbers.{opaqueLevels}
+use Rattle.der.specs.Numbers.{opaqueLevels, sequenceTag, setTag}
 use Rattle.der.specs.Element.{tagAt, finishAt, expectAt, onElement}
 use Rattle.der.specs.Content.{identifierAt, onInteger}
 use Rattle.der.specs.Opaque.{onChecked, elementsAt}
@@ -19,20 +20,22 @@ use Rattle.der.specs.declared.Integer.{Integer}
 use Rattle.der.specs.declared.Integer.the-variants.{Value}
 use Rattle.der.specs.declared.Checked.{Checked}
 use Rattle.der.specs.declared.Checked.the-variants.{Passed}
-use Rattle.pkcs12.specs.Numbers.{attributeRows, sequenceTag, setTag}
+use Rattle.pkcs12.specs.Numbers.{attributeRows}
 use Rattle.pkcs12.specs.Table.{Rows, attributeRow}
-use Rattle.pkcs12.specs.Walk.{onParts, onMac, Walked, Refused, Went, onWalked, run, counting, addAttribute, attributeAt, setAt}
-use Rattle.pkcs12.specs.declared.Parts.{Parts}
-use Rattle.pkcs12.specs.declared.PartsAt.{PartsAt}
-use Rattle.pkcs12.specs.declared.Mac.{Mac}
-use Rattle.pkcs12.specs.declared.MacAt.{MacAt}
+use Rattle.pkcs12.specs.Walk.{onParts, onMac, Walked, Refused, Went, onWalked, run, counting, addAttribute}
+use Rattle.pkcs12.specs.Walk.{attributeAt, setAt}
+use Rattle.pkcs12.specs.declared.row.Parts.{Parts}
+use Rattle.pkcs12.specs.declared.answers.PartsAt.{PartsAt}
+use Rattle.pkcs12.specs.declared.row.Mac.{Mac}
+use Rattle.pkcs12.specs.declared.answers.MacAt.{MacAt}
 use Rattle.reader.specs.Steps.{attributeValuesAt, attributePartsAt, onSet, setHeadAt, bagEndAt}
 use Rattle.reader.specs.declared.bags.Set.{Set}
 
 -- two functions of answers that depend on the same test or call
 module _ {A B C : Type 0} (F : A → C) (G : B → C) where
   pub both-element : (x : Element) (bad : Fault → A) (good : ℕ → Cursor → Cursor → A) (bad′ : Fault → B) (good′ : ℕ → Cursor → Cursor → B)
-      → ((f : Fault) → F (bad f) ≡ G (bad′ f)) → ((t : ℕ) (b n : Cursor) → F (good t b n) ≡ G (good′ t b n)) → F (onElement x bad good) ≡ G (onElement x bad′ good′)
+      → ((f : Fault) → F (bad f) ≡ G (bad′ f)) → ((t : ℕ) (b n : Cursor) → F (good t b n) ≡ G (good′ t b n))
+      → F (onElement x bad good) ≡ G (onElement x bad′ good′)
   both-element (Element.Refused f) bad good bad′ good′ p q = p f
   both-element (Found t b n) bad good bad′ good′ p q = q t b n
 
@@ -47,17 +50,21 @@ module _ {A B C : Type 0} (F : A → C) (G : B → C) where
   both-integer (Value v n) bad good bad′ good′ p q = q v n
 
   pub both-parts : (x : PartsAt) (bad : Fault → A) (good : Parts → ℕ → Cursor → A) (bad′ : Fault → B) (good′ : Parts → ℕ → Cursor → B)
-      → ((f : Fault) → F (bad f) ≡ G (bad′ f)) → ((a : Parts) (k : ℕ) (n : Cursor) → F (good a k n) ≡ G (good′ a k n)) → F (onParts x bad good) ≡ G (onParts x bad′ good′)
+      → ((f : Fault) → F (bad f) ≡ G (bad′ f))
+      → ((a : Parts) (k : ℕ) (n : Cursor) → F (good a k n) ≡ G (good′ a k n))
+      → F (onParts x bad good) ≡ G (onParts x bad′ good′)
   both-parts (PartsAt.Refused f) bad good bad′ good′ p q = p f
   both-parts (PartsAt.Found a k n) bad good bad′ good′ p q = q a k n
 
   pub both-mac : (x : MacAt) (bad : Fault → A) (good : Mac → ℕ → Cursor → A) (bad′ : Fault → B) (good′ : Mac → ℕ → Cursor → B)
-      → ((f : Fault) → F (bad f) ≡ G (bad′ f)) → ((m : Mac) (k : ℕ) (n : Cursor) → F (good m k n) ≡ G (good′ m k n)) → F (onMac x bad good) ≡ G (onMac x bad′ good′)
+      → ((f : Fault) → F (bad f) ≡ G (bad′ f)) → ((m : Mac) (k : ℕ) (n : Cursor) → F (good m k n) ≡ G (good′ m k n))
+      → F (onMac x bad good) ≡ G (onMac x bad′ good′)
   both-mac (MacAt.Refused f) bad good bad′ good′ p q = p f
   both-mac (MacAt.Found m k n) bad good bad′ good′ p q = q m k n
 
   pub both-walked : (x : Walked) (bad : Fault → A) (good : Rows → Cursor → A) (bad′ : Fault → B) (good′ : Rows → Cursor → B)
-      → ((f : Fault) → F (bad f) ≡ G (bad′ f)) → ((st : Rows) (n : Cursor) → F (good st n) ≡ G (good′ st n)) → F (onWalked x bad good) ≡ G (onWalked x bad′ good′)
+      → ((f : Fault) → F (bad f) ≡ G (bad′ f)) → ((st : Rows) (n : Cursor) → F (good st n) ≡ G (good′ st n))
+      → F (onWalked x bad good) ≡ G (onWalked x bad′ good′)
   both-walked (Refused f) bad good bad′ good′ p q = p f
   both-walked (Went st n) bad good bad′ good′ p q = q st n
 

@@ -1,31 +1,37 @@
--- The file's definition as the code takes it: the file is opened down to its AuthenticatedSafe, then its safes, then what stands behind them.
--- Each law follows both sides through the tests that they share.
+-- The file's definition as the code takes it: the file is opened down to its AuthenticatedSafe,
+-- then its safes, then what stands behind them. Each law follows both sides through the tests that
+-- they share.
 use mathlib.Core.Path.{_≡_, refl, sym}
 use mathlib.Core.List.{List}
 use Prim.Native.Nat.{ℕ}
 use lib.Dec.{leb, ltb, eqb}
 use lib.ListN.{length}
 use Rattle.der.specs.Choice.{if_then_else_}
-use Rattle.der.specs.Numbers.{octetStringTag}
+use Rattle.der.specs.Numbers.{octetStringTag, sequenceTag, contextTag}
 use Rattle.der.specs.Element.{fault, wholeOf, finishAt, expectAt, onElement}
 use Rattle.der.specs.Content.{bytesOf, identifierAt, integerAt}
 use Rattle.der.specs.Opaque.{onChecked}
 use Rattle.der.specs.declared.Cursor.{Cursor}
 use Rattle.der.specs.declared.Element.the-variants.{Found}
 use Rattle.der.specs.declared.Checked.{Checked}
-use Rattle.pkcs12.specs.Numbers.{fileBytes, notServed, tooLong, sequenceTag, contextTag, pfxVersion}
-use Rattle.pkcs12.specs.Identifiers.{sameBytes, dataType, signedType}
+use Rattle.buffer.specs.Numbers.{fileBytes, tooLong}
+use Rattle.pkcs12.specs.Numbers.{notServed, pfxVersion}
+use Rattle.buffer.specs.Bytes.{sameBytes}
+use Rattle.pkcs12.specs.Identifiers.{dataType, signedType}
 use Rattle.pkcs12.specs.Table.{Rows, tableOf}
-use Rattle.pkcs12.specs.Walk.{Walked, Refused, Went, onWalked, run, counting, safeAt, startRows, safesAt, dataAt, outerValueAt, outerAt, onMac, macAt, refused, bodyAt, alone, pfxAt, readFile}
-use Rattle.pkcs12.specs.declared.Mac.{Mac}
-use Rattle.pkcs12.specs.declared.MacAt.{MacAt}
-use Rattle.pkcs12.specs.declared.Reading.{Reading}
-use Rattle.pkcs12.specs.declared.Answer.the-variants.{Accepted}
-use Rattle.reader.specs.Steps.{onOctets, dataHeadAt, bothAt, closedAt, onOuter, pfxHeadAt, onOpened, openedSafesAt, openedValueAt, openedInfoAt, openAt, lastAt, closeAt}
+use Rattle.pkcs12.specs.Walk.{Walked, Refused, Went, onWalked, run, counting, safeAt, startRows, safesAt, dataAt}
+use Rattle.pkcs12.specs.Walk.{outerValueAt, outerAt, onMac, macAt, refused, bodyAt, alone, pfxAt, readFile}
+use Rattle.pkcs12.specs.declared.row.Mac.{Mac}
+use Rattle.pkcs12.specs.declared.answers.MacAt.{MacAt}
+use Rattle.pkcs12.specs.declared.answers.Reading.{Reading}
+use Rattle.pkcs12.specs.declared.answers.Answer.the-variants.{Accepted}
+use Rattle.reader.specs.Steps.{onOctets, dataHeadAt, bothAt, closedAt, onOuter, pfxHeadAt, onOpened}
+use Rattle.reader.specs.Steps.{openedSafesAt, openedValueAt, openedInfoAt, openAt, lastAt, closeAt}
 use Rattle.reader.specs.declared.safes.Octets.{Octets}
 use Rattle.reader.specs.declared.file.Outer.{Outer}
 use Rattle.reader.specs.declared.file.Opened.{Opened}
-use Rattle.reader.proofs.Bridge.{both-element, both-checked, both-mac, both-test, through-checked, through-integer, through-element, through-walked, through-test}
+use Rattle.reader.proofs.Bridge.{both-element, both-checked, both-mac, both-test, through-checked}
+use Rattle.reader.proofs.Bridge.{through-integer, through-element, through-walked, through-test}
 
 -- the table of a file that is accepted
 abbrev accepted : Rows → Mac → ℕ → Cursor → Reading

@@ -1,12 +1,12 @@
--- The walk's bags and safes as the code takes them: what stands before the rows, then the rows (see Bridge). Then what the code's progress says
--- of the walk.
+-- The walk's bags and safes as the code takes them: what stands before the rows, then the rows (see
+-- Bridge). Then what the code's progress says of the walk.
 use mathlib.Core.Path.{_≡_, refl, sym, ap, _∙_}
 use mathlib.Core.Bool.{true, false}
 use mathlib.Core.List.{List}
 use Prim.Native.Nat.{ℕ, _+_}
 use lib.Dec.{leb, ltb}
 use lib.ListN.{length}
-use Rattle.der.specs.Numbers.{octetStringTag}
+use Rattle.der.specs.Numbers.{octetStringTag, sequenceTag, contextTag}
 use Rattle.der.specs.Element.{finishAt, expectAt}
 use Rattle.der.specs.Content.{bytesOf, identifierAt}
 use Rattle.der.specs.Opaque.{onChecked}
@@ -14,25 +14,31 @@ use Rattle.der.specs.declared.Fault.{Fault}
 use Rattle.der.specs.declared.Cursor.{Cursor}
 use Rattle.der.specs.declared.Element.the-variants.{Found}
 use Rattle.der.specs.declared.Checked.{Checked}
-use Rattle.pkcs12.specs.Numbers.{safeRows, bagRows, levels, sequenceTag, contextTag}
-use Rattle.pkcs12.specs.Identifiers.{sameBytes, dataType, envelopedType, encryptedType, kindOf}
+use Rattle.pkcs12.specs.Numbers.{safeRows, bagRows, levels}
+use Rattle.buffer.specs.Bytes.{sameBytes}
+use Rattle.pkcs12.specs.Identifiers.{dataType, envelopedType, encryptedType, kindOf}
 use Rattle.pkcs12.specs.Table.{noParts, safeRow, bagRow, noMac, Rows, noRows, tableOf, emptyTable, rowsIn}
-use Rattle.pkcs12.specs.Walk.{keyAt, sealedAt, typedAt, encryptedAt, Walked, Refused, Went, onWalked, addSafe, addBag, Owner, owner, leafAt, contentAt, onKind, bagAt, safeContentsAt, dataAt, plainAt, sealedSafeAt, safeValueAt, safeAt}
-use Rattle.pkcs12.specs.declared.PartsAt.{PartsAt}
-use Rattle.pkcs12.specs.declared.SafeKind.the-variants.{Plain, Encrypted}
-use Rattle.pkcs12.specs.declared.Enclosing.{Enclosing}
-use Rattle.pkcs12.specs.declared.Enclosing.the-variants.{Bag}
-use Rattle.pkcs12.specs.declared.BagKind.{BagKind}
-use Rattle.pkcs12.specs.declared.BagKind.the-variants.{Key, ShroudedKey, Certificate, Crl, Secret, Nested}
-use Rattle.pkcs12.specs.declared.Answer.{Answer}
-use Rattle.pkcs12.specs.declared.Answer.the-variants.{Accepted}
+use Rattle.pkcs12.specs.Walk.{keyAt, sealedAt, typedAt, encryptedAt, Walked, Refused, Went, onWalked, addSafe, addBag}
+use Rattle.pkcs12.specs.Walk.{Owner, owner, leafAt, contentAt, onKind, bagAt, safeContentsAt, dataAt, plainAt}
+use Rattle.pkcs12.specs.Walk.{sealedSafeAt, safeValueAt, safeAt}
+use Rattle.pkcs12.specs.declared.answers.PartsAt.{PartsAt}
+use Rattle.pkcs12.specs.declared.kind.SafeKind.the-variants.{Plain, Encrypted}
+use Rattle.pkcs12.specs.declared.row.Enclosing.{Enclosing}
+use Rattle.pkcs12.specs.declared.row.Enclosing.the-variants.{Bag}
+use Rattle.pkcs12.specs.declared.kind.BagKind.{BagKind}
+use Rattle.pkcs12.specs.declared.kind.BagKind.the-variants.{Key, ShroudedKey, Certificate, Crl, Secret, Nested}
+use Rattle.pkcs12.specs.declared.answers.Answer.{Answer}
+use Rattle.pkcs12.specs.declared.answers.Answer.the-variants.{Accepted}
 use Rattle.pkcs12.proofs.Corollaries.{rows-in-table}
-use Rattle.reader.specs.Steps.{onBag, leafOf, bagValueAt, bagOfAt, bagHeadAt, dataHeadAt, bothAt, onContents, plainHeadAt, encryptedHeadAt, safeOfAt, safeHeadAt, closedAt, bagEndAt, onOctets, progress}
+use Rattle.reader.specs.Steps.{onBag, leafOf, bagValueAt, bagOfAt, bagHeadAt, dataHeadAt, bothAt, onContents}
+use Rattle.reader.specs.Steps.{plainHeadAt, encryptedHeadAt, safeOfAt, safeHeadAt, closedAt, bagEndAt, onOctets}
+use Rattle.reader.specs.Steps.{progress}
 use Rattle.reader.specs.declared.bags.Bag.{Bag as Head}
 use Rattle.reader.specs.declared.safes.Octets.{Octets}
 use Rattle.reader.specs.declared.safes.Contents.{Contents}
 use Rattle.reader.specs.declared.rows.Progress.{Progress}
-use Rattle.reader.proofs.Bridge.{both-element, both-parts, both-checked, both-test, through-element, through-checked, through-walked, through-test}
+use Rattle.reader.proofs.Bridge.{both-element, both-parts, both-checked, both-test, through-element}
+use Rattle.reader.proofs.Bridge.{through-checked, through-walked, through-test}
 
 pub through-kind : {A B : Type 0} (F : A → B) (k : BagKind) (x y : A) (x′ y′ : B) → F x ≡ x′ → F y ≡ y′ → F (onKind k x y) ≡ onKind k x′ y′
 through-kind F BagKind.None x y x′ y′ p q = p
@@ -48,7 +54,9 @@ module _ (inner : Owner → Rows → Cursor → Walked) (s : List ℕ) (w : Owne
   abbrev afterBag : Head → Walked
   afterBag x = onBag x Refused
       (λ kind p k f e n. bagEndAt s (length (st .bags)) (addBag st (bagRow kind (w .safe) (w .enclosing) p (ltb (e .at) (e .end))) k) f e n)
-      (λ v e n. onWalked (inner (owner (w .safe) (Bag (length (st .bags)))) (addBag st (bagRow Nested (w .safe) (w .enclosing) noParts (ltb (e .at) (e .end))) 3) v) Refused (λ st′ f. bagEndAt s (length (st .bags)) st′ f e n))
+      (λ v e n. onWalked (inner (owner (w .safe) (Bag (length (st .bags))))
+      (addBag st (bagRow Nested (w .safe) (w .enclosing) noParts (ltb (e .at) (e .end))) 3) v) Refused
+      (λ st′ f. bagEndAt s (length (st .bags)) st′ f e n))
 
   -- a bag that holds no bags
   leaf-law : (x : PartsAt) (kind : BagKind) (e n : Cursor)
@@ -59,7 +67,8 @@ module _ (inner : Owner → Rows → Cursor → Walked) (s : List ℕ) (w : Owne
 
   -- a bag of any kind, from what stands in [0] on
   content-law : (kind : BagKind) (v e n : Cursor)
-      → afterBag (bagValueAt s kind v e n) ≡ onWalked (contentAt inner s kind w (ltb (e .at) (e .end)) st v) Refused (λ st′ f. bagEndAt s (length (st .bags)) st′ f e n)
+      → afterBag (bagValueAt s kind v e n) ≡ onWalked (contentAt inner s kind w (ltb (e .at) (e .end)) st v) Refused
+      (λ st′ f. bagEndAt s (length (st .bags)) st′ f e n)
   unfolding bagValueAt
   content-law BagKind.None v e n = refl
   content-law Key v e n = leaf-law (keyAt s v) Key e n
@@ -73,7 +82,9 @@ module _ (inner : Owner → Rows → Cursor → Walked) (s : List ℕ) (w : Owne
 pub bag-law : (inner : Owner → Rows → Cursor → Walked) (s : List ℕ) (w : Owner) (st : Rows) (c : Cursor)
     → onBag (bagHeadAt s (leb bagRows (length (st .bags))) c) Refused
     (λ kind p k f e n. bagEndAt s (length (st .bags)) (addBag st (bagRow kind (w .safe) (w .enclosing) p (ltb (e .at) (e .end))) k) f e n)
-    (λ v e n. onWalked (inner (owner (w .safe) (Bag (length (st .bags)))) (addBag st (bagRow Nested (w .safe) (w .enclosing) noParts (ltb (e .at) (e .end))) 3) v) Refused (λ st′ f. bagEndAt s (length (st .bags)) st′ f e n))
+    (λ v e n. onWalked (inner (owner (w .safe) (Bag (length (st .bags))))
+    (addBag st (bagRow Nested (w .safe) (w .enclosing) noParts (ltb (e .at) (e .end))) 3) v) Refused
+    (λ st′ f. bagEndAt s (length (st .bags)) st′ f e n))
     ≡ bagAt inner s w st c
 unfolding bagHeadAt bagOfAt bagAt bagEndAt
 bag-law inner s w st c =

@@ -21,21 +21,23 @@ use Rattle.der.specs.declared.Checked.{Checked}
 use Rattle.der.specs.declared.Checked.the-variants.{Passed}
 use Rattle.der.proofs.Placed.{found, expected}
 use Rattle.der.proofs.Opaque.{ran}
-use Rattle.pkcs12.specs.Numbers.{fileBytes, notServed}
+use Rattle.buffer.specs.Numbers.{fileBytes}
+use Rattle.pkcs12.specs.Numbers.{notServed}
 use Rattle.pkcs12.specs.Walk.{sealedAt, keyAt, typedAt, encryptedAt, onKind, onAnswer}
-use Rattle.pkcs12.specs.declared.Parts.{Parts}
-use Rattle.pkcs12.specs.declared.PartsAt.{PartsAt}
-use Rattle.pkcs12.specs.declared.BagKind.{BagKind}
-use Rattle.pkcs12.specs.declared.BagKind.the-variants.{Key, ShroudedKey, Certificate, Crl, Secret, Nested}
-use Rattle.pkcs12.specs.declared.Answer.{Answer}
-use Rattle.pkcs12.specs.declared.Answer.the-variants.{Accepted}
+use Rattle.pkcs12.specs.declared.row.Parts.{Parts}
+use Rattle.pkcs12.specs.declared.answers.PartsAt.{PartsAt}
+use Rattle.pkcs12.specs.declared.kind.BagKind.{BagKind}
+use Rattle.pkcs12.specs.declared.kind.BagKind.the-variants.{Key, ShroudedKey, Certificate, Crl, Secret, Nested}
+use Rattle.pkcs12.specs.declared.answers.Answer.{Answer}
+use Rattle.pkcs12.specs.declared.answers.Answer.the-variants.{Accepted}
 use Rattle.reader.specs.Steps.{SmallParts, onSet, leafOf, bagValueAt, onOctets, onOuter}
 use Rattle.reader.specs.declared.bags.Set.{Set}
 use Rattle.reader.specs.declared.bags.Bag.{Bag}
 use Rattle.reader.specs.declared.safes.Octets.{Octets}
 use Rattle.reader.specs.declared.file.Outer.{Outer}
-use Rattle.reader.proofs.Past.{Past, key-past, sealed-past, typed-past, encrypted-past}
-use Rattle.reader.proofs.Rules.{small}
+use Rattle.parts.proofs.Past.{Past, key-past, sealed-past, typed-past, encrypted-past}
+use Rattle.parts.specs.InFile.{inFile}
+use Rattle.parts.proofs.Rules.{small, in-file}
 
 module _ {A : Type 0} (r : A) (bad : Fault → A) where
   pub set-refused : (v w : Set) (f : Fault) (none : A) (good : Cursor → Cursor → A) → w ≡ v → w ≡ Set.Refused f → r ≡ bad f → r ≡ onSet v bad none good
@@ -50,7 +52,8 @@ module _ {A : Type 0} (r : A) (bad : Fault → A) where
   pub octets-refused : (v w : Octets) (f : Fault) (good : Cursor → Cursor → Cursor → A) → w ≡ v → w ≡ Octets.Refused f → r ≡ bad f → r ≡ onOctets v bad good
   octets-refused v w f good p q e = rw (sym p ∙ q) e
 
-  pub octets-found : (v w : Octets) (o f e : Cursor) (good : Cursor → Cursor → Cursor → A) → w ≡ v → w ≡ Octets.Found o f e → r ≡ good o f e → r ≡ onOctets v bad good
+  pub octets-found : (v w : Octets) (o f e : Cursor) (good : Cursor → Cursor → Cursor → A) → w ≡ v
+      → w ≡ Octets.Found o f e → r ≡ good o f e → r ≡ onOctets v bad good
   octets-found v w o f e good p q h = rw (sym p ∙ q) h
 
   pub outer-refused : (v w : Outer) (f : Fault) (good : Cursor → Cursor → A) → w ≡ v → w ≡ Outer.Refused f → r ≡ bad f → r ≡ onOuter v bad good
@@ -85,25 +88,28 @@ module _ (s : List ℕ) (c : Cursor) (w : PartsAt) (h : length s ≤ fileBytes) 
       go (PartsAt.Found p k n) e = small s c k n (past p k n e) h
 
 module _ (s : List ℕ) (c : Cursor) (w : PartsAt) where
-  pub key-small : w ≡ keyAt s c → length s ≤ fileBytes → SmallParts w
-  key-small e h = past-small s c w h (λ p k n f. key-past s c w p k n e f)
+  pub key-small : w ≡ inFile s (keyAt s c) → length s ≤ fileBytes → SmallParts w
+  key-small e h = past-small s c w h (λ p k n f. key-past s c w p k n (in-file s w _ e h) f)
 
-  pub sealed-small : w ≡ sealedAt s c → length s ≤ fileBytes → SmallParts w
-  sealed-small e h = past-small s c w h (λ p k n f. sealed-past s c w p k n e f)
+  pub sealed-small : w ≡ inFile s (sealedAt s c) → length s ≤ fileBytes → SmallParts w
+  sealed-small e h = past-small s c w h (λ p k n f. sealed-past s c w p k n (in-file s w _ e h) f)
 
-  pub typed-small : (u : Bool) → w ≡ typedAt u s c → length s ≤ fileBytes → SmallParts w
-  typed-small u e h = past-small s c w h (λ p k n f. typed-past u s c w p k n e f)
+  pub typed-small : (u : Bool) → w ≡ inFile s (typedAt u s c) → length s ≤ fileBytes → SmallParts w
+  typed-small u e h = past-small s c w h (λ p k n f. typed-past u s c w p k n (in-file s w _ e h) f)
 
 pub ruleset small-values = (key-small, sealed-small, typed-small)
 
 pub leaf-fits : (w : PartsAt) (p : Parts) (k : ℕ) (n : Cursor) → SmallParts w → w ≡ PartsAt.Found p k n → Fits w64 (k + 3)
 leaf-fits w p k n h e = let o : k ≤ fileBytes = rw e at h in omega (arith, o)
 
-pub encrypted-fits : (s : List ℕ) (c : Cursor) (w : PartsAt) (p : Parts) (k : ℕ) (n : Cursor) → w ≡ encryptedAt s c → w ≡ PartsAt.Found p k n → length s ≤ fileBytes → Fits w64 (k + 3)
-encrypted-fits s c w p k n e f h = let o = small s c k n (encrypted-past s c w p k n e f) h in omega (arith, o)
+pub encrypted-fits : (s : List ℕ) (c : Cursor) (w : PartsAt) (p : Parts) (k : ℕ) (n : Cursor) → w ≡ inFile s (encryptedAt s c)
+    → w ≡ PartsAt.Found p k n → length s ≤ fileBytes → Fits w64 (k + 3)
+encrypted-fits s c w p k n e f h =
+    let o = small s c k n (encrypted-past s c w p k n (in-file s w _ e h) f) h in omega (arith, o)
 
-pub sealed-count : (s : List ℕ) (c : Cursor) (w : PartsAt) (p : Parts) (k : ℕ) (n : Cursor) → w ≡ sealedAt s c → w ≡ PartsAt.Found p k n → length s ≤ fileBytes → k ≤ fileBytes
-sealed-count s c w p k n e f h = small s c k n (sealed-past s c w p k n e f) h
+pub sealed-count : (s : List ℕ) (c : Cursor) (w : PartsAt) (p : Parts) (k : ℕ) (n : Cursor) → w ≡ inFile s (sealedAt s c)
+    → w ≡ PartsAt.Found p k n → length s ≤ fileBytes → k ≤ fileBytes
+sealed-count s c w p k n e f h = small s c k n (sealed-past s c w p k n (in-file s w _ e h) f) h
 
 -- what stands in [0], by the kind that the code matched on; x is what was read there
 module _ (s : List ℕ) (kind : BagKind) (v e n : Cursor) (r : Bag) where

@@ -1,4 +1,5 @@
--- The loops over rows: the code's invariant, what it begins with, its ways out and its turn, for any step of the walk.
+-- The loops over rows: the code's invariant, what it begins with, its ways out and its turn, for
+-- any step of the walk.
 use mathlib.Core.Path.{_≡_, refl, sym, _∙_}
 use mathlib.Core.List.{List}
 use Prim.Native.Nat.{ℕ, _≤_, _<_}
@@ -9,10 +10,10 @@ use Rattle.der.specs.declared.Cursor.{Cursor}
 use Rattle.der.proofs.Many.{Going, going-start, going-on, going-end}
 use Rattle.pkcs12.specs.Table.{Rows, noMac, tableOf, rowsIn}
 use Rattle.pkcs12.specs.Walk.{Walked, Refused, Went, goOn, run}
-use Rattle.pkcs12.specs.declared.Table.{Table}
+use Rattle.pkcs12.specs.declared.table.Table.{Table}
 use Rattle.pkcs12.proofs.Corollaries.{rows-in-table}
 use Rattle.reader.specs.Steps.{Ready}
-use Rattle.reader.proofs.Past.{Past}
+use Rattle.parts.proofs.Past.{Past}
 
 -- the count in the table of some rows
 elements-of : (st : Rows) → tableOf st noMac .elements ≡ st .count

@@ -1,5 +1,5 @@
--- The MAC input: that of an accepted file is its AuthenticatedSafe as it is written, the body of the outer OCTET STRING without its tag and length; a
--- refused file has none.
+-- The MAC input: that of an accepted file is its AuthenticatedSafe as it is written, the body of
+-- the outer OCTET STRING without its tag and length; a refused file has none.
 use mathlib.Core.Path.{_≡_, sym, _∙_}
 use mathlib.Core.List.{List, []}
 use mathlib.Core.Option.{some}
@@ -9,12 +9,15 @@ use Rattle.der.specs.Span.{Bytes}
 use Rattle.der.specs.declared.Fault.{Fault}
 use Rattle.der.proofs.Spans.{slice-span}
 use Rattle.pkcs12.specs.Syntax.{Pfx}
-use Rattle.pkcs12.specs.Encode.{sequence, safesBytes}
-use Rattle.pkcs12.specs.Table.{bytesIn, emptyTable, tableOf, rowsIn}
+use Rattle.pkcs12.specs.Encode.{safesBytes}
+use Rattle.der.specs.Octets.{sequence}
+use Rattle.buffer.specs.Range.{bytesIn}
+use Rattle.pkcs12.specs.Table.{emptyTable, tableOf, rowsIn}
 use Rattle.pkcs12.specs.Walk.{readFile}
 use Rattle.pkcs12.specs.Accepted.{IsAccepted, Follows, tableFrom, readingFrom}
-use Rattle.pkcs12.specs.declared.Answer.{Answer}
-use Rattle.pkcs12.proofs.Theorems.{accepted-iff-follows, table-shows-reading, ranges-within-parents, refused-table-empty}
+use Rattle.pkcs12.specs.declared.answers.Answer.{Answer}
+use Rattle.pkcs12.proofs.Theorems.{accepted-iff-follows, table-shows-reading, ranges-within-parents}
+use Rattle.pkcs12.proofs.Theorems.{refused-table-empty}
 
 -- ---- of a file
 
@@ -30,7 +33,8 @@ follows-input f b x w = slice-span f _ _ _ (ranges-within-parents f b x w .conte
 some-same : (x y : Pfx) → some x ≡ some y → x ≡ y
 some-same x y e = cc
 
--- That of an accepted file names exactly the AuthenticatedSafe of the reading x: the SEQUENCE of its safes.
+-- That of an accepted file names exactly the AuthenticatedSafe of the reading x: the SEQUENCE of
+-- its safes.
 pub accepted-input : (f : List ℕ) → Bytes f → IsAccepted f → (x : Pfx) → readingFrom f ≡ some x
     → bytesIn f (tableFrom f .«mac_input») ≡ sequence (safesBytes (x .safes))
 accepted-input f b a x e =

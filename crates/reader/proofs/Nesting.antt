@@ -8,22 +8,22 @@ use borrow.Author.Tests.{eq-eqb, ne-eqb}
 use mir.Val.{Fits}
 use mir.Syntax.{w64}
 use Rattle.der.specs.Choice.{if_then_else_}
-use Rattle.der.specs.Numbers.{tooMany}
+use Rattle.der.specs.Numbers.{tooMany, sequenceTag}
 use Rattle.der.specs.Element.{cursor, fault, expectAt, onElement}
 use Rattle.der.specs.declared.Fault.{Fault}
 use Rattle.der.specs.declared.Cursor.{Cursor}
 use Rattle.der.specs.declared.Element.{Element}
 use Rattle.der.specs.declared.Element.the-variants.{Found}
-use Rattle.pkcs12.specs.Numbers.{sequenceTag}
 use Rattle.pkcs12.specs.Table.{Rows, noMac, tableOf, rowsIn}
 use Rattle.pkcs12.specs.Walk.{Walked, Refused, Went, onWalked, run, counting, Owner, owner, bagAt, safeContentsAt}
-use Rattle.pkcs12.specs.declared.Enclosing.{Enclosing}
-use Rattle.pkcs12.specs.declared.Answer.{Answer}
-use Rattle.pkcs12.specs.declared.Answer.the-variants.{Accepted}
-use Rattle.pkcs12.specs.declared.Table.{Table}
+use Rattle.pkcs12.specs.declared.row.Enclosing.{Enclosing}
+use Rattle.pkcs12.specs.declared.answers.Answer.{Answer}
+use Rattle.pkcs12.specs.declared.answers.Answer.the-variants.{Accepted}
+use Rattle.pkcs12.specs.declared.table.Table.{Table}
 use Rattle.reader.specs.Steps.{progress, startCount, Ready}
 use Rattle.reader.specs.declared.rows.Progress.{Progress}
-use Rattle.reader.proofs.Past.{Past, Head, expect-head, bag-past}
+use Rattle.reader.proofs.Past.{bag-past}
+use Rattle.parts.proofs.Past.{Past, Head, expect-head}
 use Rattle.reader.proofs.BridgeRows.{progress-went, progress-refused, progress-rows}
 use Rattle.reader.proofs.Stores.{withCount, stored-count, rows-of, rows-again}
 use Rattle.reader.proofs.Loops.{Rowing, rowing-start, rowing-end, rowing-refused, rowing-on}

@@ -1,4 +1,5 @@
--- A bag: what the code has learnt of it before its row, and each way on from there, as the walk goes.
+-- A bag: what the code has learnt of it before its row, and each way on from there, as the walk
+-- goes.
 use mathlib.Core.Path.{_≡_, refl, sym, _∙_}
 use mathlib.Core.Bool.{Bool, true, false}
 use mathlib.Core.List.{List}
@@ -13,38 +14,42 @@ use Rattle.der.specs.Content.{bytesOf}
 use Rattle.der.specs.declared.Fault.{Fault}
 use Rattle.der.specs.declared.Cursor.{Cursor}
 use Rattle.der.proofs.Choices.{by-test}
-use Rattle.pkcs12.specs.Numbers.{bagRows, sequenceTag, contextTag}
+use Rattle.pkcs12.specs.Numbers.{bagRows}
+use Rattle.der.specs.Numbers.{sequenceTag, contextTag}
 use Rattle.pkcs12.specs.Identifiers.{kindOf}
 use Rattle.pkcs12.specs.Table.{bagRow, noParts, noMac, tableOf, rowsIn}
 use Rattle.pkcs12.specs.Walk.{Walked, Refused, onWalked, addBag, owner, bagAt, safeContentsAt}
-use Rattle.pkcs12.specs.declared.Parts.{Parts}
-use Rattle.pkcs12.specs.declared.PartsAt.{PartsAt}
-use Rattle.pkcs12.specs.declared.BagKind.{BagKind}
-use Rattle.pkcs12.specs.declared.BagKind.the-variants.{Key, ShroudedKey, Certificate, Crl, Secret, Nested}
-use Rattle.pkcs12.specs.declared.Enclosing.{Enclosing}
-use Rattle.pkcs12.specs.declared.Enclosing.the-variants.{Bag}
-use Rattle.pkcs12.specs.declared.BagRow.{BagRow}
-use Rattle.pkcs12.specs.declared.Answer.{Answer}
-use Rattle.pkcs12.specs.declared.Answer.the-variants.{Accepted}
-use Rattle.pkcs12.specs.declared.Table.{Table}
+use Rattle.pkcs12.specs.declared.row.Parts.{Parts}
+use Rattle.pkcs12.specs.declared.answers.PartsAt.{PartsAt}
+use Rattle.pkcs12.specs.declared.kind.BagKind.{BagKind}
+use Rattle.pkcs12.specs.declared.kind.BagKind.the-variants.{Key, ShroudedKey, Certificate, Crl, Secret, Nested}
+use Rattle.pkcs12.specs.declared.row.Enclosing.{Enclosing}
+use Rattle.pkcs12.specs.declared.row.Enclosing.the-variants.{Bag}
+use Rattle.pkcs12.specs.declared.row.BagRow.{BagRow}
+use Rattle.pkcs12.specs.declared.answers.Answer.{Answer}
+use Rattle.pkcs12.specs.declared.answers.Answer.the-variants.{Accepted}
+use Rattle.pkcs12.specs.declared.table.Table.{Table}
 use Rattle.pkcs12.proofs.Named.{by-kind}
-use Rattle.reader.specs.Steps.{onBag, leafOf, bagValueAt, bagOfAt, bagHeadAt, bagEndAt, progress, startCount, Ready}
+use Rattle.reader.specs.Steps.{onBag, leafOf, bagValueAt, bagOfAt, bagHeadAt, bagEndAt, progress, startCount}
+use Rattle.reader.specs.Steps.{Ready}
 use Rattle.reader.specs.declared.bags.Bag.{Bag as Before}
 use Rattle.reader.specs.declared.rows.Progress.{Progress}
-use Rattle.reader.proofs.Past.{Past, by-expect, by-identifier, key-past, sealed-past, typed-past, contents-past}
+use Rattle.parts.proofs.Past.{Past, by-expect, by-identifier, key-past, sealed-past, typed-past}
+use Rattle.reader.proofs.Past.{contents-past}
 use Rattle.reader.proofs.BridgeRows.{bag-law, progress-went, progress-refused, progress-rows}
 use Rattle.reader.proofs.Stores.{storedBag, bag-count, stored-bag, rows-of, rows-again}
 use Rattle.reader.proofs.Loops.{count-of}
 
--- What stands before a bag's row: there was room for the row, its elements are no more than the bytes before its attributes, and nested
--- contents stand behind three headers.
+-- What stands before a bag's row: there was room for the row, its elements are no more than the
+-- bytes before its attributes, and nested contents stand behind three headers.
 abbrev OfBag : List ℕ → Cursor → Bool → Before → Type 0
 OfBag s c full (Before.Refused f) = Unit {0}
 OfBag s c full (Before.Leaf kind p k f e n) = (full ≡ false) × (c .at + k ≤ e .at) × (e .at ≤ length s)
 OfBag s c full (Before.Nested v e n) = (full ≡ false) × (c .at + 3 ≤ v .at) × (v .at ≤ length s) × (v .end ≤ e .at)
 
 -- in [0] with body v, which ends where e begins
-module _ (s : List ℕ) (c : Cursor) (full : Bool) (free : full ≡ false) (v e n : Cursor) (head : c .at + 3 ≤ v .at) (order : v .at ≤ v .end) (stop : e .at ≡ v .end) (inside : e .at ≤ length s) where
+module _ (s : List ℕ) (c : Cursor) (full : Bool) (free : full ≡ false) (v e n : Cursor) (head : c .at + 3 ≤ v .at)
+    (order : v .at ≤ v .end) (stop : e .at ≡ v .end) (inside : e .at ≤ length s) where
   leaf-of : (kind : BagKind) (x : PartsAt) → ((p : Parts) (k : ℕ) (f : Cursor) → x ≡ PartsAt.Found p k f → Past s v 0 k f) → OfBag s c full (leafOf kind x e n)
   unfolding leafOf
   leaf-of kind (PartsAt.Refused f) past = tt
@@ -141,7 +146,13 @@ module _ (s : List ℕ) (below safe : ℕ) (enclosing : Enclosing) (t₀ : Table
         nested-stored = stored-bag t₀ (ready .rows) row 3 nested-room
 
         pub nested-ready : Ready s (storedBag t₀ row 3) (v .at)
-        nested-ready = let o = nested-facts in record { short = ready .short; rows = rows-again _ _ nested-stored; counted = omega (arith, ready .counted, o .1) }
+        nested-ready =
+            let o = nested-facts in
+            record {
+              short = ready .short;
+              rows = rows-again _ _ nested-stored;
+              counted = omega (arith, ready .counted, o .1);
+            }
 
         -- the contents in it, which the code holds as y
         abbrev innerOf : Walked
@@ -162,5 +173,7 @@ module _ (s : List ℕ) (below safe : ℕ) (enclosing : Enclosing) (t₀ : Table
               let j : rowsIn (storedBag t₀ row 3) .count ≡ t₀ .elements + 3 = count-of (storedBag t₀ row 3) in
               record { short = ready .short; rows = progress-rows innerOf y z; counted = omega (arith, ready .counted, o .1, o .3, x .long, x .within, i, j) }
 
-          pub nested-returns : (r : Progress) → y .answer ≡ Accepted → r ≡ progress (bagEndAt s (t₀ .«bag_count») (rowsIn (y .table)) (y .next) e n) → r ≡ progress wholeBag
+          pub nested-returns : (r : Progress) → y .answer ≡ Accepted
+              → r ≡ progress (bagEndAt s (t₀ .«bag_count») (rowsIn (y .table)) (y .next) e n)
+              → r ≡ progress wholeBag
           nested-returns r h i = rw (nested-is, progress-went innerOf y z h) i

@@ -16,32 +16,38 @@ use Rattle.der.specs.declared.Fault.{Fault}
 use Rattle.der.specs.declared.Cursor.{Cursor}
 use Rattle.der.specs.declared.Checked.{Checked}
 use Rattle.der.specs.declared.Checked.the-variants.{Passed}
-use Rattle.der.specs.Numbers.{octetStringTag}
+use Rattle.der.specs.Numbers.{octetStringTag, sequenceTag, contextTag}
 use Rattle.der.proofs.Choices.{by-test}
 use Rattle.der.proofs.Opaque.{by-checked}
-use Rattle.pkcs12.specs.Numbers.{fileBytes, safeRows, levels, sequenceTag, contextTag}
-use Rattle.pkcs12.specs.Identifiers.{sameBytes, dataType, encryptedType, envelopedType}
+use Rattle.buffer.specs.Numbers.{fileBytes}
+use Rattle.pkcs12.specs.Numbers.{safeRows, levels}
+use Rattle.buffer.specs.Bytes.{sameBytes}
+use Rattle.pkcs12.specs.Identifiers.{dataType, encryptedType, envelopedType}
 use Rattle.pkcs12.specs.Table.{Rows, safeRow, noParts, noMac, table, tableOf, emptyTable, rowsIn}
-use Rattle.pkcs12.specs.Walk.{rangeOf, onParts, encryptedAt, Walked, Refused, Went, onWalked, run, addSafe, owner, safeContentsAt, safeAt, startRows}
-use Rattle.pkcs12.specs.declared.Range.{Range}
-use Rattle.pkcs12.specs.declared.Parts.{Parts}
-use Rattle.pkcs12.specs.declared.PartsAt.{PartsAt}
-use Rattle.pkcs12.specs.declared.SafeKind.the-variants.{Plain, Encrypted}
-use Rattle.pkcs12.specs.declared.Enclosing.{Enclosing}
-use Rattle.pkcs12.specs.declared.Answer.{Answer}
-use Rattle.pkcs12.specs.declared.Answer.the-variants.{Accepted}
-use Rattle.pkcs12.specs.declared.Table.{Table}
+use Rattle.pkcs12.specs.Walk.{rangeOf, onParts, encryptedAt, Walked, Refused, Went, onWalked, run, addSafe, owner}
+use Rattle.pkcs12.specs.Walk.{safeContentsAt, safeAt, startRows}
+use Rattle.buffer.specs.declared.Range.{Range}
+use Rattle.pkcs12.specs.declared.row.Parts.{Parts}
+use Rattle.pkcs12.specs.declared.answers.PartsAt.{PartsAt}
+use Rattle.pkcs12.specs.declared.kind.SafeKind.the-variants.{Plain, Encrypted}
+use Rattle.pkcs12.specs.declared.row.Enclosing.{Enclosing}
+use Rattle.pkcs12.specs.declared.answers.Answer.{Answer}
+use Rattle.pkcs12.specs.declared.answers.Answer.the-variants.{Accepted}
+use Rattle.pkcs12.specs.declared.table.Table.{Table}
 use Rattle.pkcs12.proofs.Corollaries.{rows-in-table}
-use Rattle.reader.specs.Steps.{onContents, onOctets, dataHeadAt, bothAt, plainHeadAt, encryptedHeadAt, safeOfAt, safeHeadAt, closedAt, progress, startCount, Ready}
+use Rattle.reader.specs.Steps.{onContents, onOctets, dataHeadAt, bothAt, plainHeadAt, encryptedHeadAt, safeOfAt}
+use Rattle.reader.specs.Steps.{safeHeadAt, closedAt, progress, startCount, Ready}
 use Rattle.reader.specs.declared.safes.Octets.{Octets}
 use Rattle.reader.specs.declared.safes.Contents.{Contents}
 use Rattle.reader.specs.declared.rows.Progress.{Progress}
-use Rattle.reader.proofs.Past.{Past, by-expect, by-identifier, safe-past}
+use Rattle.reader.proofs.Past.{safe-past}
+use Rattle.parts.proofs.Past.{Past, by-expect, by-identifier}
 use Rattle.reader.proofs.BridgeRows.{safe-law, progress-rows}
 use Rattle.reader.proofs.Stores.{storedSafe, safe-count, stored-safe, rows-of, rows-again}
 use Rattle.reader.proofs.Loops.{Rowing, rowing-start, rowing-end, rowing-refused, rowing-on, count-of}
 
--- What stands before a safe's bags: there was room for its row, and plain contents stand behind four headers.
+-- What stands before a safe's bags: there was room for its row, and plain contents stand behind
+-- four headers.
 abbrev OfSafe : List ℕ → Cursor → Bool → Contents → Type 0
 OfSafe s c full (Contents.Refused f) = Unit {0}
 OfSafe s c full (Contents.Plain o f e n) = (full ≡ false) × (c .at + 4 ≤ o .at) × (o .at ≤ length s)
@@ -61,7 +67,9 @@ module _ (s : List ℕ) (c : Cursor) (full : Bool) (free : full ≡ false) (m n 
   unfolding encryptedHeadAt
   sealed-of = by-expect s (OfSafe s c full) _ (λ f. tt) m contextTag _ (λ t v e h. go e (encryptedAt s v))
     where
-      go : (e : Cursor) (x : PartsAt) → OfSafe s c full (onParts x Contents.Refused (λ p k f. onChecked (bothAt f e) Contents.Refused (λ z g. Contents.Encrypted p (k + 3) n)))
+      go : (e : Cursor) (x : PartsAt)
+          → OfSafe s c full (onParts x Contents.Refused
+          (λ p k f. onChecked (bothAt f e) Contents.Refused (λ z g. Contents.Encrypted p (k + 3) n)))
       go e (PartsAt.Refused f) = tt
       go e (PartsAt.Found p k f) = by-checked (OfSafe s c full) (λ x. Unit {0}) _ _ (λ f. tt) (λ z g u. free) (bothAt f e) tt
 
@@ -94,7 +102,9 @@ refused-at : (x : Walked) (f e n : Cursor) (h : Fault) → Checked.Refused h ≡
 refused-at (Refused g) f e n h q = let z = q ∙ closed-not g _ f e in cc
 refused-at (Went st g) f e n h q = rw (← q)
 
-passed-at : (x : Walked) (f e n : Cursor) (k : ℕ) (o : Cursor) → Passed k o ≡ closedAt (progress x .answer) (progress x .next) f e → closing x f e n ≡ Went (rowsIn (progress x .table)) n
+passed-at : (x : Walked) (f e n : Cursor) (k : ℕ) (o : Cursor)
+    → Passed k o ≡ closedAt (progress x .answer) (progress x .next) f e
+    → closing x f e n ≡ Went (rowsIn (progress x .table)) n
 passed-at (Refused g) f e n k o q = let z = q ∙ closed-not g _ f e in cc
 passed-at (Went st g) f e n k o q = rw (← q, rows-in-table st noMac)
 
@@ -188,7 +198,13 @@ module _ (s : List ℕ) (st₀ : Rows) (b : Cursor) where
         plain-stored = stored-safe t (g .ready .rows) _ 4 plain-room
 
         pub plain-ready : Ready s (storedSafe t (safeRow Plain noParts) 4) (o .at)
-        plain-ready = let x = plain-facts in record { short = g .ready .short; rows = rows-again _ _ plain-stored; counted = omega (arith, g .ready .counted, x .1) }
+        plain-ready =
+            let x = plain-facts in
+            record {
+              short = g .ready .short;
+              rows = rows-again _ _ plain-stored;
+              counted = omega (arith, g .ready .counted, x .1);
+            }
 
         abbrev innerOf : Walked
         innerOf = safeContentsAt levels s (owner (t .«safe_count») Enclosing.None) (rowsIn (storedSafe t (safeRow Plain noParts) 4)) o

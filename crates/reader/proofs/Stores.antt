@@ -6,10 +6,10 @@ use lib.ListN.{length, set, length-append}
 use Rattle.pkcs12.specs.Numbers.{safeRows, bagRows, attributeRows}
 use Rattle.pkcs12.specs.Table.{noSafe, noBag, noAttribute, noMac, Rows, table, tableOf, rowsIn}
 use Rattle.pkcs12.specs.Walk.{counting, addSafe, addBag, addAttribute}
-use Rattle.pkcs12.specs.declared.SafeRow.{SafeRow}
-use Rattle.pkcs12.specs.declared.BagRow.{BagRow}
-use Rattle.pkcs12.specs.declared.AttributeRow.{AttributeRow}
-use Rattle.pkcs12.specs.declared.Table.{Table}
+use Rattle.pkcs12.specs.declared.row.SafeRow.{SafeRow}
+use Rattle.pkcs12.specs.declared.row.BagRow.{BagRow}
+use Rattle.pkcs12.specs.declared.row.AttributeRow.{AttributeRow}
+use Rattle.pkcs12.specs.declared.table.Table.{Table}
 use Rattle.pkcs12.proofs.Stored.{stored}
 use Rattle.pkcs12.proofs.Corollaries.{rows-in-table}
 
@@ -18,13 +18,19 @@ abbrev pub withCount : Table → ℕ → Table
 withCount t k = table (t .safes) (t .«safe_count») (t .bags) (t .«bag_count») (t .attributes) (t .«attribute_count») (t .mac) (t .«mac_input») (t .elements + k)
 
 abbrev pub storedSafe : Table → SafeRow → ℕ → Table
-storedSafe t r k = table (set (t .safes) (t .«safe_count») r) (t .«safe_count» + 1) (t .bags) (t .«bag_count») (t .attributes) (t .«attribute_count») (t .mac) (t .«mac_input») (t .elements + k)
+storedSafe t r k =
+    table (set (t .safes) (t .«safe_count») r) (t .«safe_count» + 1) (t .bags) (t .«bag_count») (t .attributes)
+    (t .«attribute_count») (t .mac) (t .«mac_input») (t .elements + k)
 
 abbrev pub storedBag : Table → BagRow → ℕ → Table
-storedBag t r k = table (t .safes) (t .«safe_count») (set (t .bags) (t .«bag_count») r) (t .«bag_count» + 1) (t .attributes) (t .«attribute_count») (t .mac) (t .«mac_input») (t .elements + k)
+storedBag t r k =
+    table (t .safes) (t .«safe_count») (set (t .bags) (t .«bag_count») r) (t .«bag_count» + 1) (t .attributes)
+    (t .«attribute_count») (t .mac) (t .«mac_input») (t .elements + k)
 
 abbrev pub storedAttribute : Table → AttributeRow → ℕ → Table
-storedAttribute t r k = table (t .safes) (t .«safe_count») (t .bags) (t .«bag_count») (set (t .attributes) (t .«attribute_count») r) (t .«attribute_count» + 1) (t .mac) (t .«mac_input») (t .elements + k)
+storedAttribute t r k =
+    table (t .safes) (t .«safe_count») (t .bags) (t .«bag_count») (set (t .attributes) (t .«attribute_count») r)
+    (t .«attribute_count» + 1) (t .mac) (t .«mac_input») (t .elements + k)
 
 -- the counts of the table of some rows
 module _ (st : Rows) where
@@ -52,7 +58,8 @@ module _ (st : Rows) where
   unfolding tableOf
   bag-at r k h = rw (stored bagRows noBag (st .bags) r h, length-append (st .bags) (r ∷ []))
 
-  attribute-at : (r : AttributeRow) (k : ℕ) → length (st .attributes) < attributeRows → storedAttribute (tableOf st noMac) r k ≡ tableOf (addAttribute st r k) noMac
+  attribute-at : (r : AttributeRow) (k : ℕ) → length (st .attributes) < attributeRows
+      → storedAttribute (tableOf st noMac) r k ≡ tableOf (addAttribute st r k) noMac
   unfolding tableOf
   attribute-at r k h = rw (stored attributeRows noAttribute (st .attributes) r h, length-append (st .attributes) (r ∷ []))
 

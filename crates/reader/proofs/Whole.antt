@@ -1,4 +1,5 @@
--- The whole reading: what the code has learnt of the file at each step, and each way on from there, as the walk goes.
+-- The whole reading: what the code has learnt of the file at each step, and each way on from there,
+-- as the walk goes.
 use mathlib.Core.Path.{_≡_, refl, sym, _∙_}
 use mathlib.Core.List.{List}
 use Prim.Native.Nat.{ℕ, _+_, _≤_, _<_}
@@ -7,7 +8,7 @@ use lib.ListN.{length}
 use borrow.Author.Tests.{lt-ltb, le-ltb}
 use mir.Val.{Fits}
 use mir.Syntax.{w64}
-use Rattle.der.specs.Numbers.{octetStringTag}
+use Rattle.der.specs.Numbers.{octetStringTag, sequenceTag, contextTag}
 use Rattle.der.specs.Element.{fault, wholeOf, expectAt, onElement}
 use Rattle.der.specs.Content.{bytesOf}
 use Rattle.der.specs.Opaque.{onChecked}
@@ -16,31 +17,36 @@ use Rattle.der.specs.declared.Cursor.{Cursor}
 use Rattle.der.specs.declared.Checked.{Checked}
 use Rattle.der.specs.declared.Checked.the-variants.{Passed}
 use Rattle.der.proofs.Choices.{by-test, by-le}
-use Rattle.pkcs12.specs.Numbers.{fileBytes, tooLong, sequenceTag, contextTag}
-use Rattle.pkcs12.specs.Identifiers.{sameBytes, dataType, signedType}
+use Rattle.buffer.specs.Numbers.{fileBytes, tooLong}
+use Rattle.buffer.specs.Bytes.{sameBytes}
+use Rattle.pkcs12.specs.Identifiers.{dataType, signedType}
 use Rattle.pkcs12.specs.Table.{Rows, table, noMac, tableOf, emptyTable}
-use Rattle.pkcs12.specs.Walk.{Walked, Refused, Went, onWalked, run, counting, safeAt, startRows, onMac, macAt, refused, readFile}
-use Rattle.pkcs12.specs.declared.Mac.{Mac}
-use Rattle.pkcs12.specs.declared.MacAt.{MacAt}
-use Rattle.pkcs12.specs.declared.Table.{Table}
-use Rattle.pkcs12.specs.declared.Answer.{Answer}
-use Rattle.pkcs12.specs.declared.Answer.the-variants.{Accepted}
-use Rattle.pkcs12.specs.declared.Reading.{Reading}
-use Rattle.pkcs12.proofs.SoundAttributes.{OfWalked}
-use Rattle.pkcs12.proofs.SoundOuter.{OfMac, by-mac}
-use Rattle.reader.specs.Steps.{onOctets, dataHeadAt, bothAt, closedAt, onOuter, pfxHeadAt, onOpened, openedSafesAt, openedValueAt, openedInfoAt, openAt, lastAt, closeAt, progress}
+use Rattle.pkcs12.specs.Walk.{Walked, Refused, Went, onWalked, run, counting, safeAt, startRows, onMac, macAt}
+use Rattle.pkcs12.specs.Walk.{refused, readFile}
+use Rattle.pkcs12.specs.declared.row.Mac.{Mac}
+use Rattle.pkcs12.specs.declared.answers.MacAt.{MacAt}
+use Rattle.pkcs12.specs.declared.table.Table.{Table}
+use Rattle.pkcs12.specs.declared.answers.Answer.{Answer}
+use Rattle.pkcs12.specs.declared.answers.Answer.the-variants.{Accepted}
+use Rattle.pkcs12.specs.declared.answers.Reading.{Reading}
+use Rattle.pkcs12.proofs.AcceptedAttributes.{OfWalked}
+use Rattle.pkcs12.proofs.AcceptedOuter.{OfMac, by-mac}
+use Rattle.reader.specs.Steps.{onOctets, dataHeadAt, bothAt, closedAt, onOuter, pfxHeadAt, onOpened}
+use Rattle.reader.specs.Steps.{openedSafesAt, openedValueAt, openedInfoAt, openAt, lastAt, closeAt, progress}
 use Rattle.reader.specs.declared.rows.Progress.{Progress}
 use Rattle.reader.specs.declared.safes.Octets.{Octets}
 use Rattle.reader.specs.declared.file.Outer.{Outer}
 use Rattle.reader.specs.declared.file.Opened.{Opened}
-use Rattle.reader.proofs.Past.{Past, Room, by-expect, by-identifier, run-room, safe-of, mac-of}
+use Rattle.reader.proofs.Past.{Room, run-room, safe-of, mac-of}
+use Rattle.parts.proofs.Past.{Past, by-expect, by-identifier}
 use Rattle.reader.proofs.BridgeFile.{file-law}
 
 -- the table with the MAC and with its k elements
 abbrev pub withMac : Table → Mac → ℕ → Table
 withMac t x k = table (t .safes) (t .«safe_count») (t .bags) (t .«bag_count») (t .attributes) (t .«attribute_count») x (t .«mac_input») (t .elements + k)
 
--- ---- what is known of an opened file: the MAC input and the AuthenticatedSafe's body stand within the bytes
+-- ---- what is known of an opened file: the MAC input and the AuthenticatedSafe's body stand within
+-- the bytes
 
 abbrev OfOpened : List ℕ → Opened → Type 0
 OfOpened s (Opened.Refused f) = Unit {0}
@@ -87,7 +93,8 @@ module _ (s : List ℕ) where
       go (Outer.Refused f) = tt
       go (Outer.Found m n) = opened-info-of m n
 
--- ---- what is counted: behind the safes no more than the bytes; in them no more than those of the body, and the seven before them
+-- ---- what is counted: behind the safes no more than the bytes; in them no more than those of the
+-- body, and the seven before them
 
 abbrev Counted : List ℕ → MacAt → Type 0
 Counted s = OfMac (λ x k n. k ≤ length s)
@@ -120,14 +127,17 @@ count-of (Went st n) at end r = omega (arith, r .long)
 abbrev accepted : Table → Mac → ℕ → Cursor → Reading
 accepted t x k n = record { answer = Accepted; table = withMac t x k }
 
-with-mac : (st : Rows) (v : MacAt) → onMac v refused (accepted (tableOf st noMac)) ≡ onMac v refused (λ x k n. record { answer = Accepted; table = tableOf (counting st k) x })
+with-mac : (st : Rows) (v : MacAt) → onMac v refused (accepted (tableOf st noMac)) ≡ onMac v refused
+    (λ x k n. record { answer = Accepted; table = tableOf (counting st k) x })
 unfolding tableOf
 with-mac st (MacAt.Refused f) = refl
 with-mac st (MacAt.Found x k n) = refl
 
 close-law : (s : List ℕ) (safes string content mac rest : Cursor) (x : Walked)
     → onMac (closeAt s (progress x .answer) safes string content mac rest) refused (accepted (progress x .table))
-    ≡ onWalked x refused (λ st z. onMac (closeAt s Accepted safes string content mac rest) refused (λ m k n. record { answer = Accepted; table = tableOf (counting st k) m }))
+    ≡ onWalked x refused
+    (λ st z. onMac (closeAt s Accepted safes string content mac rest) refused
+    (λ m k n. record { answer = Accepted; table = tableOf (counting st k) m }))
 unfolding closeAt closedAt
 close-law s safes string content mac rest (Refused f) = refl
 close-law s safes string content mac rest (Went st n) = with-mac st (closeAt s Accepted safes string content mac rest)
@@ -165,7 +175,8 @@ module _ (s : List ℕ) (short : length s ≤ fileBytes) (c₀ : Cursor) (start 
     body-inside = facts .3
 
     -- the safes, which the code holds as y, and what stands behind them
-    module _ (y : Progress) (z : y ≡ progress (run (safeAt s) (startRows input) body)) (v : MacAt) (u : v ≡ closeAt s (y .answer) safes string content mac rest) where
+    module _ (y : Progress) (z : y ≡ progress (run (safeAt s) (startRows input) body)) (v : MacAt)
+        (u : v ≡ closeAt s (y .answer) safes string content mac rest) where
       closed-is : onMac v refused (accepted (y .table)) ≡ readFile s
       closed-is = rw (u, z) (close-law s safes string content mac rest (run (safeAt s) (startRows input) body)) ∙ rw q at read-is
 
@@ -176,7 +187,8 @@ module _ (s : List ℕ) (short : length s ≤ fileBytes) (c₀ : Cursor) (start 
       close-fits x k n h =
           let i : k ≤ length s = rw (sym u ∙ h) at (close-of s (y .answer) safes string content mac rest) in
           let j : y .table .elements ≤ body .end + 7 =
-          rw z (count-of (run (safeAt s) (startRows input) body) (body .at) (body .end) (run-room s (safeAt s) (safe-of s) (startRows input) body body-order)) in
+          rw z (count-of (run (safeAt s) (startRows input) body) (body .at) (body .end)
+          (run-room s (safeAt s) (safe-of s) (startRows input) body body-order)) in
           omega (arith, i, j, body-inside, short)
 
       pub close-found : (x : Mac) (k : ℕ) (n : Cursor) → v ≡ MacAt.Found x k n → record { answer = Accepted; table = withMac (y .table) x k } ≡ readFile s

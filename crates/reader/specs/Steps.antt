@@ -1,5 +1,6 @@
--- Pieces of the walk's definitions, as the private functions take them. Nothing here has to be believed: the reading call's contract names
--- `readFile`, and each piece is proved to be a part of it.
+-- Pieces of the walk's definitions, as the private functions take them. Nothing here has to be
+-- believed: the reading call's contract names `readFile`, and each piece is proved to be a part of
+-- it.
 use mathlib.Core.Bool.{Bool, true, false}
 use mathlib.Core.List.{List}
 use mathlib.Core.Path.{_≡_}
@@ -7,26 +8,31 @@ use Prim.Native.Nat.{ℕ, _+_, _≤_}
 use lib.Dec.{leb, ltb, eqb}
 use lib.ListN.{length}
 use Rattle.der.specs.Choice.{if_then_else_}
-use Rattle.der.specs.Numbers.{content, tooMany, opaqueLevels, octetStringTag}
+use Rattle.der.specs.Numbers.{content, tooMany, opaqueLevels, octetStringTag, sequenceTag, setTag, contextTag}
 use Rattle.der.specs.Element.{cursor, fault, tagAt, finishAt, expectAt, onElement}
 use Rattle.der.specs.Content.{bytesOf, identifierAt, integerAt, onInteger}
 use Rattle.der.specs.Opaque.{onChecked, opaqueAt, elementsAt}
 use Rattle.der.specs.declared.Fault.{Fault}
 use Rattle.der.specs.declared.Cursor.{Cursor}
 use Rattle.der.specs.declared.Checked.{Checked}
-use Rattle.pkcs12.specs.Numbers.{fileBytes, notServed, sequenceTag, setTag, contextTag, ciphertextTag, pfxVersion, defaultIterations}
-use Rattle.pkcs12.specs.Identifiers.{sameBytes, dataType, signedType, envelopedType, encryptedType, kindOf}
-use Rattle.pkcs12.specs.Table.{range, noRange, parts, macFields, noMac, Rows, tableOf, emptyTable, rowsIn}
-use Rattle.pkcs12.specs.Walk.{rangeOf, onParts, algorithmAt, withValue, sealedAt, keyAt, valueAt, typedAt, encryptedInfoAt, encryptedAt, Walked, Refused, Went, onWalked, setAt, onKind, onMac, iterationsAt, macAt, onAnswer}
-use Rattle.pkcs12.specs.declared.Range.{Range}
-use Rattle.pkcs12.specs.declared.Parts.{Parts}
-use Rattle.pkcs12.specs.declared.PartsAt.{PartsAt}
-use Rattle.pkcs12.specs.declared.BagKind.{BagKind}
-use Rattle.pkcs12.specs.declared.BagKind.the-variants.{Key, ShroudedKey, Certificate, Crl, Secret, Nested}
-use Rattle.pkcs12.specs.declared.MacAt.{MacAt}
-use Rattle.pkcs12.specs.declared.Answer.{Answer}
-use Rattle.pkcs12.specs.declared.Answer.the-variants.{Accepted}
-use Rattle.pkcs12.specs.declared.Table.{Table}
+use Rattle.buffer.specs.Numbers.{fileBytes}
+use Rattle.pkcs12.specs.Numbers.{notServed, ciphertextTag, pfxVersion, defaultIterations}
+use Rattle.buffer.specs.Bytes.{sameBytes}
+use Rattle.pkcs12.specs.Identifiers.{dataType, signedType, envelopedType, encryptedType, kindOf}
+use Rattle.buffer.specs.Range.{range, noRange}
+use Rattle.pkcs12.specs.Table.{parts, macFields, noMac, Rows, tableOf, emptyTable, rowsIn}
+use Rattle.pkcs12.specs.Walk.{rangeOf, onParts, algorithmAt, withValue, sealedAt, keyAt, valueAt, typedAt}
+use Rattle.pkcs12.specs.Walk.{encryptedInfoAt, encryptedAt, Walked, Refused, Went, onWalked, setAt, onKind, onMac}
+use Rattle.pkcs12.specs.Walk.{iterationsAt, macAt, onAnswer}
+use Rattle.buffer.specs.declared.Range.{Range}
+use Rattle.pkcs12.specs.declared.row.Parts.{Parts}
+use Rattle.pkcs12.specs.declared.answers.PartsAt.{PartsAt}
+use Rattle.pkcs12.specs.declared.kind.BagKind.{BagKind}
+use Rattle.pkcs12.specs.declared.kind.BagKind.the-variants.{Key, ShroudedKey, Certificate, Crl, Secret, Nested}
+use Rattle.pkcs12.specs.declared.answers.MacAt.{MacAt}
+use Rattle.pkcs12.specs.declared.answers.Answer.{Answer}
+use Rattle.pkcs12.specs.declared.answers.Answer.the-variants.{Accepted}
+use Rattle.pkcs12.specs.declared.table.Table.{Table}
 use Rattle.reader.specs.declared.bags.Set.{Set}
 use Rattle.reader.specs.declared.bags.Bag.{Bag}
 use Rattle.reader.specs.declared.rows.Progress.{Progress}
@@ -34,54 +40,6 @@ use Rattle.reader.specs.declared.safes.Octets.{Octets}
 use Rattle.reader.specs.declared.safes.Contents.{Contents}
 use Rattle.reader.specs.declared.file.Outer.{Outer}
 use Rattle.reader.specs.declared.file.Opened.{Opened}
-
--- the parameters that stand at m, of the algorithm with identifier i; n is past its SEQUENCE
-unfoldable pub someParametersAt : List ℕ → Cursor → Cursor → Cursor → PartsAt
-someParametersAt s i m n =
-    onChecked (opaqueAt opaqueLevels s m) PartsAt.Refused
-    (λ k e.
-    onChecked (finishAt e) PartsAt.Refused
-    (λ z f. PartsAt.Found (parts (rangeOf i) (range (m .at) (e .at)) noRange) (k + 2) n))
-
--- the parameters of the algorithm with identifier i, from m on; its SEQUENCE ends at `stop`, and n is past it
-unfoldable pub parametersAt : List ℕ → Cursor → Cursor → ℕ → Cursor → PartsAt
-parametersAt s i m stop n =
-    if ltb (m .at) (m .end) then someParametersAt s i m n else
-    PartsAt.Found (parts (rangeOf i) (range stop stop) noRange) 2 n
-
--- the value with this tag behind an algorithm; k is the count of all of them
-unfoldable pub sealedValueAt : ℕ → List ℕ → Parts → ℕ → Cursor → Cursor → PartsAt
-sealedValueAt tag s p k m n =
-    onElement (expectAt tag s m) PartsAt.Refused
-    (λ t o e.
-    onChecked (finishAt e) PartsAt.Refused
-    (λ z f. PartsAt.Found (withValue p (rangeOf o)) k n))
-
--- the value in [0] behind the identifier i of its type
-unfoldable pub typedValueAt : Bool → List ℕ → Cursor → Cursor → Cursor → Cursor → PartsAt
-typedValueAt octets s i v e n =
-    onChecked (valueAt octets s v) PartsAt.Refused
-    (λ k f.
-    onChecked (finishAt f) PartsAt.Refused
-    (λ z g.
-    onChecked (finishAt e) PartsAt.Refused
-    (λ z h. PartsAt.Found (parts (rangeOf i) noRange (range (v .at) (f .at))) (k + 3) n)))
-
--- the algorithm at m and its ciphertext
-unfoldable pub encryptedPartsAt : List ℕ → Cursor → Cursor → PartsAt
-encryptedPartsAt s m n =
-    onParts (algorithmAt s m) PartsAt.Refused
-    (λ p k e.
-    if leb (e .end) (e .at) then PartsAt.Refused (fault notServed (e .end)) else
-    sealedValueAt ciphertextTag s p (k + 3) e n)
-
--- the EncryptedContentInfo at m, which ends the EncryptedData
-unfoldable pub encryptedContentAt : List ℕ → Cursor → Cursor → PartsAt
-encryptedContentAt s m n =
-    onParts (encryptedInfoAt s m) PartsAt.Refused
-    (λ p k e.
-    onChecked (finishAt e) PartsAt.Refused
-    (λ z f. PartsAt.Found p (k + 2) n))
 
 -- ---- attributes and bags, up to the rows that they make
 
@@ -278,7 +236,8 @@ closeAt s a safes string content mac file =
 
 -- ---- rows
 
--- a bag's end: [0], in whose body e is left, is finished; then its attributes, at c; n is past the bag
+-- a bag's end: [0], in whose body e is left, is finished; then its attributes, at c; n is past the
+-- bag
 unfoldable pub bagEndAt : List ℕ → ℕ → Rows → Cursor → Cursor → Cursor → Walked
 bagEndAt s number st e c n =
     onChecked (finishAt e) Refused (λ z g. onWalked (setAt s number st c) Refused (λ st′ h. Went st′ n))

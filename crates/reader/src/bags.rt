@@ -1,14 +1,16 @@
-// Bags and their attributes up to the rows that they make: each function gives what stands at the cursor, or the first fault.
+// Bags and their attributes up to the rows that they make: each function gives what stands at the
+// cursor, or the first fault.
 ghost use mathlib.Core.Bool.{true, false};
 ghost use mathlib.Core.Path.{_≡_};
 ghost use Prim.Native.Nat.{_≤_};
 ghost use lib.ListN.{length};
 ghost use Rattle.der.specs.Content.{bytesOf};
-ghost use Rattle.pkcs12.specs.Numbers.{fileBytes};
+ghost use Rattle.buffer.specs.Numbers.{fileBytes};
 ghost use Rattle.pkcs12.specs.Identifiers.{kindOf};
 ghost use Rattle.pkcs12.specs.Walk.{onKind};
-ghost use Rattle.reader.specs.Steps.{SmallParts, attributeValuesAt, attributePartsAt, setHeadAt, leafOf, bagValueAt, bagOfAt, bagHeadAt};
-use crate::parts;
+ghost use Rattle.reader.specs.Steps.{SmallParts, attributeValuesAt, attributePartsAt, setHeadAt, leafOf};
+ghost use Rattle.reader.specs.Steps.{bagValueAt, bagOfAt, bagHeadAt};
+use buffer::Range;
 use der::Checked;
 use der::Cursor;
 use der::Element;
@@ -16,7 +18,6 @@ use der::Fault;
 use pkcs12::BagKind;
 use pkcs12::Parts;
 use pkcs12::PartsAt;
-use pkcs12::Range;
 
 // What stands in a bag before its attributes.
 pub(crate) enum Bag {
@@ -48,7 +49,7 @@ fn attribute_values(s: &[u8], i: Cursor, m: Cursor, n: Cursor) -> PartsAt
     requires { ⌜ (length (now s) ≤ fileBytes) × (i .at ≤ i .end) × (i .end ≤ length (now s)) ⌝ }
     ensures { λ r. ⌜ r ≡ attributeValuesAt (now (s .entry)) i m n ⌝ }
 {
-    match m.expect(s, pkcs12::SET) {
+    match m.expect(s, der::SET) {
         Element::Refused(f) => PartsAt::Refused(f),
         Element::Found { tag: _, body, next } => match body.elements(s, der::OPAQUE_LEVELS) {
             Checked::Refused(f) => PartsAt::Refused(f),
@@ -80,7 +81,7 @@ pub(crate) fn attribute(s: &[u8], full: bool, c: Cursor) -> PartsAt
     requires { ⌜ length (now s) ≤ fileBytes ⌝ }
     ensures { λ r. ⌜ r ≡ attributePartsAt (now (s .entry)) full c ⌝ }
 {
-    match c.expect(s, pkcs12::SEQUENCE) {
+    match c.expect(s, der::SEQUENCE) {
         Element::Refused(f) => PartsAt::Refused(f),
         Element::Found { tag: _, body, next } => {
             if full {
@@ -109,8 +110,8 @@ pub(crate) fn set_at(s: &[u8], e: Cursor, c: Cursor) -> Set
     match e.finish() {
         Checked::Refused(f) => Set::Refused(f),
         Checked::Passed { count: _, next: _ } => {
-            if c.tag(s) == pkcs12::SET {
-                return match c.expect(s, pkcs12::SET) {
+            if c.tag(s) == der::SET {
+                return match c.expect(s, der::SET) {
                     Element::Refused(f) => Set::Refused(f),
                     Element::Found { tag: _, body, next } => Set::Found { body, next },
                 };
@@ -212,7 +213,7 @@ fn bag_of(s: &[u8], at: usize, i: Cursor, m: Cursor, n: Cursor) -> Bag
             offset: at,
         });
     }
-    match m.expect(s, pkcs12::CONTEXT_0) {
+    match m.expect(s, der::CONTEXT_0) {
         Element::Refused(f) => Bag::Refused(f),
         Element::Found { tag: _, body, next } => bag_value(s, kind, body, next, n),
     }
@@ -223,7 +224,7 @@ pub(crate) fn bag_at(s: &[u8], full: bool, c: Cursor) -> Bag
     requires { ⌜ length (now s) ≤ fileBytes ⌝ }
     ensures { λ r. ⌜ r ≡ bagHeadAt (now (s .entry)) full c ⌝ }
 {
-    match c.expect(s, pkcs12::SEQUENCE) {
+    match c.expect(s, der::SEQUENCE) {
         Element::Refused(f) => Bag::Refused(f),
         Element::Found { tag: _, body, next } => {
             if full {

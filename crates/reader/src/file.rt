@@ -1,14 +1,16 @@
-// The file from outside: the PFX with its version and its ContentInfo, down to the AuthenticatedSafe; and the MAC behind it.
+// The file from outside: the PFX with its version and its ContentInfo, down to the
+// AuthenticatedSafe; and the MAC behind it.
 ghost use mathlib.Core.Path.{_≡_};
 ghost use Prim.Native.Nat.{_≤_, _+_};
 ghost use lib.ListN.{length};
 ghost use Rattle.der.specs.Content.{bytesOf};
-ghost use Rattle.pkcs12.specs.Numbers.{fileBytes};
+ghost use Rattle.buffer.specs.Numbers.{fileBytes};
 ghost use Rattle.pkcs12.specs.Walk.{iterationsAt, macAt};
-ghost use Rattle.reader.specs.Steps.{pfxHeadAt, openedSafesAt, openedValueAt, openedInfoAt, openAt, statedAt, saltedAt, lastAt, closeAt};
-use crate::parts;
+ghost use Rattle.reader.specs.Steps.{pfxHeadAt, openedSafesAt, openedValueAt, openedInfoAt, openAt, statedAt};
+ghost use Rattle.reader.specs.Steps.{saltedAt, lastAt, closeAt};
 use crate::safes;
 use crate::safes::Octets;
+use buffer::Range;
 use der::Checked;
 use der::Cursor;
 use der::Element;
@@ -19,7 +21,6 @@ use pkcs12::Mac;
 use pkcs12::MacAt;
 use pkcs12::Parts;
 use pkcs12::PartsAt;
-use pkcs12::Range;
 
 // The cursors at the outer ContentInfo and past the PFX.
 enum Outer {
@@ -27,8 +28,8 @@ enum Outer {
     Refused(Fault),
 }
 
-// The AuthenticatedSafe's body, in the MAC input; what is left behind it, behind the OCTET STRING and behind [0]; the MAC; and what is left of
-// the file behind the PFX.
+// The AuthenticatedSafe's body, in the MAC input; what is left behind it, behind the OCTET STRING
+// and behind [0]; the MAC; and what is left of the file behind the PFX.
 pub(crate) enum Opened {
     Found {
         input: Cursor,
@@ -45,7 +46,7 @@ pub(crate) enum Opened {
 fn pfx(s: &[u8], c: Cursor) -> Outer
     ensures { λ r. ⌜ r ≡ pfxHeadAt (now (s .entry)) c ⌝ }
 {
-    match c.expect(s, pkcs12::SEQUENCE) {
+    match c.expect(s, der::SEQUENCE) {
         Element::Refused(f) => Outer::Refused(f),
         Element::Found { tag: _, body, next } => match body.integer(s) {
             Integer::Refused(f) => Outer::Refused(f),
@@ -72,7 +73,7 @@ fn opened_safes(s: &[u8], c: Cursor, mac: Cursor, file: Cursor) -> Opened
             body: input,
             string,
             content,
-        } => match input.expect(s, pkcs12::SEQUENCE) {
+        } => match input.expect(s, der::SEQUENCE) {
             Element::Refused(f) => Opened::Refused(f),
             Element::Found { tag: _, body, next } => Opened::Found {
                 input,
@@ -109,7 +110,7 @@ fn opened_value(s: &[u8], i: Cursor, at: usize, c: Cursor, mac: Cursor, file: Cu
 fn opened_info(s: &[u8], c: Cursor, file: Cursor) -> Opened
     ensures { λ r. ⌜ r ≡ openedInfoAt (now (s .entry)) c file ⌝ }
 {
-    match c.expect(s, pkcs12::SEQUENCE) {
+    match c.expect(s, der::SEQUENCE) {
         Element::Refused(f) => Opened::Refused(f),
         Element::Found { tag: _, body, next } => match body.identifier(s) {
             Element::Refused(f) => Opened::Refused(f),
@@ -222,7 +223,7 @@ fn mac(s: &[u8], c: Cursor) -> MacAt
     requires { ⌜ length (now s) ≤ fileBytes ⌝ }
     ensures { λ r. ⌜ r ≡ macAt (now (s .entry)) c ⌝ }
 {
-    match c.expect(s, pkcs12::SEQUENCE) {
+    match c.expect(s, der::SEQUENCE) {
         Element::Refused(f) => MacAt::Refused(f),
         Element::Found { tag: _, body, next } => match parts::sealed(s, body) {
             PartsAt::Refused(f) => MacAt::Refused(f),

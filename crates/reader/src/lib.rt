@@ -1,13 +1,13 @@
-// Reads a PKCS #12 file into a table. `read` answers any bytes; `mac_input` gives the part of the file that the MAC is computed over.
+// Reads a PKCS #12 file into a table. `read` answers any bytes; `mac_input` gives the part of the
+// file that the MAC is computed over.
 ghost use mathlib.Core.Path.{_≡_};
 ghost use Rattle.der.specs.Span.{Bytes};
 ghost use Rattle.pkcs12.specs.Report.{answerReport};
-ghost use Rattle.pkcs12.specs.Table.{bytesIn};
+ghost use Rattle.buffer.specs.Range.{bytesIn};
 ghost use Rattle.pkcs12.specs.Walk.{refused, readFile};
 
 mod bags;
 mod file;
-mod parts;
 mod rows;
 mod safes;
 
@@ -21,7 +21,7 @@ use pkcs12::Table;
 
 // A file that is too long is refused at its start.
 const LONG: Fault = Fault {
-    number: pkcs12::TOO_LONG,
+    number: buffer::TOO_LONG,
     offset: 0,
 };
 
@@ -43,7 +43,7 @@ pub fn read(file: &[u8]) -> Reading
     ensures { λ _. ⌜ Bytes (now (file .entry)) ⌝ }
 {
     let none: Reading;
-    if pkcs12::FILE_BYTES < file.len() {
+    if buffer::FILE_BYTES < file.len() {
         none = refused(LONG);
         return none;
     }

@@ -1,19 +1,20 @@
-// Rows: safes, safe contents, bags and their attributes. The table goes by value: what reads a part takes the table and gives it back with the
-// rows of that part, or gives the empty table with the first fault. A function keeps what it has so far in one place, and a call's answer goes
-// there: then the table is copied less. Where a function makes its answer itself, a refusal is named before it is returned (`none`): a call straight
-// into the answer would cost the other ways out a copy.
+// Rows: safes, safe contents, bags and their attributes. The table goes by value: what reads a part
+// takes the table and gives it back with the rows of that part, or gives the empty table with the
+// first fault. A function keeps what it has so far in one place, and a call's answer goes there:
+// then the table is copied less. Where a function makes its answer itself, a refusal is named
+// before it is returned (`none`): a call straight into the answer would cost the other ways out a
+// copy.
 ghost use mathlib.Core.Path.{_≡_};
 ghost use Prim.Native.Nat.{_≤_};
 ghost use lib.Dec.{ltb};
 ghost use lib.ListN.{length};
-ghost use Rattle.pkcs12.specs.Numbers.{fileBytes};
+ghost use Rattle.buffer.specs.Numbers.{fileBytes};
 ghost use Rattle.pkcs12.specs.Table.{bagRow, attributeRow, noMac, tableOf, rowsIn};
 ghost use Rattle.pkcs12.specs.Walk.{Refused, run, owner, bagAt, safeContentsAt, safeAt, startRows};
 ghost use Rattle.reader.specs.Steps.{bagEndAt, progress, Ready};
 use crate::bags;
 use crate::bags::Bag;
 use crate::bags::Set;
-use crate::parts;
 use crate::safes;
 use crate::safes::Contents;
 use der::Checked;
@@ -31,10 +32,12 @@ use pkcs12::SafeKind;
 use pkcs12::SafeRow;
 use pkcs12::Table;
 
-// The elements that stand before the first safe: PFX, version, ContentInfo, its type, [0], OCTET STRING, and the SEQUENCE of the safes.
+// The elements that stand before the first safe: PFX, version, ContentInfo, its type, [0],
+// OCTET STRING, and the SEQUENCE of the safes.
 const START_COUNT: usize = 7;
 
-// The elements that are counted with a plain safe's row (ContentInfo, its type, [0], OCTET STRING), and with a bag's (SEQUENCE, bagId, [0]).
+// The elements that are counted with a plain safe's row (ContentInfo, its type, [0], OCTET STRING),
+// and with a bag's (SEQUENCE, bagId, [0]).
 const SAFE_COUNT: usize = 4;
 
 const BAG_COUNT: usize = 3;
@@ -71,7 +74,8 @@ fn attribute_row(number: u16, parts: Parts) -> AttributeRow
     }
 }
 
-// The attributes of the bag with this number, behind [0], in whose body e is left; n is past the bag.
+// The attributes of the bag with this number, behind [0], in whose body e is left; n is past the
+// bag.
 fn attributes(s: &[u8], number: u16, table: Table, e: Cursor, c: Cursor, n: Cursor) -> Progress
     requires { ⌜ Ready (now s) table (c .at) ⌝ }
     ensures { λ r. ⌜ r ≡ progress (bagEndAt (now (s .entry)) number (rowsIn table) e c n) ⌝ }
@@ -148,7 +152,8 @@ fn bag_row(kind: BagKind, safe: u16, enclosing: Enclosing, parts: Parts, set: Cu
     }
 }
 
-// A bag of this safe and enclosing bag, with its attributes; safe contents in it have `below` levels left.
+// A bag of this safe and enclosing bag, with its attributes; safe contents in it have `below`
+// levels left.
 fn bag(
     s: &[u8],
     below: u8,
@@ -223,7 +228,7 @@ pub(crate) fn safe_contents(
         table,
         next: c,
     };
-    match c.expect(s, pkcs12::SEQUENCE) {
+    match c.expect(s, der::SEQUENCE) {
         Element::Refused(f) => {
             so_far = refused(f);
             return so_far;

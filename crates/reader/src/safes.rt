@@ -3,9 +3,9 @@ ghost use mathlib.Core.Path.{_≡_};
 ghost use Prim.Native.Nat.{_≤_};
 ghost use lib.ListN.{length};
 ghost use Rattle.der.specs.Content.{bytesOf};
-ghost use Rattle.pkcs12.specs.Numbers.{fileBytes};
-ghost use Rattle.reader.specs.Steps.{dataHeadAt, bothAt, plainHeadAt, encryptedHeadAt, safeOfAt, safeHeadAt, closedAt};
-use crate::parts;
+ghost use Rattle.buffer.specs.Numbers.{fileBytes};
+ghost use Rattle.reader.specs.Steps.{dataHeadAt, bothAt, plainHeadAt, encryptedHeadAt, safeOfAt, safeHeadAt};
+ghost use Rattle.reader.specs.Steps.{closedAt};
 use der::Checked;
 use der::Cursor;
 use der::Element;
@@ -43,7 +43,7 @@ pub(crate) enum Contents {
 pub(crate) fn data(s: &[u8], c: Cursor) -> Octets
     ensures { λ r. ⌜ r ≡ dataHeadAt (now (s .entry)) c ⌝ }
 {
-    match c.expect(s, pkcs12::CONTEXT_0) {
+    match c.expect(s, der::CONTEXT_0) {
         Element::Refused(f) => Octets::Refused(f),
         Element::Found {
             tag: _,
@@ -96,7 +96,7 @@ fn encrypted(s: &[u8], c: Cursor, n: Cursor) -> Contents
     requires { ⌜ length (now s) ≤ fileBytes ⌝ }
     ensures { λ r. ⌜ r ≡ encryptedHeadAt (now (s .entry)) c n ⌝ }
 {
-    match c.expect(s, pkcs12::CONTEXT_0) {
+    match c.expect(s, der::CONTEXT_0) {
         Element::Refused(f) => Contents::Refused(f),
         Element::Found { tag: _, body, next } => match parts::encrypted(s, body) {
             PartsAt::Refused(f) => Contents::Refused(f),
@@ -147,7 +147,7 @@ pub(crate) fn safe(s: &[u8], full: bool, c: Cursor) -> Contents
     requires { ⌜ length (now s) ≤ fileBytes ⌝ }
     ensures { λ r. ⌜ r ≡ safeHeadAt (now (s .entry)) full c ⌝ }
 {
-    match c.expect(s, pkcs12::SEQUENCE) {
+    match c.expect(s, der::SEQUENCE) {
         Element::Refused(f) => Contents::Refused(f),
         Element::Found { tag: _, body, next } => {
             if full {
@@ -172,7 +172,8 @@ pub(crate) fn safe(s: &[u8], full: bool, c: Cursor) -> Contents
     }
 }
 
-// Whether safe contents were accepted and end their OCTET STRING, and that its [0], and that its ContentInfo.
+// Whether safe contents were accepted and end their OCTET STRING, and that its [0], and that its
+// ContentInfo.
 pub(crate) fn closed(answer: Answer, body: Cursor, string: Cursor, content: Cursor) -> Checked
     ensures { λ r. ⌜ r ≡ closedAt answer body string content ⌝ }
 {

@@ -1,5 +1,5 @@
--- What the walk answers and what the account comes to agree: the same refusal, or the same rows and the same bytes
--- left.
+-- What the walk answers and what the account comes to agree: the same refusal, or the same rows and
+-- the same bytes left.
 use mathlib.Core.Path.{_≡_, refl}
 use mathlib.Core.List.{List}
 use Prim.Native.Nat.{ℕ}
@@ -12,10 +12,10 @@ use Rattle.der.specs.declared.Checked.{Checked}
 use Rattle.der.specs.declared.Checked.the-variants.{Passed}
 use Rattle.pkcs12.specs.Table.{Rows}
 use Rattle.pkcs12.specs.Walk.{onParts, onMac, onWalked, Walked, Refused, Went}
-use Rattle.pkcs12.specs.declared.Parts.{Parts}
-use Rattle.pkcs12.specs.declared.Mac.{Mac}
-use Rattle.pkcs12.specs.declared.PartsAt.{PartsAt}
-use Rattle.pkcs12.specs.declared.MacAt.{MacAt}
+use Rattle.pkcs12.specs.declared.row.Parts.{Parts}
+use Rattle.pkcs12.specs.declared.row.Mac.{Mac}
+use Rattle.pkcs12.specs.declared.answers.PartsAt.{PartsAt}
+use Rattle.pkcs12.specs.declared.answers.MacAt.{MacAt}
 use Rattle.refusals.specs.Element.{Left, Made, Account, stops, goes, closed}
 use Rattle.refusals.proofs.Links.{here, link-full}
 

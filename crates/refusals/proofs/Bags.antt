@@ -14,17 +14,18 @@ use Rattle.der.specs.Opaque.{onChecked, elementsAt}
 use Rattle.der.specs.declared.Fault.{Fault}
 use Rattle.der.specs.declared.Cursor.{Cursor}
 use Rattle.der.proofs.Choices.{never, by-test}
-use Rattle.pkcs12.specs.Identifiers.{sameBytes, identifierOf, kindOf}
+use Rattle.buffer.specs.Bytes.{sameBytes}
+use Rattle.pkcs12.specs.Identifiers.{identifierOf, kindOf}
 use Rattle.pkcs12.specs.Table.{Rows, noParts, bagRow}
 use Rattle.pkcs12.specs.Walk.{Walked, Refused, Went, onWalked, goOn, run, counting, addSafe, addBag, addAttribute}
 use Rattle.pkcs12.specs.Walk.{attributeAt, setAt, Owner, owner, leafAt, contentAt, onKind, bagAt, safeContentsAt}
 use Rattle.pkcs12.specs.Walk.{keyAt, sealedAt, typedAt}
-use Rattle.pkcs12.specs.declared.BagKind.{BagKind}
-use Rattle.pkcs12.specs.declared.BagKind.the-variants.{Key, ShroudedKey, Certificate, Crl, Secret, Nested}
-use Rattle.pkcs12.specs.declared.SafeRow.{SafeRow}
-use Rattle.pkcs12.specs.declared.BagRow.{BagRow}
-use Rattle.pkcs12.specs.declared.AttributeRow.{AttributeRow}
-use Rattle.pkcs12.specs.declared.PartsAt.{PartsAt}
+use Rattle.pkcs12.specs.declared.kind.BagKind.{BagKind}
+use Rattle.pkcs12.specs.declared.kind.BagKind.the-variants.{Key, ShroudedKey, Certificate, Crl, Secret, Nested}
+use Rattle.pkcs12.specs.declared.row.SafeRow.{SafeRow}
+use Rattle.pkcs12.specs.declared.row.BagRow.{BagRow}
+use Rattle.pkcs12.specs.declared.row.AttributeRow.{AttributeRow}
+use Rattle.pkcs12.specs.declared.answers.PartsAt.{PartsAt}
 use Rattle.refusals.specs.Element.{Left, Made, Account, stops, goes, Rule, closed, allowed, onwards, _before_}
 use Rattle.refusals.specs.Element.{frontBody, each, eachOf, ifTag, is, any, constructed, primitive, opaque}
 use Rattle.refusals.specs.Bodies.{isIdentifier, bagId, anyType, bagType}

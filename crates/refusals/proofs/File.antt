@@ -15,18 +15,18 @@ use Rattle.der.specs.Octets.{number}
 use Rattle.der.specs.Opaque.{onChecked}
 use Rattle.der.specs.declared.Fault.{Fault}
 use Rattle.der.specs.declared.Cursor.{Cursor}
-use Rattle.pkcs12.specs.Numbers.{fileBytes}
-use Rattle.pkcs12.specs.Identifiers.{sameBytes}
+use Rattle.buffer.specs.Numbers.{fileBytes}
+use Rattle.buffer.specs.Bytes.{sameBytes}
 use Rattle.pkcs12.specs.Identifiers as identifiers
 use Rattle.pkcs12.specs.Table.{Rows, noParts, safeRow}
 use Rattle.pkcs12.specs.Walk.{Walked, Refused, Went, onWalked, run, owner, safeContentsAt, dataAt, plainAt}
 use Rattle.pkcs12.specs.Walk.{sealedSafeAt, safeValueAt, safeAt, startRows, safesAt, outerValueAt, outerAt}
 use Rattle.pkcs12.specs.Walk.{encryptedAt, macAt, refused, bodyAt, onAnswer, alone, pfxAt, readFile}
-use Rattle.pkcs12.specs.declared.SafeKind.the-variants.{Plain}
-use Rattle.pkcs12.specs.declared.Enclosing.{Enclosing}
-use Rattle.pkcs12.specs.declared.Answer.{Answer}
-use Rattle.pkcs12.specs.declared.Answer.the-variants.{Accepted}
-use Rattle.pkcs12.specs.declared.Reading.{Reading}
+use Rattle.pkcs12.specs.declared.kind.SafeKind.the-variants.{Plain}
+use Rattle.pkcs12.specs.declared.row.Enclosing.{Enclosing}
+use Rattle.pkcs12.specs.declared.answers.Answer.{Answer}
+use Rattle.pkcs12.specs.declared.answers.Answer.the-variants.{Accepted}
+use Rattle.pkcs12.specs.declared.answers.Reading.{Reading}
 use Rattle.refusals.specs.Element.{Left, left, Made, Account, stops, goes, Rule, closed, allowed, onwards}
 use Rattle.refusals.specs.Element.{_before_, frontBody, each, served, constructed}
 use Rattle.refusals.specs.Bodies.{isIdentifier, isInteger, outerType, safeType, version}

@@ -1,5 +1,5 @@
--- Headers of a list that is longer or shorter, and what the account then comes to: a file that is cut, and one with
--- bytes after it.
+-- Headers of a list that is longer or shorter, and what the account then comes to: a file that is
+-- cut, and one with bytes after it.
 use mathlib.Core.Bool.{Bool, true, false}
 use mathlib.Core.Path.{_≡_, refl, sym, ap, _∙_}
 use mathlib.Core.List.{List, [], _∷_, _++_}

@@ -1,5 +1,5 @@
--- An element at a cursor of the bytes s, as the walk reads it, and the header of what is left there, as the account
--- has it: the same number, or the same tag and body.
+-- An element at a cursor of the bytes s, as the walk reads it, and the header of what is left
+-- there, as the account has it: the same number, or the same tag and body.
 use mathlib.Core.Bool.{Bool, true, false}
 use mathlib.Core.Path.{_≡_, refl, sym, ap, _∙_}
 use mathlib.Core.List.{List, [], _∷_}
@@ -19,7 +19,7 @@ use Rattle.der.specs.declared.Element.{Element}
 use Rattle.der.specs.declared.Element.the-variants.{Found}
 use Rattle.der.proofs.Choices.{either}
 use Rattle.der.proofs.Placed.{left-is, left-none}
-use Rattle.pkcs12.proofs.Cut.{part-slice, cut-backward}
+use Rattle.buffer.proofs.Cut.{part-slice, cut-backward}
 use Rattle.refusals.specs.Element.{whereNone, Header, wrong, right, fitting, after81, after82, sized, header}
 
 -- a cursor that has bytes left, or none, of a parent that lies within the bytes

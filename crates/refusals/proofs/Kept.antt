@@ -1,6 +1,6 @@
--- Wherever the account stops, the number is 1 to 8 and the place lies within what was left; where it goes on, it
--- goes to the same end. Proved of the one rule for elements and of each way to put rules together, then of the
--- grammar.
+-- Wherever the account stops, the number is 1 to 8 and the place lies within what was left; where
+-- it goes on, it goes to the same end. Proved of the one rule for elements and of each way to put
+-- rules together, then of the grammar.
 use mathlib.Core.Bool.{Bool, true, false}
 use mathlib.Core.Path.{_≡_, refl}
 use mathlib.Core.List.{List, [], _∷_}
@@ -12,7 +12,7 @@ use lib.Seq.{length-take-le}
 use Rattle.der.specs.Choice.{if_then_else_}
 use Rattle.der.specs.Octets.{number}
 use Rattle.der.proofs.Choices.{by-test, by-lt}
-use Rattle.pkcs12.specs.Identifiers.{sameBytes}
+use Rattle.buffer.specs.Bytes.{sameBytes}
 use Rattle.refusals.specs.Element.{Left, left, Made, Account, stops, goes, Rule, Header, wrong, right, onHeader}
 use Rattle.refusals.specs.Element.{fitting, after81, after82, sized, header, whereNone, closed, Content, walked}
 use Rattle.refusals.specs.Element.{judged, allowed, inside, element, onwards, _before_, eachOf, each, ifAny}

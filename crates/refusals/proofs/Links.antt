@@ -1,5 +1,6 @@
--- One step of the walk beside one step of the account. P relates what the walk makes of an answer and what the
--- account comes to; K is what the account does with the step, and `strict` says that a refusal stays one.
+-- One step of the walk beside one step of the account. P relates what the walk makes of an answer
+-- and what the account comes to; K is what the account does with the step, and `strict` says that a
+-- refusal stays one.
 use mathlib.Core.Bool.{Bool, true, false}
 use mathlib.Core.Path.{_≡_, refl, sym, ap, _∙_}
 use mathlib.Core.List.{List, [], _∷_}

@@ -14,10 +14,10 @@ use Rattle.der.specs.declared.Fault.{Fault}
 use Rattle.der.specs.declared.Cursor.{Cursor}
 use Rattle.der.proofs.Choices.{either}
 use Rattle.pkcs12.specs.Walk.{rangeOf, onMac, sealedAt, iterationsAt, macAt}
-use Rattle.pkcs12.specs.declared.Range.{Range}
-use Rattle.pkcs12.specs.declared.Parts.{Parts}
-use Rattle.pkcs12.specs.declared.Mac.{Mac}
-use Rattle.pkcs12.specs.declared.MacAt.{MacAt}
+use Rattle.buffer.specs.declared.Range.{Range}
+use Rattle.pkcs12.specs.declared.row.Parts.{Parts}
+use Rattle.pkcs12.specs.declared.row.Mac.{Mac}
+use Rattle.pkcs12.specs.declared.answers.MacAt.{MacAt}
 use Rattle.refusals.specs.Element.{Left, Made, Account, stops, goes, closed, allowed, onwards, _before_, ifTag}
 use Rattle.refusals.specs.Element.{firstIs, anything, primitive}
 use Rattle.refusals.specs.Bodies.{isInteger, iterations}

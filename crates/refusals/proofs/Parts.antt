@@ -19,11 +19,13 @@ use Rattle.der.specs.declared.Element.the-variants.{Found}
 use Rattle.der.specs.declared.Checked.{Checked}
 use Rattle.der.specs.declared.Checked.the-variants.{Passed}
 use Rattle.der.proofs.Choices.{either}
-use Rattle.pkcs12.specs.Identifiers.{sameBytes, x509Certificate}
+use Rattle.buffer.specs.Bytes.{sameBytes}
+use Rattle.pkcs12.specs.Identifiers.{x509Certificate}
 use Rattle.pkcs12.specs.Identifiers as identifiers
-use Rattle.pkcs12.specs.Table.{range, noRange, parts}
+use Rattle.buffer.specs.Range.{range, noRange}
+use Rattle.pkcs12.specs.Table.{parts}
 use Rattle.pkcs12.specs.Walk.{algorithmAt, sealedAt, keyAt, valueAt, typedAt, encryptedInfoAt, encryptedAt}
-use Rattle.pkcs12.specs.declared.PartsAt.{PartsAt}
+use Rattle.pkcs12.specs.declared.answers.PartsAt.{PartsAt}
 use Rattle.refusals.specs.Element.{Made, Account, goes, closed, allowed, onwards, _before_, frontBody, ifAny}
 use Rattle.refusals.specs.Element.{served, is, any, anything, primitive, constructed, opaque}
 use Rattle.refusals.specs.Bodies.{isIdentifier, isInteger, anyType, dataType, encryptedVersion}

@@ -1,5 +1,5 @@
--- A refusal is where the account stops, and the other way round; and what follows of numbers, places, cut files and
--- bytes after a file.
+-- A refusal is where the account stops, and the other way round; and what follows of numbers,
+-- places, cut files and bytes after a file.
 use mathlib.Core.Path.{_≡_, refl, sym, ap, _∙_}
 use mathlib.Core.List.{List, [], _∷_, _++_}
 use Prim.Native.Nat.{ℕ, _+_, _≤_, _<_}
@@ -12,9 +12,9 @@ use Rattle.der.specs.declared.Fault.{Fault}
 use Rattle.der.proofs.Choices.{either}
 use Rattle.pkcs12.specs.Walk.{readFile}
 use Rattle.pkcs12.specs.Accepted.{IsAccepted}
-use Rattle.pkcs12.specs.declared.Answer.{Answer}
-use Rattle.pkcs12.specs.declared.Answer.the-variants.{Accepted}
-use Rattle.pkcs12.proofs.SoundFile.{accepted-size}
+use Rattle.pkcs12.specs.declared.answers.Answer.{Answer}
+use Rattle.pkcs12.specs.declared.answers.Answer.the-variants.{Accepted}
+use Rattle.pkcs12.proofs.AcceptedFile.{accepted-size}
 use Rattle.refusals.specs.Element.{Left, left, Made, Account, stops, goes, Rule, closed, _before_, served}
 use Rattle.refusals.specs.Element.{primitive}
 use Rattle.refusals.specs.Bodies.{version}

@@ -1,5 +1,6 @@
--- What is proved of refusals. `readFile` is the walk that the reading call follows; `accountOf` is the account of
--- byte lists, which shares no definition with it. No theorem here requires that the numbers of a list are bytes.
+-- What is proved of refusals. `readFile` is the walk that the reading call follows; `accountOf` is
+-- the account of byte lists, which shares no definition with it. No theorem here requires that the
+-- numbers of a list are bytes.
 use mathlib.Core.Logic.{_↔_}
 use mathlib.Core.Path.{_≡_}
 use mathlib.Core.List.{List, [], _++_}
@@ -8,7 +9,7 @@ use lib.ListN.{length}
 use Rattle.der.specs.Element.{fault}
 use Rattle.pkcs12.specs.Walk.{readFile}
 use Rattle.pkcs12.specs.Accepted.{IsAccepted}
-use Rattle.pkcs12.specs.declared.Answer.{Answer}
+use Rattle.pkcs12.specs.declared.answers.Answer.{Answer}
 use Rattle.refusals.specs.Element.{left, Made, stops, goes}
 use Rattle.refusals.specs.Grammar.{accountOf}
 use Rattle.refusals.proofs.Refused as refused
@@ -21,14 +22,15 @@ refused-iff f n p = (refused.refused-stops f n p, refused.stops-refused f n p)
 pub accepted-iff : (f : List ℕ) → IsAccepted f ↔ ((made : Made) × (accountOf f ≡ goes made (left (length f) [])))
 accepted-iff f = (refused.accepted-goes f, λ p. refused.goes-accepted f (p .0) (left (length f) []) (p .1))
 
--- The number of a refusal is 1 to 9, and its place is at most the file's length.
+-- The number of a refusal is 1 to 9, and its offset is at most the file's length.
 pub refusal-number : (f : List ℕ) (n p : ℕ) → readFile f .answer ≡ Answer.Refused (fault n p) → (1 ≤ n) × (n ≤ 9)
 refusal-number f n p e = let k = refused.refusal-of f n p e in (k .0, k .1)
 
 pub refusal-place : (f : List ℕ) (n p : ℕ) → readFile f .answer ≡ Answer.Refused (fault n p) → p ≤ length f
 refusal-place f n p e = refused.refusal-of f n p e .2
 
--- The number is 9 if and only if the file has more than 65,535 bytes, and then the place is 0.
+-- Rules 5.9, 5.21: the number is 9 if and only if the file has more than 65,535 bytes, and then the
+-- offset is 0.
 pub refused-9-iff : (f : List ℕ) (p : ℕ) → readFile f .answer ≡ Answer.Refused (fault 9 p) ↔ (65535 < length f)
     × (p ≡ 0)
 refused-9-iff f p = (refused.nine-is-long f p, λ h. rw (h .1) (refused.long-is-9 f (h .0)))
@@ -38,8 +40,8 @@ pub beginning-refused : (f g r : List ℕ) → IsAccepted g → f ++ r ≡ g →
     ≡ Answer.Refused (fault 1 0)
 beginning-refused = refused.cut-refused
 
--- An accepted file f with at least one byte after it is refused by 6 at its length, if the whole has at most 65,535
--- bytes.
+-- An accepted file f with at least one byte after it is refused by 6 at its length, if the whole
+-- has at most 65,535 bytes.
 pub bytes-after-refused : (f r : List ℕ) → IsAccepted f → (r ≡ [] → ⊥) → length (f ++ r) ≤ 65535
     → readFile (f ++ r) .answer ≡ Answer.Refused (fault 6 (length f))
 bytes-after-refused = refused.after-refused

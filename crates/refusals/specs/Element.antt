@@ -1,5 +1,5 @@
--- One rule for every element, on byte lists ("One element", "Numbers given back"). What is left of a parent is a
--- list of bytes and the offset of the first of them.
+-- One rule for every element, on byte lists (sections 2 and 5 of the rules). What is left of a
+-- parent is a list of bytes and the offset of the first of them.
 use mathlib.Core.Bool.{Bool, true, false}
 use mathlib.Core.List.{List, [], _∷_}
 use Prim.Native.Nat.{ℕ, zero, suc, _+_, _*_, _/_, _%_}
@@ -31,7 +31,8 @@ Rule = Made → Left → Account
 
 -- ---- the header
 
--- a number, or: the tag, the size of the header, the size of the body, and the bytes after the header
+-- a number, or: the tag, the size of the header, the size of the body, and the bytes after the
+-- header
 pub data Header : Type 0 where
   wrong : ℕ → Header
   right : ℕ → ℕ → ℕ → List ℕ → Header
@@ -40,23 +41,23 @@ abbrev pub onHeader : {A : Type 0} → Header → (ℕ → A) → (ℕ → ℕ �
 onHeader (wrong n) bad good = bad n
 onHeader (right t h size x) bad good = good t h size x
 
--- "The body must end within its parent (1)."
+-- Rule 2.4: the body ends within its parent, or the element is refused (1)
 unfoldable pub fitting : ℕ → ℕ → ℕ → List ℕ → Header
 fitting t h size x = if ltb (length x) size then wrong 1 else right t h size x
 
--- "81 with 80..FF"; "any other header with a byte missing is 1"
+-- Rule 2.3: 81 and a byte 80..FF. Rule 5.17: a header with a byte missing is 1
 unfoldable pub after81 : ℕ → List ℕ → Header
 after81 t [] = wrong 1
 after81 t (a ∷ x) = if ltb a 0x80 then wrong 3 else fitting t 3 a x
 
--- "82 with 0100..FFFF"
+-- Rule 2.3: 82 and two bytes 0100..FFFF
 unfoldable pub after82 : ℕ → List ℕ → Header
 after82 t [] = wrong 1
 after82 t (a ∷ []) = wrong 1
 after82 t (a ∷ b ∷ x) = if eqb a 0 then wrong 3 else fitting t 4 (a * 0x100 + b) x
 
--- "Length: 00..7F; 81 with 80..FF; 82 with 0100..FFFF. Any other form is refused (3)"; "a first length byte 80, or
--- 83 and above, is 3 at once"
+-- Rule 2.3: the three forms of a length; every other one is refused (3). Rule 5.17: a first byte
+-- 80, or 83 and above, is 3 at once
 unfoldable pub sized : ℕ → List ℕ → Header
 sized t [] = wrong 1
 sized t (n ∷ x) =
@@ -65,8 +66,8 @@ sized t (n ∷ x) =
     if eqb n 0x82 then after82 t x else
     wrong 3
 
--- "an element is due and its parent has no byte left" (1); "Tag: 00 and any byte whose low five bits are all ones
--- are refused (2)."
+-- Rule 5.1: no byte is left in the parent (1). Rule 2.2: the tag 00, and every tag with its low
+-- five bits all set, is refused (2)
 unfoldable pub header : List ℕ → Header
 header [] = wrong 1
 header (t ∷ x) =
@@ -81,12 +82,14 @@ abbrev pub whereNone : {A : Type 0} → List ℕ → A → A → A
 whereNone [] none some = none
 whereNone (b ∷ x) none some = some
 
--- "bytes left over in a parent after its last element" (6): a body that was gone through is at its end
+-- Rule 5.6: bytes are left in a parent after its last element (6); a body that was gone through is
+-- at its end
 abbrev pub closed : Account → Left → Account
 closed (stops n p) after = stops n p
 closed (goes made l) after = whereNone (l .bytes) (goes made after) (stops 6 (l .place))
 
--- what a body comes to: elements by a rule, or bytes that are judged, 0 where they are allowed and else the number
+-- what a body comes to: elements by a rule, or bytes that are judged, 0 where they are allowed and
+-- else the number
 pub data Content : Type 0 where
   walked : Rule → Content
   judged : (List ℕ → ℕ) → Content
@@ -99,8 +102,9 @@ abbrev pub inside : Content → ℕ → Made → Left → Left → Account
 inside (walked rule) place made body after = closed (rule made body) after
 inside (judged judge) place made body after = allowed (judge (body .bytes)) place made after
 
--- "At each element: tag form, length form, body within parent, tag due, row or level room, then content." The place
--- is that of the tag, which is the parent's end where no byte is left.
+-- Rule 5.16: form of the tag, form of the length, body within the parent, the tag that is due,
+-- space for the row or level, content. Rule 5.20: the offset is that of the tag, which is the
+-- parent's end where no byte is left.
 unfoldable pub element : (ℕ → Bool) → (Made → Bool) → (ℕ → Content) → Rule
 element due full content made l =
     onHeader (header (l .bytes))
@@ -126,7 +130,7 @@ infixr 5 _before_
 abbrev pub _before_ : Rule → Rule → Rule
 _before_ first second made l = onwards (first made l) second
 
--- "zero or more", to the parent's end; the number bounds how many
+-- zero or more, to the parent's end; the number bounds how many
 unfoldable pub eachOf : ℕ → Rule → Rule
 eachOf zero rule made l = goes made l
 eachOf (suc n) rule made l = whereNone (l .bytes) (goes made l) (onwards (rule made l) (eachOf n rule))
@@ -134,15 +138,15 @@ eachOf (suc n) rule made l = whereNone (l .bytes) (goes made l) (onwards (rule m
 abbrev pub each : Rule → Rule
 each rule made l = eachOf (length (l .bytes)) rule made l
 
--- "at most one"
+-- at most one
 abbrev pub ifAny : Rule → Rule
 ifAny rule made l = whereNone (l .bytes) (goes made l) (rule made l)
 
--- "Where "no ciphertext" or "no MacData" applies, the parent ends exactly there, and 7 is given instead of 1"
+-- Rule 5.19: 7 in place of 1 where the parent ends exactly there: no ciphertext, no MacData
 abbrev pub served : Rule → Rule
 served rule made l = whereNone (l .bytes) (stops 7 (l .place)) (rule made l)
 
--- "optionally": with this tag; any other byte is left over (6)
+-- an element that may be absent, with this tag; any other byte is left over, 6 (Rule 5.18)
 abbrev pub firstIs : ℕ → List ℕ → Bool
 firstIs t [] = false
 firstIs t (b ∷ x) = eqb b t
@@ -177,9 +181,9 @@ naming tag judge next made l = onwards (primitive tag judge made l) (next (front
 abbrev pub anything : List ℕ → ℕ
 anything body = 0
 
--- "An opaque element is checked through to the bottom, 16 levels at most: where tag bit 20 (hex) is set its body is
--- zero or more complete elements, otherwise the body isn't looked at."; "an element of level 17 is refused (8)":
--- with n levels left
+-- Rule 2.6: an opaque element: if bit 20 (hex) of the tag is set, the body is zero or more complete
+-- elements; if not, it isn't examined. Rule 2.7: with n levels left; where none is, the element is
+-- refused (8)
 unfoldable pub opaque : (ℕ → Bool) → ℕ → Rule
 opaque due zero = element due always (λ t. judged anything)
 opaque due (suc n) = element due never (λ t. if eqb (t / 0x20 % 2) 0 then judged anything else walked

@@ -1,9 +1,10 @@
-// Reads the file on standard input and writes it back from its table: the bytes that the writer makes, and nothing else. A refusal is one line.
+// Reads the file on standard input and writes it back from its table: the bytes that the writer
+// makes, and nothing else. A refusal is one line.
+use buffer::Written;
 use der::Fault;
 use pkcs12::Answer;
 use pkcs12::Reading;
 use pkcs12::Table;
-use pkcs12::Written;
 
 // The line of a refusal. It is the reading's: the writer refuses no table that reading gives.
 fn refused(fault: Fault) {
@@ -11,7 +12,9 @@ fn refused(fault: Fault) {
         answer: Answer::Refused(fault),
         table: Table::empty(),
     };
-    print::list(0, reading);
+    let mut text = io::large_buffer();
+    let written = listing::list(0, reading, &mut text);
+    stdio::write_result(&text, written);
 }
 
 fn write_back(table: Table, file: &[u8]) {
@@ -19,7 +22,7 @@ fn write_back(table: Table, file: &[u8]) {
     let written = writer::write(table, file, &mut out);
     match written {
         Written::Length(n) => {
-            print::front(&out, n);
+            stdio::write_front(&out, n);
         }
         Written::Refused(fault) => refused(fault),
     }
@@ -34,9 +37,10 @@ fn rewrite(file: &[u8]) {
     }
 }
 
-// Of a file that is too long one byte more than the longest has is read, so that it is refused as such.
+// Of a file that is too long one byte more than the longest has is read, so that it is refused as
+// such.
 fn main() {
     let mut buffer = io::large_buffer();
-    let n = io::read_full(libc::STDIN_FILENO, &mut buffer);
+    let n = stdio::read_all(&mut buffer);
     rewrite(&buffer[..n]);
 }

@@ -1,4 +1,4 @@
--- Sizes of an INTEGER, of what a range names, and of what is written by kind.
+-- Sizes of what a range names, and of what is written by kind.
 use mathlib.Core.Path.{_≡_, refl, ap, _∙_}
 use mathlib.Core.List.{List}
 use Prim.Native.Nat.{ℕ, _+_, _≤_, _<_}
@@ -6,46 +6,32 @@ use native.Mathlib.Omega.{arith}
 use lib.Dec.{eqb}
 use lib.ListN.{length}
 use borrow.Author.Tests.{eq-eqb, ne-eqb}
-use Rattle.der.specs.Octets.{digitsFrom, digits, lengthOctets, integerOctets, tlv}
-use Rattle.der.proofs.Integers.{one-octet, two-octets, three-octets, four-octets, five-octets}
+use Rattle.der.specs.Octets.{digitsFrom, digits, lengthOctets, integerOctets, tlv, integer, identifier}
 use Rattle.pkcs12.specs.Numbers.{defaultIterations, encryptedVersion}
 use Rattle.pkcs12.specs.Identifiers.{dataType}
-use Rattle.pkcs12.specs.Encode.{integer, identifier, sealedBytes, leafBytes, iterationsBytes}
+use Rattle.pkcs12.specs.Encode.{sealedBytes, leafBytes, iterationsBytes}
 use Rattle.pkcs12.specs.Values.{sameEnclosing}
-use Rattle.pkcs12.specs.Table.{bytesIn, sealedIn}
-use Rattle.pkcs12.specs.declared.Parts.{Parts}
-use Rattle.pkcs12.specs.declared.BagKind.{BagKind}
-use Rattle.pkcs12.specs.declared.BagKind.the-variants.{Key, ShroudedKey, Certificate, Crl, Secret, Nested}
-use Rattle.pkcs12.specs.declared.Enclosing.{Enclosing}
-use Rattle.pkcs12.specs.declared.Enclosing.the-variants.{Bag}
+use Rattle.buffer.specs.Range.{bytesIn}
+use Rattle.pkcs12.specs.Table.{sealedIn}
+use Rattle.pkcs12.specs.declared.row.Parts.{Parts}
+use Rattle.pkcs12.specs.declared.kind.BagKind.{BagKind}
+use Rattle.pkcs12.specs.declared.kind.BagKind.the-variants.{Key, ShroudedKey, Certificate, Crl, Secret, Nested}
+use Rattle.pkcs12.specs.declared.row.Enclosing.{Enclosing}
+use Rattle.pkcs12.specs.declared.row.Enclosing.the-variants.{Bag}
 use Rattle.sizes.specs.Bodies.{sealedBody, typedBody, contentOf}
-use Rattle.sizes.specs.Sizes.{capped, elementSize, bagSize, sizedAs, oneOf}
+use Rattle.sizes.specs.Sizes.{bagSize, sizedAs, oneOf}
+use Rattle.encode.specs.Sizes.{capped, elementSize}
 use Rattle.sizes.specs.declared.rows.Taken.{Taken}
 use Rattle.sizes.specs.declared.rows.One.the-variants.{Found}
-use Rattle.sizes.proofs.Capped.{Near, Sized, near-told, element-told, element-is, sized-told, sized-is, near-is}
-
-module _ (n : ℕ) where
-  pub size-1 : n < 128 → 1 ≡ length (integerOctets n)
-  size-1 h = rw (one-octet n h) refl
-
-  pub size-2 : 128 ≤ n → n < 32768 → 2 ≡ length (integerOctets n)
-  size-2 h k = rw (two-octets n h k) refl
-
-  pub size-3 : 32768 ≤ n → n < 8388608 → 3 ≡ length (integerOctets n)
-  size-3 h k = rw (three-octets n h k) refl
-
-  pub size-4 : 8388608 ≤ n → n < 2147483648 → 4 ≡ length (integerOctets n)
-  size-4 h k = rw (four-octets n h k) refl
-
-  pub size-5 : 2147483648 ≤ n → n < 4294967296 → 5 ≡ length (integerOctets n)
-  size-5 h k = rw (five-octets n h k) refl
+use Rattle.encode.proofs.Capped.{Near, Sized, near-told, element-told, element-is, sized-told, sized-is, near-is}
 
 module _ (n : ℕ) where
   pub none-written : n ≡ defaultIterations → 0 ≡ capped (length (iterationsBytes n))
   unfolding iterationsBytes capped
   none-written e = rw (eq-eqb n defaultIterations e) refl
 
-  pub some-written : (r m : ℕ) → (n ≡ defaultIterations → ⊥) → m ≡ length (integerOctets n) → r ≡ capped (elementSize m) → r ≡ capped (length (iterationsBytes n))
+  pub some-written : (r m : ℕ) → (n ≡ defaultIterations → ⊥) → m ≡ length (integerOctets n) → r ≡ capped (elementSize m)
+      → r ≡ capped (length (iterationsBytes n))
   unfolding iterationsBytes
   some-written r m h e f = rw (ne-eqb n defaultIterations h) (element-is r m _ _ f (sized-is m (integerOctets n) e))
 
@@ -69,31 +55,38 @@ module _ (s : List ℕ) (k : BagKind) (p : Parts) (r : ℕ) where
   unfolding contentOf capped
   content-nested e = rw e refl
 
-  pub content-key : (n : ℕ) → k ≡ Key → n ≡ length (bytesIn s (p .value)) → r ≡ capped (0 + n) → r ≡ capped (length (contentOf s k p))
+  pub content-key : (n : ℕ) → k ≡ Key → n ≡ length (bytesIn s (p .value)) → r ≡ capped (0 + n)
+      → r ≡ capped (length (contentOf s k p))
   unfolding contentOf leafBytes
   content-key n e f g = rw e (g ∙ ap capped (omega arith ∙ f))
 
-  pub content-shrouded : (n : ℕ) → k ≡ ShroudedKey → n ≡ capped (length (sealedBody (sealedIn s p))) → r ≡ capped (elementSize n)
+  pub content-shrouded : (n : ℕ) → k ≡ ShroudedKey → n ≡ capped (length (sealedBody (sealedIn s p)))
+      → r ≡ capped (elementSize n)
       → r ≡ capped (length (contentOf s k p))
   unfolding contentOf leafBytes sealedBytes sealedBody
   content-shrouded n e f g = rw e (element-is r n _ _ g (sized-told n (sealedBody (sealedIn s p)) f))
 
-  module _ (n : ℕ) (f : n ≡ capped (length (typedBody (bytesIn s (p .identifier)) (bytesIn s (p .value))))) (g : r ≡ capped (elementSize n)) where
+  module _ (n : ℕ) (f : n ≡ capped (length (typedBody (bytesIn s (p .identifier)) (bytesIn s (p .value)))))
+      (g : r ≡ capped (elementSize n)) where
     pub content-certificate : k ≡ Certificate → r ≡ capped (length (contentOf s k p))
     unfolding contentOf leafBytes typedBody
-    content-certificate e = rw e (element-is r n _ _ g (sized-told n (typedBody (bytesIn s (p .identifier)) (bytesIn s (p .value))) f))
+    content-certificate e =
+        rw e (element-is r n _ _ g (sized-told n (typedBody (bytesIn s (p .identifier)) (bytesIn s (p .value))) f))
 
     pub content-crl : k ≡ Crl → r ≡ capped (length (contentOf s k p))
     unfolding contentOf leafBytes typedBody
-    content-crl e = rw e (element-is r n _ _ g (sized-told n (typedBody (bytesIn s (p .identifier)) (bytesIn s (p .value))) f))
+    content-crl e =
+        rw e (element-is r n _ _ g (sized-told n (typedBody (bytesIn s (p .identifier)) (bytesIn s (p .value))) f))
 
     pub content-secret : k ≡ Secret → r ≡ capped (length (contentOf s k p))
     unfolding contentOf leafBytes typedBody
-    content-secret e = rw e (element-is r n _ _ g (sized-told n (typedBody (bytesIn s (p .identifier)) (bytesIn s (p .value))) f))
+    content-secret e = rw e
+        (element-is r n _ _ g (sized-told n (typedBody (bytesIn s (p .identifier)) (bytesIn s (p .value))) f))
 
 -- ---- what was taken, made of its size and the next rows
 
-pub taken-is : (r n bag attribute : ℕ) → r ≡ capped n → _≡_ {A = Taken} (record { size = r; bag = bag; attribute = attribute }) (sizedAs n bag attribute)
+pub taken-is : (r n bag attribute : ℕ) → r ≡ capped n
+    → _≡_ {A = Taken} (record { size = r; bag = bag; attribute = attribute }) (sizedAs n bag attribute)
 taken-is r n bag attribute e = rw e refl
 
 -- one that was found, by the size of its body

@@ -1,5 +1,5 @@
 -- Laws that sizes and the rows that are taken keep.
-pub mod Capped
+pub mod Nears
 pub mod Leaves
 pub mod Lengths
 pub mod Picks

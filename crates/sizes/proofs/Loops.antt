@@ -1,4 +1,5 @@
--- The loops over rows: bytes that were seen so far and bytes to come are together those of all rows; the same for measuring and for writing.
+-- The loops over rows: bytes that were seen so far and bytes to come are together those of all
+-- rows; the same for measuring and for writing.
 use mathlib.Core.Path.{_≡_, refl, ap, _∙_}
 use mathlib.Core.Bool.{true, false}
 use mathlib.Core.List.{List, [], _++_, append-assoc, append-nil}
@@ -9,14 +10,16 @@ use lib.Dec.{eqb}
 use lib.ListN.{getD}
 use Rattle.pkcs12.specs.Syntax.{none}
 use Rattle.pkcs12.specs.Encode.{attributeBytes, attributesBytes, bagsBytes, safeBytes, safesBytes}
-use Rattle.pkcs12.specs.Checks.{both}
+use Rattle.der.specs.Choice.{both}
 use Rattle.pkcs12.specs.Values.{sameEnclosing}
 use Rattle.pkcs12.specs.Table.{noAttribute}
-use Rattle.pkcs12.specs.declared.Enclosing.{Enclosing}
-use Rattle.pkcs12.specs.declared.Table.{Table}
+use Rattle.pkcs12.specs.declared.row.Enclosing.{Enclosing}
+use Rattle.pkcs12.specs.declared.table.Table.{Table}
 use Rattle.sizes.specs.Bodies.{attributeIn}
-use Rattle.sizes.specs.Picked.{attributeEnd, bagEnd, safeEnd, attributeValue, bagValueAt, ownAt, nothing, OnePicked, bagAt, bagsAt, SafePicked, noSafes, safeAt, safesAt}
-use Rattle.sizes.proofs.Picks.{own-past, own-other, own-more, bags-past, bags-other, bags-none, bags-more, front-bytes, safes-past, safes-none, safes-more}
+use Rattle.sizes.specs.Picked.{attributeEnd, bagEnd, safeEnd, attributeValue, bagValue, ownPicked, nothing}
+use Rattle.sizes.specs.Picked.{OnePicked, bagPicked, bagsPicked, SafePicked, noSafes, safePicked, safesPicked}
+use Rattle.sizes.proofs.Picks.{own-past, own-other, own-more, bags-past, bags-other, bags-none}
+use Rattle.sizes.proofs.Picks.{bags-more, front-bytes, safes-past, safes-none, safes-more}
 
 -- x was seen of the whole, and the rest is to come; the whole ends where the rest does
 pub record Seen {A : Type 0} (whole rest : List ℕ) (last here : A) (x : List ℕ) : Type 0 where
@@ -24,11 +27,14 @@ pub record Seen {A : Type 0} (whole rest : List ℕ) (last here : A) (x : List �
   pub ends : last ≡ here
 
 module _ {A : Type 0} (whole : List ℕ) (last : A) where
-  seen-more : (rest y more : List ℕ) (here next : A) (x : List ℕ) → Seen whole rest last here x → rest ≡ y ++ more → here ≡ next
+  seen-more : (rest y more : List ℕ) (here next : A) (x : List ℕ) → Seen whole rest last here x
+      → rest ≡ y ++ more → here ≡ next
       → Seen whole more last next (x ++ y)
-  seen-more rest y more here next x g p q = record { bytes = g .bytes ∙ rw (p, append-assoc x y more) refl; ends = g .ends ∙ q }
+  seen-more rest y more here next x g p q =
+      record { bytes = g .bytes ∙ rw (p, append-assoc x y more) refl; ends = g .ends ∙ q }
 
-  seen-all : (rest : List ℕ) (here next : A) (x : List ℕ) → Seen whole rest last here x → rest ≡ [] → here ≡ next → (whole ≡ x) × (last ≡ next)
+  seen-all : (rest : List ℕ) (here next : A) (x : List ℕ) → Seen whole rest last here x → rest ≡ [] → here ≡ next
+      → (whole ≡ x) × (last ≡ next)
   seen-all rest here next x g p q = (g .bytes ∙ rw (p, append-nil x) refl, g .ends ∙ q)
 
 -- ---- the attributes of bag n, from row `from` on
@@ -36,16 +42,17 @@ module _ {A : Type 0} (whole : List ℕ) (last : A) where
 module _ (t : Table) (s : List ℕ) (n from : ℕ) where
   abbrev pub OwnSeen : ℕ → List ℕ → Type 0
   OwnSeen next x =
-      Seen (attributesBytes (ownAt t s n from .attributes)) (attributesBytes (ownAt t s n next .attributes)) (ownAt t s n from .next) (ownAt t s n next .next) x
+      Seen (attributesBytes (ownPicked t s n from .attributes)) (attributesBytes (ownPicked t s n next .attributes))
+      (ownPicked t s n from .next) (ownPicked t s n next .next) x
 
   abbrev pub OwnAll : ℕ → List ℕ → Type 0
-  OwnAll next x = (attributesBytes (ownAt t s n from .attributes) ≡ x) × (ownAt t s n from .next ≡ next)
+  OwnAll next x = (attributesBytes (ownPicked t s n from .attributes) ≡ x) × (ownPicked t s n from .next ≡ next)
 
   pub own-start : OwnSeen from []
   own-start = record { bytes = refl; ends = refl }
 
   module _ (next : ℕ) (x : List ℕ) (g : OwnSeen next x) where
-    stops : ownAt t s n next ≡ record { attributes = []; next = next } → OwnAll next x
+    stops : ownPicked t s n next ≡ record { attributes = []; next = next } → OwnAll next x
     unfolding attributesBytes
     stops e = seen-all _ _ _ _ _ x g (rw e refl) (rw e refl)
 
@@ -65,19 +72,20 @@ module _ (t : Table) (s : List ℕ) (n from : ℕ) where
 module _ (t : Table) (s : List ℕ) (l k : ℕ) (e : Enclosing) (first from : ℕ) where
   abbrev pub BagsSeen : ℕ → ℕ → List ℕ → Type 0
   BagsSeen n m x =
-      Seen {A = ℕ × ℕ} (bagsBytes (bagsAt t s l k e first from .bags)) (bagsBytes (bagsAt t s l k e n m .bags))
-      (bagsAt t s l k e first from .bag, bagsAt t s l k e first from .attribute) (bagsAt t s l k e n m .bag, bagsAt t s l k e n m .attribute) x
+      Seen {A = ℕ × ℕ} (bagsBytes (bagsPicked t s l k e first from .bags)) (bagsBytes (bagsPicked t s l k e n m .bags))
+      (bagsPicked t s l k e first from .bag, bagsPicked t s l k e first from .attribute)
+      (bagsPicked t s l k e n m .bag, bagsPicked t s l k e n m .attribute) x
 
   pub record BagsAll (n m : ℕ) (x : List ℕ) : Type 0 where
-    pub bytes : bagsBytes (bagsAt t s l k e first from .bags) ≡ x
-    pub bag : bagsAt t s l k e first from .bag ≡ n
-    pub attribute : bagsAt t s l k e first from .attribute ≡ m
+    pub bytes : bagsBytes (bagsPicked t s l k e first from .bags) ≡ x
+    pub bag : bagsPicked t s l k e first from .bag ≡ n
+    pub attribute : bagsPicked t s l k e first from .attribute ≡ m
 
   pub bags-start : BagsSeen first from []
   bags-start = record { bytes = refl; ends = refl }
 
   module _ (n m : ℕ) (x : List ℕ) (g : BagsSeen n m x) where
-    stays : bagsAt t s l k e n m ≡ nothing n m → BagsAll n m x
+    stays : bagsPicked t s l k e n m ≡ nothing n m → BagsAll n m x
     unfolding bagsBytes
     stays h =
         let a = seen-all _ _ _ _ (n, m) x g (rw h refl) (rw h refl) in
@@ -86,14 +94,17 @@ module _ (t : Table) (s : List ℕ) (l k : ℕ) (e : Enclosing) (first from : �
     pub bags-end : bagEnd t ≤ n → BagsAll n m x
     bags-end h = stays (bags-past t s l k e n m h)
 
-    pub bags-leave : n < bagEnd t → both (eqb (bagValueAt t s n .safe) k) (sameEnclosing (bagValueAt t s n .enclosing) e) ≡ false → BagsAll n m x
+    pub bags-leave : n < bagEnd t
+        → both (eqb (bagValue t s n .safe) k) (sameEnclosing (bagValue t s n .enclosing) e) ≡ false → BagsAll n m x
     bags-leave h b = stays (bags-other t s l k e n m h b)
 
-    module _ (h : n < bagEnd t) (b : both (eqb (bagValueAt t s n .safe) k) (sameEnclosing (bagValueAt t s n .enclosing) e) ≡ true) where
-      pub bags-not : bagAt t s l k n m ≡ option.none → BagsAll n m x
+    module _ (h : n < bagEnd t)
+        (b : both (eqb (bagValue t s n .safe) k) (sameEnclosing (bagValue t s n .enclosing) e) ≡ true) where
+      pub bags-not : bagPicked t s l k n m ≡ option.none → BagsAll n m x
       bags-not o = stays (bags-none t s l k e n m h b o)
 
-      pub bags-turn : (p : OnePicked) → bagAt t s l k n m ≡ some p → BagsSeen (p .bag) (p .attribute) (x ++ bagsBytes (p .front none))
+      pub bags-turn : (p : OnePicked) → bagPicked t s l k n m ≡ some p
+          → BagsSeen (p .bag) (p .attribute) (x ++ bagsBytes (p .front none))
       bags-turn p o =
           let q = bags-more t s l k e n m h b p o in
           seen-more _ _ _ _ _ _ _ x g (rw q (front-bytes t s l k n m p o _)) (rw q refl)
@@ -103,21 +114,21 @@ module _ (t : Table) (s : List ℕ) (l k : ℕ) (e : Enclosing) (first from : �
 module _ (t : Table) (s : List ℕ) where
   abbrev pub SafesSeen : ℕ → ℕ → ℕ → List ℕ → Type 0
   SafesSeen k n m x =
-      Seen {A = ℕ × ℕ × ℕ} (safesBytes (safesAt t s 0 0 0 .safes)) (safesBytes (safesAt t s k n m .safes))
-      (safesAt t s 0 0 0 .safe, safesAt t s 0 0 0 .bag, safesAt t s 0 0 0 .attribute)
-      (safesAt t s k n m .safe, safesAt t s k n m .bag, safesAt t s k n m .attribute) x
+      Seen {A = ℕ × ℕ × ℕ} (safesBytes (safesPicked t s 0 0 0 .safes)) (safesBytes (safesPicked t s k n m .safes))
+      (safesPicked t s 0 0 0 .safe, safesPicked t s 0 0 0 .bag, safesPicked t s 0 0 0 .attribute)
+      (safesPicked t s k n m .safe, safesPicked t s k n m .bag, safesPicked t s k n m .attribute) x
 
   pub record SafesAll (k n m : ℕ) (x : List ℕ) : Type 0 where
-    pub bytes : safesBytes (safesAt t s 0 0 0 .safes) ≡ x
-    pub safe : safesAt t s 0 0 0 .safe ≡ k
-    pub bag : safesAt t s 0 0 0 .bag ≡ n
-    pub attribute : safesAt t s 0 0 0 .attribute ≡ m
+    pub bytes : safesBytes (safesPicked t s 0 0 0 .safes) ≡ x
+    pub safe : safesPicked t s 0 0 0 .safe ≡ k
+    pub bag : safesPicked t s 0 0 0 .bag ≡ n
+    pub attribute : safesPicked t s 0 0 0 .attribute ≡ m
 
   pub safes-start : SafesSeen 0 0 0 []
   safes-start = record { bytes = refl; ends = refl }
 
   module _ (k n m : ℕ) (x : List ℕ) (g : SafesSeen k n m x) where
-    stand : safesAt t s k n m ≡ noSafes k n m → SafesAll k n m x
+    stand : safesPicked t s k n m ≡ noSafes k n m → SafesAll k n m x
     unfolding safesBytes
     stand h =
         let a = seen-all _ _ _ _ (k, n, m) x g (rw h refl) (rw h refl) in
@@ -131,9 +142,10 @@ module _ (t : Table) (s : List ℕ) where
     pub safes-end : safeEnd t ≤ k → SafesAll k n m x
     safes-end h = stand (safes-past t s k n m h)
 
-    pub safes-not : k < safeEnd t → safeAt t s k n m ≡ option.none → SafesAll k n m x
+    pub safes-not : k < safeEnd t → safePicked t s k n m ≡ option.none → SafesAll k n m x
     safes-not h o = stand (safes-none t s k n m h o)
 
-    pub safes-turn : (p : SafePicked) → k < safeEnd t → safeAt t s k n m ≡ some p → SafesSeen (k + 1) (p .bag) (p .attribute) (x ++ safeBytes (p .safe))
+    pub safes-turn : (p : SafePicked) → k < safeEnd t → safePicked t s k n m ≡ some p
+        → SafesSeen (k + 1) (p .bag) (p .attribute) (x ++ safeBytes (p .safe))
     unfolding safesBytes
     safes-turn p h o = let q = safes-more t s k n m h p o in seen-more _ _ _ _ _ _ _ x g (rw q refl) (rw q refl)

@@ -1,4 +1,5 @@
--- What a row comes to, by its kind: the bag or the safe that is taken, and its bytes; the same for measuring and for writing.
+-- What a row comes to, by its kind: the bag or the safe that is taken, and its bytes; the same for
+-- measuring and for writing.
 use mathlib.Core.Path.{_≡_, refl, sym, ap, _∙_}
 use mathlib.Core.List.{List, append-nil}
 use mathlib.Core.Option.{Option, some}
@@ -7,28 +8,31 @@ use Prim.Native.Nat.{ℕ, _+_, _-_}
 use native.Mathlib.Omega.{arith}
 use lib.ListN.{length, getD}
 use Rattle.pkcs12.specs.Syntax.{Leaf, none, plain, encrypted, kindOfLeaf}
-use Rattle.pkcs12.specs.Encode.{sequence, setBytes, leafBytes, bagBytes, bagsBytes, safeBytes}
+use Rattle.pkcs12.specs.Encode.{setBytes, leafBytes, bagBytes, bagsBytes, safeBytes}
+use Rattle.der.specs.Octets.{sequence}
 use Rattle.pkcs12.specs.Values.{SafeValue, empty-bag, leaf, nested}
 use Rattle.pkcs12.specs.Table.{noSafe, noBag, sealedIn, contentIn, safeShown}
-use Rattle.pkcs12.specs.declared.Parts.{Parts}
-use Rattle.pkcs12.specs.declared.BagKind.{BagKind}
-use Rattle.pkcs12.specs.declared.BagKind.the-variants.{Key, ShroudedKey, Certificate, Crl, Secret, Nested}
-use Rattle.pkcs12.specs.declared.BagRow.{BagRow}
-use Rattle.pkcs12.specs.declared.SafeKind.{SafeKind}
-use Rattle.pkcs12.specs.declared.SafeKind.the-variants.{Plain, Encrypted}
-use Rattle.pkcs12.specs.declared.SafeRow.{SafeRow}
-use Rattle.pkcs12.specs.declared.Enclosing.{Enclosing}
-use Rattle.pkcs12.specs.declared.Enclosing.the-variants.{Bag}
-use Rattle.pkcs12.specs.declared.Table.{Table}
+use Rattle.pkcs12.specs.declared.row.Parts.{Parts}
+use Rattle.pkcs12.specs.declared.kind.BagKind.{BagKind}
+use Rattle.pkcs12.specs.declared.kind.BagKind.the-variants.{Key, ShroudedKey, Certificate, Crl, Secret, Nested}
+use Rattle.pkcs12.specs.declared.row.BagRow.{BagRow}
+use Rattle.pkcs12.specs.declared.kind.SafeKind.{SafeKind}
+use Rattle.pkcs12.specs.declared.kind.SafeKind.the-variants.{Plain, Encrypted}
+use Rattle.pkcs12.specs.declared.row.SafeRow.{SafeRow}
+use Rattle.pkcs12.specs.declared.row.Enclosing.{Enclosing}
+use Rattle.pkcs12.specs.declared.row.Enclosing.the-variants.{Bag}
+use Rattle.pkcs12.specs.declared.table.Table.{Table}
 use Rattle.sizes.specs.Bodies.{contentOf}
-use Rattle.sizes.specs.Picked.{bagValueAt, formOf, SetPicked, setAt, Picked, bagsAt, OnePicked, bagAt, SafePicked, safeOf, safeAt}
-use Rattle.sizes.specs.Sizes.{capped, setBody, sizedAs, setSized, takenSized, oneSized, safeSized}
+use Rattle.sizes.specs.Picked.{bagValue, formOf, SetPicked, setPicked, Picked, bagsPicked, OnePicked, bagPicked}
+use Rattle.sizes.specs.Picked.{SafePicked, safeOf, safePicked}
+use Rattle.sizes.specs.Sizes.{setBody, sizedAs, setSized, takenSized, oneSized, safeSized}
+use Rattle.encode.specs.Sizes.{capped}
 use Rattle.sizes.specs.declared.rows.Owned.{Owned}
 use Rattle.sizes.specs.declared.rows.Taken.{Taken}
 use Rattle.sizes.specs.declared.rows.Form.{Form}
 use Rattle.sizes.specs.declared.rows.One.{One}
 use Rattle.sizes.specs.declared.rows.One.the-variants.{Found}
-use Rattle.sizes.proofs.Capped.{Sized, sized-told}
+use Rattle.encode.proofs.Capped.{Sized, sized-told}
 use Rattle.sizes.proofs.Picks.{bag-empty, bag-leaf, bag-too-deep, bag-nest}
 
 -- ---- what was measured
@@ -104,7 +108,8 @@ form-none s Crl p e = cc
 form-none s Secret p e = cc
 form-none s Nested p e = cc
 
-form-nested : (s : List ℕ) (k : BagKind) (p : Parts) → formOf k ≡ Form.Nested → (contentIn s k p ≡ nested) × (k ≡ Nested)
+form-nested : (s : List ℕ) (k : BagKind) (p : Parts) → formOf k ≡ Form.Nested
+    → (contentIn s k p ≡ nested) × (k ≡ Nested)
 form-nested s BagKind.None p e = (let z : _≡_ {A = ℕ} 0 1 = cc in absurd (omega arith))
 form-nested s Key p e = (let z : _≡_ {A = ℕ} 0 1 = cc in absurd (omega arith))
 form-nested s ShroudedKey p e = (let z : _≡_ {A = ℕ} 0 1 = cc in absurd (omega arith))
@@ -141,17 +146,18 @@ pub record BagTaken (o : Option OnePicked) (k : BagKind) (content : List ℕ) (s
   pub attribute : picked .attribute ≡ set .next
 
 module _ (t : Table) (s : List ℕ) (l k n from : ℕ) (row : BagRow) (e : row ≡ getD (t .bags) n noBag) where
-  content-is : bagValueAt t s n .content ≡ contentIn s (row .kind) (row .parts)
+  content-is : bagValue t s n .content ≡ contentIn s (row .kind) (row .parts)
   content-is = ap (λ (r : BagRow). contentIn s (r .kind) (r .parts)) (sym e)
 
-  set-is : (m : ℕ) → setAt t s (bagValueAt t s n .has-set) n m ≡ setAt t s (row .«has_set») n m
-  set-is m = ap (λ (r : BagRow). setAt t s (r .«has_set») n m) (sym e)
+  set-is : (m : ℕ) → setPicked t s (bagValue t s n .has-set) n m ≡ setPicked t s (row .«has_set») n m
+  set-is m = ap (λ (r : BagRow). setPicked t s (r .«has_set») n m) (sym e)
 
-  pub bag-is-empty : formOf (row .kind) ≡ Form.None → bagAt t s l k n from ≡ option.none
+  pub bag-is-empty : formOf (row .kind) ≡ Form.None → bagPicked t s l k n from ≡ option.none
   bag-is-empty h = bag-empty t s l k n from (content-is ∙ form-none s (row .kind) (row .parts) h)
 
   pub bag-is-leaf : formOf (row .kind) ≡ Form.Leaf
-      → BagTaken (bagAt t s l k n from) (row .kind) (contentOf s (row .kind) (row .parts)) (setAt t s (row .«has_set») n from) (n + 1)
+      → BagTaken (bagPicked t s l k n from) (row .kind) (contentOf s (row .kind) (row .parts))
+      (setPicked t s (row .«has_set») n from) (n + 1)
   unfolding bagsBytes
   bag-is-leaf h =
       let q = form-leaf s (row .kind) (row .parts) h in
@@ -165,16 +171,18 @@ module _ (t : Table) (s : List ℕ) (l k n from : ℕ) (row : BagRow) (e : row �
       }
 
   module _ (h : formOf (row .kind) ≡ Form.Nested) where
-    pub bag-is-too-deep : l ≡ 0 → bagAt t s l k n from ≡ option.none
+    pub bag-is-too-deep : l ≡ 0 → bagPicked t s l k n from ≡ option.none
     bag-is-too-deep z = bag-too-deep t s l k n from (content-is ∙ form-nested s (row .kind) (row .parts) h .0) z
 
     pub bag-is-nest : (l ≡ 0 → ⊥)
-        → BagTaken (bagAt t s l k n from) (row .kind) (sequence (bagsBytes (bagsAt t s (l - 1) k (Bag n) (n + 1) from .bags)))
-        (setAt t s (row .«has_set») n (bagsAt t s (l - 1) k (Bag n) (n + 1) from .attribute)) (bagsAt t s (l - 1) k (Bag n) (n + 1) from .bag)
+        → BagTaken (bagPicked t s l k n from) (row .kind)
+        (sequence (bagsBytes (bagsPicked t s (l - 1) k (Bag n) (n + 1) from .bags)))
+        (setPicked t s (row .«has_set») n (bagsPicked t s (l - 1) k (Bag n) (n + 1) from .attribute))
+        (bagsPicked t s (l - 1) k (Bag n) (n + 1) from .bag)
     unfolding bagsBytes
     bag-is-nest z =
         let q = form-nested s (row .kind) (row .parts) h in
-        let all : Picked = bagsAt t s (l - 1) k (Bag n) (n + 1) from in
+        let all : Picked = bagsPicked t s (l - 1) k (Bag n) (n + 1) from in
         record {
           picked = _;
           found = bag-nest t s l k n from (l - 1) (content-is ∙ q .0) (omega arith);
@@ -187,19 +195,25 @@ module _ (t : Table) (s : List ℕ) (l k n from : ℕ) (row : BagRow) (e : row �
 -- ---- one safe
 
 module _ (t : Table) (s : List ℕ) (k first from : ℕ) (row : SafeRow) (e : row ≡ getD (t .safes) k noSafe) where
-  shown-is : (v : SafeValue) → safeShown s row ≡ v → safeAt t s k first from ≡ safeOf t s v k first from
-  unfolding safeAt
-  shown-is v p = ap (λ (r : SafeRow). safeOf t s (safeShown s r) k first from) (sym e) ∙ ap (λ (x : SafeValue). safeOf t s x k first from) p
+  shown-is : (v : SafeValue) → safeShown s row ≡ v → safePicked t s k first from ≡ safeOf t s v k first from
+  unfolding safePicked
+  shown-is v p = ap (λ (r : SafeRow). safeOf t s (safeShown s r) k first from) (sym e)
+      ∙ ap (λ (x : SafeValue). safeOf t s x k first from) p
 
   by-kind : (c : SafeKind) → row .kind ≡ c → safeShown s row ≡ safeShown s (record { kind = c; parts = row .parts })
   by-kind c h = ap (λ (x : SafeKind). safeShown s (record { kind = x; parts = row .parts })) h
 
-  pub safe-is-empty : row .kind ≡ SafeKind.None → safeAt t s k first from ≡ option.none
+  pub safe-is-empty : row .kind ≡ SafeKind.None → safePicked t s k first from ≡ option.none
   safe-is-empty h = shown-is _ (by-kind SafeKind.None h)
 
-  pub safe-is-plain : row .kind ≡ Plain → safeAt t s k first from
-      ≡ some (record { safe = plain (bagsAt t s 7 k Enclosing.None first from .bags); bag = bagsAt t s 7 k Enclosing.None first from .bag; attribute = bagsAt t s 7 k Enclosing.None first from .attribute })
+  pub safe-is-plain : row .kind ≡ Plain → safePicked t s k first from
+      ≡ some (record {
+        safe = plain (bagsPicked t s 7 k Enclosing.None first from .bags);
+        bag = bagsPicked t s 7 k Enclosing.None first from .bag;
+        attribute = bagsPicked t s 7 k Enclosing.None first from .attribute;
+      })
   safe-is-plain h = shown-is _ (by-kind Plain h)
 
-  pub safe-is-encrypted : row .kind ≡ Encrypted → safeAt t s k first from ≡ some (record { safe = encrypted (sealedIn s (row .parts)); bag = first; attribute = from })
+  pub safe-is-encrypted : row .kind ≡ Encrypted → safePicked t s k first from
+      ≡ some (record { safe = encrypted (sealedIn s (row .parts)); bag = first; attribute = from })
   safe-is-encrypted h = shown-is _ (by-kind Encrypted h)

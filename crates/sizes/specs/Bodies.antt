@@ -1,16 +1,18 @@
 -- The bodies of the elements that `Encode` writes, by name.
 use mathlib.Core.List.{List, [], _++_}
 use Prim.Native.Nat.{ℕ}
-use Rattle.der.specs.Octets.{tlv}
-use Rattle.pkcs12.specs.Numbers.{setTag, contextTag, ciphertextTag, encryptedVersion}
+use Rattle.der.specs.Octets.{tlv, integer, octetString, identifier}
+use Rattle.der.specs.Numbers.{setTag, contextTag}
+use Rattle.pkcs12.specs.Numbers.{ciphertextTag, encryptedVersion}
 use Rattle.pkcs12.specs.Identifiers.{dataType}
 use Rattle.pkcs12.specs.Syntax.{Algorithm, Sealed, Attribute, MacData}
-use Rattle.pkcs12.specs.Encode.{integer, octetString, identifier, algorithmBytes, sealedBytes, leafBytes, encryptedInfo, iterationsBytes}
+use Rattle.pkcs12.specs.Encode.{algorithmBytes, sealedBytes, leafBytes, encryptedInfo, iterationsBytes}
 use Rattle.pkcs12.specs.Values.{onContent}
-use Rattle.pkcs12.specs.Table.{bytesIn, contentIn}
-use Rattle.pkcs12.specs.declared.Parts.{Parts}
-use Rattle.pkcs12.specs.declared.BagKind.{BagKind}
-use Rattle.pkcs12.specs.declared.AttributeRow.{AttributeRow}
+use Rattle.buffer.specs.Range.{bytesIn}
+use Rattle.pkcs12.specs.Table.{contentIn}
+use Rattle.pkcs12.specs.declared.row.Parts.{Parts}
+use Rattle.pkcs12.specs.declared.kind.BagKind.{BagKind}
+use Rattle.pkcs12.specs.declared.row.AttributeRow.{AttributeRow}
 
 unfoldable pub algorithmBody : Algorithm → List ℕ
 algorithmBody a = identifier (a .identifier) ++ a .parameters

@@ -1,4 +1,5 @@
--- Which rows are taken, by their numbers: `Values`' reading of rows, with the next bag row and the next attribute row in place of the rows that are left.
+-- Which rows are taken, by their numbers: `Values`' reading of rows, with the next bag row and the
+-- next attribute row in place of the rows that are left.
 use mathlib.Core.Bool.{Bool, true, false}
 use mathlib.Core.List.{List, [], _∷_}
 use mathlib.Core.Option.{Option, some}
@@ -6,17 +7,17 @@ use mathlib.Core.Option as option
 use Prim.Native.Nat.{ℕ, zero, suc, _+_, _-_, min}
 use lib.Dec.{ltb, eqb}
 use lib.ListN.{getD}
-use Rattle.der.specs.Choice.{if_then_else_}
+use Rattle.der.specs.Choice.{if_then_else_, both}
 use Rattle.pkcs12.specs.Numbers.{safeRows, bagRows, attributeRows, levels}
 use Rattle.pkcs12.specs.Syntax.{Attribute, Set, absent, present, Bags, none, bag, nest, Safe, plain, encrypted}
-use Rattle.pkcs12.specs.Checks.{both}
-use Rattle.pkcs12.specs.Values.{SafeValue, empty-safe, plain-safe, encrypted-safe, BagValue, AttributeValue, sameEnclosing, onContent, onLevel}
+use Rattle.pkcs12.specs.Values.{SafeValue, empty-safe, plain-safe, encrypted-safe, BagValue}
+use Rattle.pkcs12.specs.Values.{AttributeValue, sameEnclosing, onContent, onLevel}
 use Rattle.pkcs12.specs.Table.{noSafe, noBag, noAttribute, safeShown, bagShown, attributeShown}
-use Rattle.pkcs12.specs.declared.BagKind.{BagKind}
-use Rattle.pkcs12.specs.declared.BagKind.the-variants.{Key, ShroudedKey, Certificate, Crl, Secret, Nested}
-use Rattle.pkcs12.specs.declared.Enclosing.{Enclosing}
-use Rattle.pkcs12.specs.declared.Enclosing.the-variants.{Bag}
-use Rattle.pkcs12.specs.declared.Table.{Table}
+use Rattle.pkcs12.specs.declared.kind.BagKind.{BagKind}
+use Rattle.pkcs12.specs.declared.kind.BagKind.the-variants.{Key, ShroudedKey, Certificate, Crl, Secret, Nested}
+use Rattle.pkcs12.specs.declared.row.Enclosing.{Enclosing}
+use Rattle.pkcs12.specs.declared.row.Enclosing.the-variants.{Bag}
+use Rattle.pkcs12.specs.declared.table.Table.{Table}
 use Rattle.sizes.specs.declared.rows.Form.{Form}
 
 -- rows that are counted and that there are
@@ -33,11 +34,11 @@ safeEnd t = min (t .«safe_count») safeRows
 abbrev pub attributeValue : Table → List ℕ → ℕ → AttributeValue
 attributeValue t s m = attributeShown s (getD (t .attributes) m noAttribute)
 
-abbrev pub bagValueAt : Table → List ℕ → ℕ → BagValue
-bagValueAt t s n = bagShown s (getD (t .bags) n noBag)
+abbrev pub bagValue : Table → List ℕ → ℕ → BagValue
+bagValue t s n = bagShown s (getD (t .bags) n noBag)
 
-abbrev pub safeValueAt : Table → List ℕ → ℕ → SafeValue
-safeValueAt t s k = safeShown s (getD (t .safes) k noSafe)
+abbrev pub safeValue : Table → List ℕ → ℕ → SafeValue
+safeValue t s k = safeShown s (getD (t .safes) k noSafe)
 
 -- whether a kind of bag holds bags
 abbrev pub formOf : BagKind → Form
@@ -64,17 +65,17 @@ ownFrom t s (suc f) n m =
     record { attributes = []; next = m }
 
 -- from row m on, those that name bag n
-unfoldable pub ownAt : Table → List ℕ → ℕ → ℕ → OwnPicked
-ownAt t s n m = ownFrom t s (attributeEnd t - m) n m
+unfoldable pub ownPicked : Table → List ℕ → ℕ → ℕ → OwnPicked
+ownPicked t s n m = ownFrom t s (attributeEnd t - m) n m
 
 -- the set of bag n, if one stands there
 pub record SetPicked : Type 0 where
   pub set : Set
   pub next : ℕ
 
-unfoldable pub setAt : Table → List ℕ → Bool → ℕ → ℕ → SetPicked
-setAt t s true n m = record { set = present (ownAt t s n m .attributes); next = ownAt t s n m .next }
-setAt t s false n m = record { set = absent; next = m }
+unfoldable pub setPicked : Table → List ℕ → Bool → ℕ → ℕ → SetPicked
+setPicked t s true n m = record { set = present (ownPicked t s n m .attributes); next = ownPicked t s n m .next }
+setPicked t s false n m = record { set = absent; next = m }
 
 -- bags, and the next bag row and attribute row
 pub record Picked : Type 0 where
@@ -91,26 +92,26 @@ before f p = record { bags = f (p .bags); bag = p .bag; attribute = p .attribute
 unfoldable pub bagsFrom : Table → List ℕ → ℕ → ℕ → ℕ → Enclosing → ℕ → ℕ → Picked
 bagsFrom t s zero l k e n m = nothing n m
 bagsFrom t s (suc f) l k e n m =
-    let r = bagValueAt t s n in
+    let r = bagValue t s n in
     if ltb n (bagEnd t) then
     (if both (eqb (r .safe) k) (sameEnclosing (r .enclosing) e) then
     onContent (r .content)
     (nothing n m)
     (λ x.
-    let set = setAt t s (r .has-set) n m in
+    let set = setPicked t s (r .has-set) n m in
     before (bag x (set .set)) (bagsFrom t s f l k e (n + 1) (set .next)))
     (onLevel l
     (nothing n m)
     (λ below.
     let p = bagsFrom t s f below k (Bag n) (n + 1) m in
-    let set = setAt t s (r .has-set) n (p .attribute) in
+    let set = setPicked t s (r .has-set) n (p .attribute) in
     before (nest (p .bags) (set .set)) (bagsFrom t s f l k e (p .bag) (set .next)))) else
     nothing n m) else
     nothing n m
 
 -- from row n on, those in safe k and enclosing bag e, with l levels left below them
-unfoldable pub bagsAt : Table → List ℕ → ℕ → ℕ → Enclosing → ℕ → ℕ → Picked
-bagsAt t s l k e n m = bagsFrom t s (bagEnd t - n) l k e n m
+unfoldable pub bagsPicked : Table → List ℕ → ℕ → ℕ → Enclosing → ℕ → ℕ → Picked
+bagsPicked t s l k e n m = bagsFrom t s (bagEnd t - n) l k e n m
 
 -- one bag, and the rows behind it and behind all that it encloses
 pub record OnePicked : Type 0 where
@@ -123,19 +124,19 @@ onOne option.none stop more = stop
 onOne (some p) stop more = more p
 
 -- bag n, if its row is a bag and a level is left for it
-unfoldable pub bagAt : Table → List ℕ → ℕ → ℕ → ℕ → ℕ → Option OnePicked
-bagAt t s l k n m =
-    let r = bagValueAt t s n in
+unfoldable pub bagPicked : Table → List ℕ → ℕ → ℕ → ℕ → ℕ → Option OnePicked
+bagPicked t s l k n m =
+    let r = bagValue t s n in
     onContent (r .content)
     option.none
     (λ x.
-    let set = setAt t s (r .has-set) n m in
+    let set = setPicked t s (r .has-set) n m in
     some (record { front = bag x (set .set); bag = n + 1; attribute = set .next }))
     (onLevel l
     option.none
     (λ below.
-    let p = bagsAt t s below k (Bag n) (n + 1) m in
-    let set = setAt t s (r .has-set) n (p .attribute) in
+    let p = bagsPicked t s below k (Bag n) (n + 1) m in
+    let set = setPicked t s (r .has-set) n (p .attribute) in
     some (record { front = nest (p .bags) (set .set); bag = p .bag; attribute = set .next })))
 
 -- safes, and the next rows
@@ -157,18 +158,18 @@ pub record SafePicked : Type 0 where
   pub bag : ℕ
   pub attribute : ℕ
 
-abbrev pub contentsAt : Table → List ℕ → ℕ → ℕ → ℕ → Picked
-contentsAt t s k n m = onLevel levels (nothing n m) (λ l. bagsAt t s l k Enclosing.None n m)
+abbrev pub contentsPicked : Table → List ℕ → ℕ → ℕ → ℕ → Picked
+contentsPicked t s k n m = onLevel levels (nothing n m) (λ l. bagsPicked t s l k Enclosing.None n m)
 
 abbrev pub safeOf : Table → List ℕ → SafeValue → ℕ → ℕ → ℕ → Option SafePicked
 safeOf t s empty-safe k n m = option.none
 safeOf t s plain-safe k n m =
-    let p = contentsAt t s k n m in
+    let p = contentsPicked t s k n m in
     some (record { safe = plain (p .bags); bag = p .bag; attribute = p .attribute })
 safeOf t s (encrypted-safe x) k n m = some (record { safe = encrypted x; bag = n; attribute = m })
 
-unfoldable pub safeAt : Table → List ℕ → ℕ → ℕ → ℕ → Option SafePicked
-safeAt t s k n m = safeOf t s (safeValueAt t s k) k n m
+unfoldable pub safePicked : Table → List ℕ → ℕ → ℕ → ℕ → Option SafePicked
+safePicked t s k n m = safeOf t s (safeValue t s k) k n m
 
 abbrev pub onSafe : Option SafePicked → SafesPicked → (SafePicked → SafesPicked) → SafesPicked
 onSafe option.none stop more = stop
@@ -177,8 +178,9 @@ onSafe (some p) stop more = more p
 unfoldable pub safesFrom : Table → List ℕ → ℕ → ℕ → ℕ → ℕ → SafesPicked
 safesFrom t s zero k n m = noSafes k n m
 safesFrom t s (suc f) k n m =
-    onSafe (safeAt t s k n m) (noSafes k n m) (λ p. alsoSafe (p .safe) (safesFrom t s f (k + 1) (p .bag) (p .attribute)))
+    onSafe (safePicked t s k n m) (noSafes k n m)
+    (λ p. alsoSafe (p .safe) (safesFrom t s f (k + 1) (p .bag) (p .attribute)))
 
 -- the safes from safe k, bag n and attribute m on
-unfoldable pub safesAt : Table → List ℕ → ℕ → ℕ → ℕ → SafesPicked
-safesAt t s k n m = safesFrom t s (safeEnd t - k) k n m
+unfoldable pub safesPicked : Table → List ℕ → ℕ → ℕ → ℕ → SafesPicked
+safesPicked t s k n m = safesFrom t s (safeEnd t - k) k n m

@@ -3,27 +3,16 @@ use mathlib.Core.List.{List, []}
 use mathlib.Core.Option.{Option, some}
 use mathlib.Core.Option as option
 use Prim.Native.Nat.{ℕ, _+_}
-use lib.Dec.{leb}
 use lib.ListN.{length}
-use Rattle.der.specs.Choice.{if_then_else_}
-use Rattle.der.specs.Octets.{lengthOctets}
-use Rattle.pkcs12.specs.Numbers.{fileBytes}
 use Rattle.pkcs12.specs.Syntax.{Set, absent, present, none}
 use Rattle.pkcs12.specs.Encode.{attributesBytes, setBytes, bagsBytes, safeBytes, safesBytes}
+use Rattle.encode.specs.Sizes.{capped, elementSize}
 use Rattle.sizes.specs.Picked.{SetPicked, Picked, OnePicked, SafePicked, SafesPicked}
 use Rattle.sizes.specs.declared.rows.Owned.{Owned}
 use Rattle.sizes.specs.declared.rows.Taken.{Taken}
 use Rattle.sizes.specs.declared.rows.One.{One}
 use Rattle.sizes.specs.declared.rows.One.the-variants.{Found}
 use Rattle.sizes.specs.declared.rows.Safes.{Safes}
-
--- a size, told as one byte more than the longest file has if it is any more
-unfoldable pub capped : ℕ → ℕ
-capped n = if leb n fileBytes then n else fileBytes + 1
-
--- an element whose body has n bytes: tag, length octets, body
-unfoldable pub elementSize : ℕ → ℕ
-elementSize n = 1 + length (lengthOctets n) + n
 
 -- the body of a bag: bagId, [0] with its content, and the set
 unfoldable pub bagSize : ℕ → ℕ → ℕ
@@ -59,7 +48,8 @@ setBody absent = []
 setBody (present xs) = attributesBytes xs
 
 unfoldable pub setSized : SetPicked → Owned
-setSized p = record { body = capped (length (setBody (p .set))); size = capped (length (setBytes (p .set))); next = p .next }
+setSized p =
+    record { body = capped (length (setBody (p .set))); size = capped (length (setBytes (p .set))); next = p .next }
 
 unfoldable pub takenSized : Picked → Taken
 takenSized p = sizedAs (length (bagsBytes (p .bags))) (p .bag) (p .attribute)
@@ -73,4 +63,5 @@ safeSized option.none = One.None
 safeSized (some p) = oneOf (length (safeBytes (p .safe))) (p .bag) (p .attribute)
 
 unfoldable pub safesSized : SafesPicked → Safes
-safesSized p = record { size = capped (length (safesBytes (p .safes))); safe = p .safe; bag = p .bag; attribute = p .attribute }
+safesSized p =
+    record { size = capped (length (safesBytes (p .safes))); safe = p .safe; bag = p .bag; attribute = p .attribute }

@@ -1,16 +1,20 @@
-// Rows in the order of a reading: which rows a bag, safe contents and the safes take, and the size of what they are written as. The numbers of the
-// next bag row and of the next attribute row are kept; what doesn't belong where it stands is left.
+// Rows in the order of a reading: which rows a bag, safe contents and the safes take, and the size
+// of what they are written as. The numbers of the next bag row and of the next attribute row are
+// kept; what doesn't belong where it stands is left.
 ghost use mathlib.Core.Path.{_≡_};
 ghost use Prim.Native.Nat.{_+_, _<_};
 ghost use lib.Dec.{eqb};
 ghost use lib.ListN.{getD};
 ghost use Rattle.pkcs12.specs.Numbers.{bagRows};
-ghost use Rattle.pkcs12.specs.Checks.{both};
+ghost use Rattle.der.specs.Choice.{both};
 ghost use Rattle.pkcs12.specs.Table.{noSafe, noBag};
 ghost use Rattle.pkcs12.specs.Values.{sameEnclosing};
-ghost use Rattle.sizes.specs.Picked.{formOf, setAt, bagAt, bagsAt, safeAt, safesAt};
+ghost use Rattle.sizes.specs.Picked.{formOf, setPicked, bagPicked, bagsPicked, safePicked, safesPicked};
 ghost use Rattle.sizes.specs.Report.{formReport};
-ghost use Rattle.sizes.specs.Sizes.{elementSize, bagSize, sizedAs, oneOf, withSafe, presentAs, setSized, oneSized, takenSized, safeSized, safesSized};
+ghost use Rattle.sizes.specs.Sizes.{bagSize, sizedAs, oneOf, withSafe, presentAs, setSized, oneSized};
+ghost use Rattle.sizes.specs.Sizes.{takenSized, safeSized, safesSized};
+ghost use Rattle.encode.specs.Sizes.{elementSize};
+use encode::size;
 use pkcs12::BagKind;
 use pkcs12::BagRow;
 use pkcs12::Enclosing;
@@ -21,7 +25,8 @@ use pkcs12::Table;
 // The levels below the safe contents of a plain safe.
 pub const BELOW: u8 = pkcs12::LEVELS - 1;
 
-// The attributes that one bag has: the size of them all, that of their set, and the next attribute row.
+// The attributes that one bag has: the size of them all, that of their set, and the next attribute
+// row.
 pub struct Owned {
     pub body: usize,
     pub size: usize,
@@ -60,13 +65,13 @@ pub struct Safes {
 fn present(body: usize, next: usize) -> Owned
     ensures { λ r. ⌜ r ≡ presentAs body next ⌝ }
 {
-    let size = crate::element(body);
+    let size = size::element(body);
     Owned { body, size, next }
 }
 
 // The set of a bag, if one stands there; its attributes from an attribute row on.
 pub fn set(table: Table, bytes: &[u8], has_set: bool, bag: usize, from: usize) -> Owned
-    ensures { λ r. ⌜ r ≡ setSized (setAt table (now (bytes .entry)) «has_set» bag from) ⌝ }
+    ensures { λ r. ⌜ r ≡ setSized (setPicked table (now (bytes .entry)) «has_set» bag from) ⌝ }
 {
     if !has_set {
         return Owned {
@@ -75,7 +80,7 @@ pub fn set(table: Table, bytes: &[u8], has_set: bool, bag: usize, from: usize) -
             next: from,
         };
     }
-    let end = pkcs12::fewer(table.attribute_count, pkcs12::ATTRIBUTE_ROWS);
+    let end = buffer::fewer(table.attribute_count, pkcs12::ATTRIBUTE_ROWS);
     let mut body: usize = 0;
     let mut next = from;
     while next < end {
@@ -85,8 +90,8 @@ pub fn set(table: Table, bytes: &[u8], has_set: bool, bag: usize, from: usize) -
             return present(body, next);
         }
         let inner = crate::attribute(bytes, row);
-        let one = crate::element(inner);
-        body = crate::sum(body, one);
+        let one = size::element(inner);
+        body = size::sum(body, one);
         next = next + 1;
     }
     present(body, next)
@@ -139,7 +144,7 @@ fn one_bag(content: usize, owned: Owned, next: usize) -> One
     ensures { λ r. ⌜ r ≡ oneOf (elementSize (bagSize content (owned .size))) next (owned .next) ⌝ }
 {
     let body = crate::bag(content, owned.size);
-    let size = crate::element(body);
+    let size = size::element(body);
     One::Found(Taken {
         size,
         bag: next,
@@ -151,7 +156,7 @@ fn one_bag(content: usize, owned: Owned, next: usize) -> One
 fn joined(taken: Taken, one: Taken) -> Taken
     ensures { λ r. ⌜ r ≡ sizedAs (taken .size + one .size) (one .bag) (one .attribute) ⌝ }
 {
-    let size = crate::sum(taken.size, one.size);
+    let size = size::sum(taken.size, one.size);
     Taken {
         size,
         bag: one.bag,
@@ -170,7 +175,7 @@ fn bag(
     level: u8,
 ) -> One
     requires { ⌜ (n < bagRows) × (row ≡ getD (table .bags) n noBag) ⌝ }
-    ensures { λ r. ⌜ r ≡ oneSized (bagAt table (now (bytes .entry)) level safe n from) ⌝ }
+    ensures { λ r. ⌜ r ≡ oneSized (bagPicked table (now (bytes .entry)) level safe n from) ⌝ }
 {
     let kind = row.kind;
     let has_set = row.has_set;
@@ -198,7 +203,7 @@ fn bag(
                 from,
                 below,
             );
-            let content = crate::element(inner.size);
+            let content = size::element(inner.size);
             let owned = set(table, bytes, has_set, n, inner.attribute);
             one_bag(content, owned, inner.bag)
         }
@@ -215,9 +220,9 @@ pub fn bags(
     from: usize,
     level: u8,
 ) -> Taken
-    ensures { λ r. ⌜ r ≡ takenSized (bagsAt table (now (bytes .entry)) level safe enclosing first from) ⌝ }
+    ensures { λ r. ⌜ r ≡ takenSized (bagsPicked table (now (bytes .entry)) level safe enclosing first from) ⌝ }
 {
-    let end = pkcs12::fewer(table.bag_count, pkcs12::BAG_ROWS);
+    let end = buffer::fewer(table.bag_count, pkcs12::BAG_ROWS);
     let mut taken = Taken {
         size: 0,
         bag: first,
@@ -244,7 +249,7 @@ pub fn bags(
 // Safe k, if its row is a safe; its bags from a bag row and an attribute row on.
 fn safe(table: Table, bytes: &[u8], row: SafeRow, k: usize, first: usize, from: usize) -> One
     requires { ⌜ row ≡ getD (table .safes) k noSafe ⌝ }
-    ensures { λ r. ⌜ r ≡ safeSized (safeAt table (now (bytes .entry)) k first from) ⌝ }
+    ensures { λ r. ⌜ r ≡ safeSized (safePicked table (now (bytes .entry)) k first from) ⌝ }
 {
     let kind = row.kind;
     match kind {
@@ -252,7 +257,7 @@ fn safe(table: Table, bytes: &[u8], row: SafeRow, k: usize, first: usize, from: 
         SafeKind::Plain => {
             let taken = bags(table, bytes, k, Enclosing::None, first, from, BELOW);
             let body = crate::data(taken.size);
-            let size = crate::element(body);
+            let size = size::element(body);
             One::Found(Taken {
                 size,
                 bag: taken.bag,
@@ -262,8 +267,8 @@ fn safe(table: Table, bytes: &[u8], row: SafeRow, k: usize, first: usize, from: 
         SafeKind::Encrypted => {
             let parts = row.parts;
             let content = crate::encrypted_data(bytes, parts);
-            let info = crate::content_info(crate::element(content));
-            let size = crate::element(info);
+            let info = crate::content_info(size::element(content));
+            let size = size::element(info);
             One::Found(Taken {
                 size,
                 bag: first,
@@ -275,9 +280,9 @@ fn safe(table: Table, bytes: &[u8], row: SafeRow, k: usize, first: usize, from: 
 
 // All safes, from the first row of each kind on.
 pub fn all_safes(table: Table, bytes: &[u8]) -> Safes
-    ensures { λ r. ⌜ r ≡ safesSized (safesAt table (now (bytes .entry)) 0 0 0) ⌝ }
+    ensures { λ r. ⌜ r ≡ safesSized (safesPicked table (now (bytes .entry)) 0 0 0) ⌝ }
 {
-    let end = pkcs12::fewer(table.safe_count, pkcs12::SAFE_ROWS);
+    let end = buffer::fewer(table.safe_count, pkcs12::SAFE_ROWS);
     let mut taken = Taken {
         size: 0,
         bag: 0,

@@ -1,4 +1,5 @@
--- Rules by which `search` follows the tests of a sound table as the code's own tests decided them (see der's Choices), and the loop over rows.
+-- Rules by which `search` follows the tests of a sound table as the code's own tests decided them
+-- (see der's Choices), and the loop over rows.
 use mathlib.Core.Path.{_≡_, refl, sym, _∙_}
 use mathlib.Core.Bool.{Bool, true, false, not}
 use mathlib.Core.List.{List, map}
@@ -10,7 +11,7 @@ use lib.ListN.{length, getD, take, drop, drop-of-length-le, length-map, List·ge
 use lib.Seq.{drop-cons, length-take-le, getD-take}
 use borrow.Author.Tests.{not-true, not-false, eq-eqb, ne-eqb, leb-true}
 use Rattle.der.specs.Choice.{if_then_else_}
-use Rattle.der.specs.Numbers.{opaqueLevels}
+use Rattle.der.specs.Numbers.{opaqueLevels, sequenceTag}
 use Rattle.der.specs.Element.{wholeOf}
 use Rattle.der.specs.Content.{identifierBody}
 use Rattle.der.specs.Opaque.{opaqueAt, elementsAt}
@@ -19,15 +20,16 @@ use Rattle.der.specs.declared.Cursor.{Cursor}
 use Rattle.der.specs.declared.Checked.{Checked}
 use Rattle.der.specs.declared.Checked.the-variants.{Passed}
 use Rattle.der.proofs.Choices.{never, by-le}
-use Rattle.pkcs12.specs.Identifiers.{sameBytes}
-use Rattle.pkcs12.specs.Numbers.{safeRows, bagRows, attributeRows, sequenceTag}
-use Rattle.pkcs12.specs.Checks.{all, countsFit, oneOpaque, allOpaque, holdsTagged, isSealed, isTyped, isCertificate, safeHolds, bagHolds}
-use Rattle.pkcs12.specs.declared.Parts.{Parts}
-use Rattle.pkcs12.specs.declared.SafeKind.{SafeKind}
-use Rattle.pkcs12.specs.declared.SafeKind.the-variants.{Plain, Encrypted}
-use Rattle.pkcs12.specs.declared.BagKind.{BagKind}
-use Rattle.pkcs12.specs.declared.BagKind.the-variants.{Key, ShroudedKey, Certificate, Crl, Secret, Nested}
-use Rattle.pkcs12.specs.declared.Table.{Table}
+use Rattle.buffer.specs.Bytes.{sameBytes}
+use Rattle.pkcs12.specs.Numbers.{safeRows, bagRows, attributeRows}
+use Rattle.pkcs12.specs.Checks.{all, countsFit, oneOpaque, allOpaque, holdsTagged, isSealed}
+use Rattle.pkcs12.specs.Checks.{isTyped, isCertificate, safeHolds, bagHolds}
+use Rattle.pkcs12.specs.declared.row.Parts.{Parts}
+use Rattle.pkcs12.specs.declared.kind.SafeKind.{SafeKind}
+use Rattle.pkcs12.specs.declared.kind.SafeKind.the-variants.{Plain, Encrypted}
+use Rattle.pkcs12.specs.declared.kind.BagKind.{BagKind}
+use Rattle.pkcs12.specs.declared.kind.BagKind.the-variants.{Key, ShroudedKey, Certificate, Crl, Secret, Nested}
+use Rattle.pkcs12.specs.declared.table.Table.{Table}
 
 -- 0 on either side of a test
 zero-either : (t : ℕ) → eqb t 0 ≡ eqb 0 t
@@ -51,10 +53,12 @@ module _ (x y : List ℕ) where
   pub some-of : (r a b : Bool) → x ≡ y → (length x ≡ 0 → ⊥) → r ≡ b → r ≡ (if eqb (length y) 0 then a else b)
   some-of r a b p h e = rw (ne-eqb (length y) 0 (rw p at h)) e
 
-  pub same-of : (z : List ℕ) (u r a b : Bool) → x ≡ y → u ≡ sameBytes x z → u ≡ true → r ≡ a → r ≡ (if sameBytes y z then a else b)
+  pub same-of : (z : List ℕ) (u r a b : Bool) → x ≡ y → u ≡ sameBytes x z → u ≡ true → r ≡ a
+      → r ≡ (if sameBytes y z then a else b)
   same-of z u r a b p h q e = rw (← p, ← h, q) e
 
-  pub other-of : (z : List ℕ) (u r a b : Bool) → x ≡ y → u ≡ sameBytes x z → u ≡ false → r ≡ b → r ≡ (if sameBytes y z then a else b)
+  pub other-of : (z : List ℕ) (u r a b : Bool) → x ≡ y → u ≡ sameBytes x z → u ≡ false → r ≡ b
+      → r ≡ (if sameBytes y z then a else b)
   other-of z u r a b p h q e = rw (← p, ← h, q) e
 
   pub tag-of : (t : ℕ) → x ≡ y → eqb (getD x 0 0) t ≡ eqb (getD y 0 0) t
@@ -65,19 +69,23 @@ module _ (x y : List ℕ) where
 
 -- one opaque element and nothing more; zero or more: c is the cursor that the code made
 module _ (x : List ℕ) (c : Cursor) (w : Checked) where
-  pub one-refused : (f : Fault) → c ≡ wholeOf x → w ≡ opaqueAt opaqueLevels x c → w ≡ Checked.Refused f → false ≡ oneOpaque x
+  pub one-refused : (f : Fault) → c ≡ wholeOf x → w ≡ opaqueAt opaqueLevels x c
+      → w ≡ Checked.Refused f → false ≡ oneOpaque x
   unfolding oneOpaque
   one-refused f p e q = rw (← p, ← e, q)
 
-  pub one-passed : (m : ℕ) (n : Cursor) → c ≡ wholeOf x → w ≡ opaqueAt opaqueLevels x c → w ≡ Passed m n → leb (n .end) (n .at) ≡ oneOpaque x
+  pub one-passed : (m : ℕ) (n : Cursor) → c ≡ wholeOf x → w ≡ opaqueAt opaqueLevels x c → w ≡ Passed m n
+      → leb (n .end) (n .at) ≡ oneOpaque x
   unfolding oneOpaque
   one-passed m n p e q = rw (← p, ← e, q)
 
-  pub all-refused : (f : Fault) → c ≡ wholeOf x → w ≡ elementsAt opaqueLevels x c → w ≡ Checked.Refused f → false ≡ allOpaque x
+  pub all-refused : (f : Fault) → c ≡ wholeOf x → w ≡ elementsAt opaqueLevels x c
+      → w ≡ Checked.Refused f → false ≡ allOpaque x
   unfolding allOpaque
   all-refused f p e q = rw (← p, ← e, q)
 
-  pub all-passed : (m : ℕ) (n : Cursor) → c ≡ wholeOf x → w ≡ elementsAt opaqueLevels x c → w ≡ Passed m n → true ≡ allOpaque x
+  pub all-passed : (m : ℕ) (n : Cursor) → c ≡ wholeOf x → w ≡ elementsAt opaqueLevels x c
+      → w ≡ Passed m n → true ≡ allOpaque x
   unfolding allOpaque
   all-passed m n p e q = rw (← p, ← e, q)
 
@@ -125,7 +133,18 @@ module _ (s : List ℕ) (p : Parts) where
     unfolding bagHolds
     bag-nested e = rw e
 
-pub ruleset by-kind = (safe-none, safe-plain, safe-sealed, bag-none, bag-key, bag-sealed, bag-certificate, bag-crl, bag-secret, bag-nested)
+pub ruleset by-kind = (
+  safe-none,
+  safe-plain,
+  safe-sealed,
+  bag-none,
+  bag-key,
+  bag-sealed,
+  bag-certificate,
+  bag-crl,
+  bag-secret,
+  bag-nested,
+)
 
 -- The loops over rows: the answer that is due is that of the rows from i on.
 module _ {A : Type 0} (test : A → Bool) (xs : List A) (n : ℕ) where
@@ -135,9 +154,11 @@ module _ {A : Type 0} (test : A → Bool) (xs : List A) (n : ℕ) where
 
   -- an array of k rows, as the code is told of it
   pub starts : (B : Type 0) (f : A → B) (k : ℕ) → length (map f xs) ≡ k → n ≤ k → Testing 0
-  starts B f k e h = let l : length (map f xs) ≡ length xs = length-map xs f in record { enough = omega (arith, e, l, h); rest = refl }
+  starts B f k e h = let l : length (map f xs) ≡ length xs = length-map xs f in
+      record { enough = omega (arith, e, l, h); rest = refl }
 
-  turn : (i : ℕ) (d : A) → Testing i → i < n → all test (take n xs) ≡ (if test (getD xs i d) then all test (drop (suc i) (take n xs)) else false)
+  turn : (i : ℕ) (d : A) → Testing i → i < n
+      → all test (take n xs) ≡ (if test (getD xs i d) then all test (drop (suc i) (take n xs)) else false)
   unfolding all
   turn i d g h =
       let l : length (take n xs) ≡ n = length-take-le n xs (g .enough) in

@@ -3,8 +3,8 @@ use mathlib.Core.List.{List}
 use Prim.Native.Nat.{ℕ}
 use lib.ListN.{length}
 use Rattle.pkcs12.specs.Written.{fileOf, onFile}
-use Rattle.pkcs12.specs.declared.Table.{Table}
-use Rattle.sizes.specs.Sizes.{capped}
+use Rattle.pkcs12.specs.declared.table.Table.{Table}
+use Rattle.encode.specs.Sizes.{capped}
 use Rattle.sound.specs.declared.Measured.{Measured}
 use Rattle.sound.specs.declared.Measured.the-variants.{Unsound, Size}
 

@@ -1,9 +1,14 @@
-// The rules that a sound table keeps, but for the order of its rows: counts, ranges, and what the ranges hold.
+// The rules that a sound table keeps, but for the order of its rows: counts, ranges, and what the
+// ranges hold.
 ghost use mathlib.Core.Path.{_≡_};
 ghost use Prim.Native.Nat.{_≤_};
 ghost use Rattle.pkcs12.specs.Numbers.{safeRows, bagRows, attributeRows};
-ghost use Rattle.pkcs12.specs.Checks.{all, countsFit, lies, namesType, oneOpaque, allOpaque, holdsOpaque, holdsAll, holdsAtMostOne, hasTag, holdsTagged, isSealed, isTyped, isCertificate, safeTest, bagTest, attributeTest, macTest, keepsRules};
+ghost use Rattle.pkcs12.specs.Checks.{all, countsFit, namesType, oneOpaque, allOpaque, holdsOpaque, holdsAll};
+ghost use Rattle.pkcs12.specs.Checks.{holdsAtMostOne, hasTag, holdsTagged, isSealed, isTyped, isCertificate};
+ghost use Rattle.pkcs12.specs.Checks.{safeTest, bagTest, attributeTest, macTest, keepsRules};
+ghost use Rattle.buffer.specs.Range.{lies};
 ghost use Rattle.pkcs12.specs.Table.{rowsIn};
+use buffer::Range;
 use der::Checked;
 use der::Cursor;
 use pkcs12::AttributeRow;
@@ -11,7 +16,6 @@ use pkcs12::BagKind;
 use pkcs12::BagRow;
 use pkcs12::Mac;
 use pkcs12::Parts;
-use pkcs12::Range;
 use pkcs12::SafeKind;
 use pkcs12::SafeRow;
 use pkcs12::Table;
@@ -151,7 +155,7 @@ fn is_certificate(bytes: &[u8], parts: Parts) -> bool
     }
     let range = parts.identifier;
     let name = range.part(bytes);
-    if pkcs12::same(name, &pkcs12::X509_CERTIFICATE) {
+    if buffer::same(name, &pkcs12::X509_CERTIFICATE) {
         return has_tag(bytes, parts.value, der::OCTET_STRING);
     }
     true
@@ -176,7 +180,7 @@ fn bag_test(bytes: &[u8], row: BagRow) -> bool
     let parts = row.parts;
     match kind {
         BagKind::None => false,
-        BagKind::Key => holds_tagged(bytes, parts.value, pkcs12::SEQUENCE),
+        BagKind::Key => holds_tagged(bytes, parts.value, der::SEQUENCE),
         BagKind::ShroudedKey => is_sealed(bytes, parts),
         BagKind::Certificate => is_certificate(bytes, parts),
         BagKind::Crl => is_typed(bytes, parts),

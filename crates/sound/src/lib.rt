@@ -1,4 +1,5 @@
-// Whether a table is sound for the bytes that its ranges point into, and the size of the file that it makes.
+// Whether a table is sound for the bytes that its ranges point into, and the size of the file that
+// it makes.
 ghost use mathlib.Core.Path.{_≡_};
 ghost use Rattle.der.specs.Span.{Bytes};
 ghost use Rattle.sound.specs.Measured.{measured};
@@ -8,7 +9,8 @@ mod checks;
 
 use pkcs12::Table;
 
-// `Unsound`: the table is not sound, and makes no file. A size past that of the longest file is told as `sizes::PAST`.
+// `Unsound`: the table is not sound, and makes no file. A size past that of the longest file is
+// told as `encode::size::PAST`.
 pub enum Measured {
     Unsound,
     Size(usize),
@@ -36,5 +38,5 @@ pub fn measure(table: Table, bytes: &[u8]) -> Measured
     let fields = table.mac;
     let mac = sizes::mac(bytes, fields);
     let body = sizes::pfx(all.size, mac);
-    Measured::Size(sizes::element(body))
+    Measured::Size(encode::size::element(body))
 }

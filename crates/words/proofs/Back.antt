@@ -9,24 +9,27 @@ use borrow.Author.Tests.{le-ltb, ne-eqb}
 use lib.ListN.{length, getD, take, drop, length-take}
 use lib.Seq.{getD-drop, drop-drop, drop-append-seam, take-suc, getD-take}
 use Rattle.der.proofs.Choices.{either}
-use Rattle.pkcs12.specs.Accepted.{Each}
+use Rattle.der.specs.Named.{Each}
 use Rattle.pkcs12.specs.Table.{padded}
-use Rattle.pkcs12.specs.declared.Range.{Range}
-use Rattle.pkcs12.specs.declared.Parts.{Parts}
-use Rattle.pkcs12.specs.declared.SafeKind.{SafeKind}
-use Rattle.pkcs12.specs.declared.SafeKind.the-variants.{Plain, Encrypted}
-use Rattle.pkcs12.specs.declared.BagKind.{BagKind}
-use Rattle.pkcs12.specs.declared.BagKind.the-variants.{Key, ShroudedKey, Certificate, Crl, Secret, Nested}
-use Rattle.pkcs12.specs.declared.Enclosing.{Enclosing}
-use Rattle.pkcs12.specs.declared.Enclosing.the-variants.{Bag}
-use Rattle.pkcs12.specs.declared.SafeRow.{SafeRow}
-use Rattle.pkcs12.specs.declared.BagRow.{BagRow}
-use Rattle.pkcs12.specs.declared.AttributeRow.{AttributeRow}
-use Rattle.pkcs12.specs.declared.Mac.{Mac}
+use Rattle.buffer.specs.declared.Range.{Range}
+use Rattle.pkcs12.specs.declared.row.Parts.{Parts}
+use Rattle.pkcs12.specs.declared.kind.SafeKind.{SafeKind}
+use Rattle.pkcs12.specs.declared.kind.SafeKind.the-variants.{Plain, Encrypted}
+use Rattle.pkcs12.specs.declared.kind.BagKind.{BagKind}
+use Rattle.pkcs12.specs.declared.kind.BagKind.the-variants.{Key, ShroudedKey, Certificate, Crl, Secret, Nested}
+use Rattle.pkcs12.specs.declared.row.Enclosing.{Enclosing}
+use Rattle.pkcs12.specs.declared.row.Enclosing.the-variants.{Bag}
+use Rattle.pkcs12.specs.declared.row.SafeRow.{SafeRow}
+use Rattle.pkcs12.specs.declared.row.BagRow.{BagRow}
+use Rattle.pkcs12.specs.declared.row.AttributeRow.{AttributeRow}
+use Rattle.pkcs12.specs.declared.row.Mac.{Mac}
 use Rattle.words.specs.Layout.{greatestNumber}
-use Rattle.pkcs12.specs.Placed.{each}
-use Rattle.words.specs.Stored.{safeNumber, bagNumber, enclosingNumber, setNumber, rangeWords, partsWords, safeWords, bagWords, attributeWords, macWords, rowsWords}
-use Rattle.words.specs.Loaded.{wordAt, rangeOf, numberOf, enclosingOf, safeKindOf, bagKindOf, setOf, rangeAt, partsAt, safeAt, bagAt, attributeAt, macAt, rowsFrom}
+use Rattle.buffer.specs.Placed.{each}
+use Rattle.words.specs.Stored.{safeNumber, bagNumber, enclosingNumber, setNumber, rangeWords, partsWords}
+use Rattle.words.specs.Stored.{safeWords, bagWords, attributeWords, macWords, rowsWords}
+use Rattle.words.specs.Loaded.{wordAt, rangeOf, numberOf, enclosingOf, safeKindOf, bagKindOf, setOf}
+use Rattle.words.specs.Loaded.{rangeLoaded}
+use Rattle.words.specs.Loaded.{partsLoaded, safeLoaded, bagLoaded, attributeLoaded, macLoaded, rowsFrom}
 use Rattle.words.specs.Wordable.{RangeFits, PartsFits, EnclosingFits, SafeFits, BagFits, AttributeFits, MacFits}
 use Rattle.words.proofs.Rows.{each-length}
 
@@ -90,13 +93,16 @@ set-same true = refl
 -- ---- what stands at a place
 
 module _ (ws : List ℕ) where
-  pub range-back : (at : ℕ) (r : Range) → RangeFits r → Stands ws at (rangeWords r) → rangeAt ws at ≡ r
-  unfolding rangeAt
+  pub range-back : (at : ℕ) (r : Range) → RangeFits r → Stands ws at (rangeWords r) → rangeLoaded ws at ≡ r
+  unfolding rangeLoaded
   range-back at r f s =
-      rw (stands-word ws at (r .start) (r .end ∷ []) s, stands-word ws (at + 1) (r .end) [] (stands-back ws at (r .start ∷ []) (r .end ∷ []) s)) (range-same r f)
+      rw (
+        stands-word ws at (r .start) (r .end ∷ []) s,
+        stands-word ws (at + 1) (r .end) [] (stands-back ws at (r .start ∷ []) (r .end ∷ []) s),
+      ) (range-same r f)
 
-  pub parts-back : (at : ℕ) (p : Parts) → PartsFits p → Stands ws at (partsWords p) → partsAt ws at ≡ p
-  unfolding partsAt
+  pub parts-back : (at : ℕ) (p : Parts) → PartsFits p → Stands ws at (partsWords p) → partsLoaded ws at ≡ p
+  unfolding partsLoaded
   parts-back at p f s =
       let x : List ℕ = rangeWords (p .identifier) in
       let y : List ℕ = rangeWords (p .parameters) in
@@ -107,15 +113,15 @@ module _ (ws : List ℕ) where
         range-back (at + 4) (p .value) (f .value) (stands-back ws at (x ++ y) z s),
       )
 
-  pub safe-back : (at : ℕ) (r : SafeRow) → SafeFits r → Stands ws at (safeWords r) → safeAt ws at ≡ r
-  unfolding safeAt
+  pub safe-back : (at : ℕ) (r : SafeRow) → SafeFits r → Stands ws at (safeWords r) → safeLoaded ws at ≡ r
+  unfolding safeLoaded
   safe-back at r f s =
       let n : ℕ = safeNumber (r .kind) in
       let x : List ℕ = partsWords (r .parts) in
       rw (stands-word ws at n x s, safe-kind-same (r .kind), parts-back (at + 1) (r .parts) f (stands-back ws at (n ∷ []) x s))
 
-  pub bag-back : (at : ℕ) (r : BagRow) → BagFits r → Stands ws at (bagWords r) → bagAt ws at ≡ r
-  unfolding bagAt
+  pub bag-back : (at : ℕ) (r : BagRow) → BagFits r → Stands ws at (bagWords r) → bagLoaded ws at ≡ r
+  unfolding bagLoaded
   bag-back at r f s =
       let n : ℕ = bagNumber (r .kind) in
       let e : ℕ = enclosingNumber (r .enclosing) in
@@ -133,8 +139,8 @@ module _ (ws : List ℕ) where
         set-same (r .«has_set»),
       )
 
-  pub attribute-back : (at : ℕ) (r : AttributeRow) → AttributeFits r → Stands ws at (attributeWords r) → attributeAt ws at ≡ r
-  unfolding attributeAt
+  pub attribute-back : (at : ℕ) (r : AttributeRow) → AttributeFits r → Stands ws at (attributeWords r) → attributeLoaded ws at ≡ r
+  unfolding attributeLoaded
   attribute-back at r f s =
       let x : List ℕ = rangeWords (r .identifier) in
       let y : List ℕ = rangeWords (r .values) in
@@ -145,8 +151,8 @@ module _ (ws : List ℕ) where
         range-back (at + 3) (r .values) (f .values) (stands-back ws at (r .bag ∷ x) y s),
       )
 
-  pub mac-back : (at : ℕ) (m : Mac) → MacFits m → Stands ws at (macWords m) → macAt ws at ≡ m
-  unfolding macAt
+  pub mac-back : (at : ℕ) (m : Mac) → MacFits m → Stands ws at (macWords m) → macLoaded ws at ≡ m
+  unfolding macLoaded
   mac-back at m f s =
       let x : List ℕ = partsWords (m .parts) in
       let y : List ℕ = rangeWords (m .salt) in
@@ -173,7 +179,8 @@ each-at P [] d e i h = absurd (omega arith)
 each-at P (x ∷ xs) d e zero h = e .0
 each-at P (x ∷ xs) d e (suc i) h = each-at P xs d (e .1) i (omega arith)
 
-pub each-take : {A : Type 0} (g : ℕ → A) (xs : List A) (d : A) (n : ℕ) → n ≤ length xs → ((i : ℕ) → i < n → g i ≡ getD xs i d) → each (λ i. g i ∷ []) n ≡ take n xs
+pub each-take : {A : Type 0} (g : ℕ → A) (xs : List A) (d : A) (n : ℕ) → n ≤ length xs
+    → ((i : ℕ) → i < n → g i ≡ getD xs i d) → each (λ i. g i ∷ []) n ≡ take n xs
 unfolding each
 each-take g xs d zero h e = refl
 each-take g xs d (suc n) h e = rw (each-take g xs d n (omega arith) (λ i l. e i (omega arith)), e n (omega arith)) (sym (take-suc xs n d (omega arith)))
@@ -188,7 +195,8 @@ unfolding rowsWords rowsFrom
 rows-back P words read width rows count none xs ws at long back few all past fits s =
     let m : min count rows ≡ count = omega (arith, few) in
     let n : count ≤ length xs = omega (arith, all, length-take count xs) in
-    let stands : Stands ws at (each (λ i. words (getD xs i none)) count) = rw m at (stands-front ws at (each (λ i. words (getD xs i none)) (min count rows)) _ s) in
+    let stands : Stands ws at (each (λ i. words (getD xs i none)) count) =
+    rw m at (stands-front ws at (each (λ i. words (getD xs i none)) (min count rows)) _ s) in
     rw (
       m,
       each-take (λ i. read (at + i * width)) xs none count n

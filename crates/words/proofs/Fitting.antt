@@ -1,30 +1,36 @@
--- The table of an accepted file fits: its ranges lie in the file, and its rows name rows that there are. So does the
--- empty table.
+-- The table of an accepted file fits: its ranges lie in the file, and its rows name rows that there
+-- are. So does the empty table.
 use mathlib.Core.Path.{refl}
 use mathlib.Core.List.{List, [], _∷_}
 use Prim.Native.Nat.{ℕ, _+_, _≤_}
 use native.Mathlib.Omega.{arith}
 use lib.ListN.{length}
 use Rattle.der.specs.Span.{Span, Bytes}
-use Rattle.pkcs12.specs.Syntax.{Algorithm, Leaf, key, shrouded, typed, Attribute, Set, absent, present, Bags, none, bag, nest, Safe, plain, encrypted, Pfx}
+use Rattle.pkcs12.specs.Syntax.{Algorithm, Leaf, key, shrouded, typed, Attribute, Set, absent, present, Bags, none}
+use Rattle.pkcs12.specs.Syntax.{bag, nest, Safe, plain, encrypted, Pfx}
 use Rattle.pkcs12.specs.Valid.{Valid, bagsIn, bagsInSafes}
-use Rattle.pkcs12.specs.Table.{noRange, noParts, Rows, rowsIn, tableOf, emptyTable}
+use Rattle.buffer.specs.Range.{noRange}
+use Rattle.pkcs12.specs.Table.{noParts, Rows, rowsIn, tableOf, emptyTable}
 use Rattle.pkcs12.specs.Walk.{Owner, owner}
-use Rattle.pkcs12.specs.Laid.{ElementLaid, PieceLaid, AlgorithmLaid, LeafLaid, AttributesLaid, no-attribute, one-attribute, SetLaid, no-set, one-set, BagLaid, BagsLaid, no-bag, one-bag, one-nest, SafesLaid, no-safe, one-plain, one-encrypted, PfxLaid}
-use Rattle.pkcs12.specs.Accepted.{IsAccepted, Follows, tableFrom, Each}
-use Rattle.pkcs12.specs.declared.Range.{Range}
-use Rattle.pkcs12.specs.declared.Parts.{Parts}
-use Rattle.pkcs12.specs.declared.BagKind.{BagKind}
-use Rattle.pkcs12.specs.declared.Enclosing.{Enclosing}
-use Rattle.pkcs12.specs.declared.Enclosing.the-variants.{Bag}
-use Rattle.pkcs12.specs.declared.SafeRow.{SafeRow}
-use Rattle.pkcs12.specs.declared.BagRow.{BagRow}
-use Rattle.pkcs12.specs.declared.AttributeRow.{AttributeRow}
-use Rattle.pkcs12.specs.declared.Mac.{Mac}
+use Rattle.pkcs12.specs.Laid.{ElementLaid, PieceLaid, AlgorithmLaid, LeafLaid, AttributesLaid, no-attribute}
+use Rattle.pkcs12.specs.Laid.{one-attribute, SetLaid, no-set, one-set, BagLaid, BagsLaid, no-bag, one-bag, one-nest}
+use Rattle.pkcs12.specs.Laid.{SafesLaid, no-safe, one-plain, one-encrypted, PfxLaid}
+use Rattle.pkcs12.specs.Accepted.{IsAccepted, Follows, tableFrom}
+use Rattle.der.specs.Named.{Each}
+use Rattle.buffer.specs.declared.Range.{Range}
+use Rattle.pkcs12.specs.declared.row.Parts.{Parts}
+use Rattle.pkcs12.specs.declared.kind.BagKind.{BagKind}
+use Rattle.pkcs12.specs.declared.row.Enclosing.{Enclosing}
+use Rattle.pkcs12.specs.declared.row.Enclosing.the-variants.{Bag}
+use Rattle.pkcs12.specs.declared.row.SafeRow.{SafeRow}
+use Rattle.pkcs12.specs.declared.row.BagRow.{BagRow}
+use Rattle.pkcs12.specs.declared.row.AttributeRow.{AttributeRow}
+use Rattle.pkcs12.specs.declared.row.Mac.{Mac}
 use Rattle.pkcs12.proofs.Shown.{each-join}
 use Rattle.pkcs12.proofs.Theorems as pkcs12
 use Rattle.words.specs.Layout.{greatestNumber}
-use Rattle.words.specs.Wordable.{RangeFits, PartsFits, EnclosingFits, SafeFits, BagFits, AttributeFits, MacFits, Wordable}
+use Rattle.words.specs.Wordable.{RangeFits, PartsFits, EnclosingFits, SafeFits, BagFits, AttributeFits, MacFits}
+use Rattle.words.specs.Wordable.{Wordable}
 
 nowhere-fits : RangeFits noRange
 nowhere-fits = record { start = omega arith; end = omega arith }
@@ -55,11 +61,16 @@ module _ (s : List ℕ) (small : length s ≤ greatestNumber) where
       rw (l .unused) record { identifier = nowhere-fits; parameters = nowhere-fits; value = piece-fits from to (p .value) v (l .value) }
   leaf-fits from to p (shrouded x) l = sealed-fits _ _ _ _ _ p (x .algorithm) (x .octets) (l .algorithm) (l .octets)
   leaf-fits from to p (typed k t v) l =
-      record { identifier = span-fits (p .identifier) t (l .type .body); parameters = rw (l .unused) nowhere-fits; value = piece-fits _ _ (p .value) v (l .value) }
+      record {
+        identifier = span-fits (p .identifier) t (l .type .body);
+        parameters = rw (l .unused) nowhere-fits;
+        value = piece-fits _ _ (p .value) v (l .value);
+      }
 
   -- ---- rows
 
-  attributes-fit : (n from to : ℕ) (xs : List Attribute) (own : List AttributeRow) → n ≤ greatestNumber → AttributesLaid s n from to xs own → Each AttributeFits own
+  attributes-fit : (n from to : ℕ) (xs : List Attribute) (own : List AttributeRow) → n ≤ greatestNumber
+      → AttributesLaid s n from to xs own → Each AttributeFits own
   unfolding Each
   attributes-fit n from to [] own h no-attribute = tt
   attributes-fit n from to (a ∷ xs) own h (one-attribute {r = r} l m) = (

@@ -1,4 +1,5 @@
--- The table of parts that were read; a table that fits is loaded from its words, whatever stands behind them.
+-- The table of parts that were read; a table that fits is loaded from its words, whatever stands
+-- behind them.
 use mathlib.Core.Path.{_≡_, refl, ap, _∙_}
 use mathlib.Core.List.{List, [], _∷_, _++_}
 use Prim.Native.Nat.{ℕ, _+_, _≤_}
@@ -6,13 +7,19 @@ use native.Mathlib.Omega.{arith}
 use lib.ListN.{length, take}
 use Rattle.pkcs12.specs.Numbers.{safeRows, bagRows, attributeRows}
 use Rattle.pkcs12.specs.Table.{noSafe, noBag, noAttribute, padded, table, tableOf, rowsIn}
-use Rattle.pkcs12.specs.declared.Table.{Table}
-use Rattle.words.specs.Layout.{safeWidth, bagWidth, attributeWidth, elementsAt, safeCountAt, bagCountAt, attributeCountAt, macInputAt, macFieldsAt, safesAt, bagsAt, attributesAt, greatestWord}
-use Rattle.words.specs.Stored.{countWord, countWords, rangeWords, macWords, safeWords, bagWords, attributeWords, headWords, safesWords, bagsWords, attributesWords, wordsOf}
-use Rattle.words.specs.Loaded.{wordAt, rangeAt, safeAt, bagAt, attributeAt, macAt, safeFrom, bagFrom, attributeFrom, rowsFrom, tableIn}
+use Rattle.pkcs12.specs.declared.table.Table.{Table}
+use Rattle.words.specs.Layout.{safeWidth, bagWidth, attributeWidth, elementsAt, safeCountAt, bagCountAt}
+use Rattle.words.specs.Layout.{attributeCountAt, macInputAt, macFieldsAt, safesAt, bagsAt, attributesAt}
+use Rattle.words.specs.Layout.{greatestWord}
+use Rattle.words.specs.Stored.{countWord, countWords, rangeWords, macWords, safeWords, bagWords, attributeWords}
+use Rattle.words.specs.Stored.{headWords, safesWords, bagsWords, attributesWords, wordsOf}
+use Rattle.words.specs.Loaded.{wordAt, rangeLoaded, safeLoaded, bagLoaded, attributeLoaded, macLoaded, safeFrom}
+use Rattle.words.specs.Loaded.{bagFrom}
+use Rattle.words.specs.Loaded.{attributeFrom, rowsFrom, tableIn}
 use Rattle.words.specs.Wordable.{SafeFits, BagFits, AttributeFits, Wordable}
 use Rattle.words.proofs.Whole.{safes-length, bags-length}
-use Rattle.words.proofs.Back.{Stands, stands-front, stands-back, stands-word, range-back, safe-back, bag-back, attribute-back, mac-back, rows-back}
+use Rattle.words.proofs.Back.{Stands, stands-front, stands-back, stands-word, range-back, safe-back, bag-back}
+use Rattle.words.proofs.Back.{attribute-back, mac-back, rows-back}
 
 -- each part is what the words have at its place
 module _ (ws : List ℕ) (t : Table) where
@@ -21,7 +28,7 @@ module _ (ws : List ℕ) (t : Table) where
       → t .safes ≡ rowsFrom (safeFrom ws) noSafe safeRows (t .«safe_count»)
       → t .bags ≡ rowsFrom (bagFrom ws) noBag bagRows (t .«bag_count»)
       → t .attributes ≡ rowsFrom (attributeFrom ws) noAttribute attributeRows (t .«attribute_count»)
-      → t .mac ≡ macAt ws macFieldsAt → t .«mac_input» ≡ rangeAt ws macInputAt → t ≡ tableIn ws
+      → t .mac ≡ macLoaded ws macFieldsAt → t .«mac_input» ≡ rangeLoaded ws macInputAt → t ≡ tableIn ws
   unfolding tableIn
   table-read i j k n x y z m r =
       let xs = x ∙ ap (rowsFrom (safeFrom ws) noSafe safeRows) i in
@@ -62,12 +69,13 @@ module _ (t : Table) (w : Wordable t) (ws : List ℕ) (s : Stands ws 0 (wordsOf 
 
   fields-stand : Stands ws macInputAt (rangeWords (t .«mac_input») ++ macWords (t .mac))
   fields-stand =
-      stands-back ws 0 (countWords (t .elements) (t .«safe_count») (t .«bag_count») (t .«attribute_count»)) (rangeWords (t .«mac_input») ++ macWords (t .mac)) head-stands
+      stands-back ws 0 (countWords (t .elements) (t .«safe_count») (t .«bag_count») (t .«attribute_count»))
+      (rangeWords (t .«mac_input») ++ macWords (t .mac)) head-stands
 
-  input-back : rangeAt ws macInputAt ≡ t .«mac_input»
+  input-back : rangeLoaded ws macInputAt ≡ t .«mac_input»
   input-back = range-back ws macInputAt (t .«mac_input») (w .input) (stands-front ws macInputAt (rangeWords (t .«mac_input»)) (macWords (t .mac)) fields-stand)
 
-  fields-back : macAt ws macFieldsAt ≡ t .mac
+  fields-back : macLoaded ws macFieldsAt ≡ t .mac
   fields-back = mac-back ws macFieldsAt (t .mac) (w .mac) (stands-back ws macInputAt (rangeWords (t .«mac_input»)) (macWords (t .mac)) fields-stand)
 
   -- a count at its place among the words
@@ -103,19 +111,22 @@ module _ (t : Table) (w : Wordable t) (ws : List ℕ) (s : Stands ws 0 (wordsOf 
   safes-back : rowsFrom (safeFrom ws) noSafe safeRows (t .«safe_count») ≡ t .safes
   unfolding rowsIn
   safes-back =
-      rows-back SafeFits safeWords (safeAt ws) safeWidth safeRows (t .«safe_count») noSafe (t .safes) ws safesAt (λ x. refl) (safe-back ws) (w .safe-count) safe-number safe-rows
+      rows-back SafeFits safeWords (safeLoaded ws) safeWidth safeRows (t .«safe_count») noSafe (t .safes) ws safesAt
+      (λ x. refl) (safe-back ws) (w .safe-count) safe-number safe-rows
       (w .safes) (stands-front ws safesAt safes (bags ++ attributes) rows-stand)
 
   bags-back : rowsFrom (bagFrom ws) noBag bagRows (t .«bag_count») ≡ t .bags
   unfolding rowsIn
   bags-back =
-      rows-back BagFits bagWords (bagAt ws) bagWidth bagRows (t .«bag_count») noBag (t .bags) ws bagsAt (λ x. refl) (bag-back ws) (w .bag-count) bag-number bag-rows (w .bags)
+      rows-back BagFits bagWords (bagLoaded ws) bagWidth bagRows (t .«bag_count») noBag (t .bags) ws bagsAt
+      (λ x. refl) (bag-back ws) (w .bag-count) bag-number bag-rows (w .bags)
       (stands-front ws bagsAt bags attributes past-safes)
 
   attributes-back : rowsFrom (attributeFrom ws) noAttribute attributeRows (t .«attribute_count») ≡ t .attributes
   unfolding rowsIn
   attributes-back =
-      rows-back AttributeFits attributeWords (attributeAt ws) attributeWidth attributeRows (t .«attribute_count») noAttribute (t .attributes) ws attributesAt (λ x. refl)
+      rows-back AttributeFits attributeWords (attributeLoaded ws) attributeWidth attributeRows
+      (t .«attribute_count») noAttribute (t .attributes) ws attributesAt (λ x. refl)
       (attribute-back ws) (w .attribute-count) attribute-number attribute-rows (w .attributes) past-bags
 
   -- ---- all of it

@@ -1,4 +1,5 @@
--- Rows of one kind, one by one: stored behind one another, or collected in an array; for any width and any kind.
+-- Rows of one kind, one by one: stored behind one another, or collected in an array; for any width
+-- and any kind.
 use mathlib.Core.Path.{_≡_, refl, sym, ap, _∙_}
 use mathlib.Core.List.{List, [], _∷_}
 use Prim.Native.Nat.{ℕ, zero, suc, _+_, _-_, _*_, _≤_, _<_, min}
@@ -6,13 +7,12 @@ use native.Mathlib.Nat.{zero-mul, suc-mul, mul-one, add-mul}
 use native.Mathlib.Omega.{arith}
 use lib.ListN.{length, getD, set, replicate, length-append, length-replicate}
 use Rattle.pkcs12.specs.Table.{padded}
-use Rattle.pkcs12.specs.Placed.{each}
-use Rattle.pkcs12.proofs.Placing.{each-more}
+use Rattle.buffer.specs.Placed.{Placed, each}
+use Rattle.buffer.proofs.Placing.{_then_, each-more}
+use Rattle.buffer.proofs.Rows.{Lined, lines-end}
 use Rattle.pkcs12.proofs.Stored as pkcs12
 use Rattle.words.specs.Stored.{rowsWords}
 use Rattle.words.specs.Loaded.{rowsFrom}
-use Rattle.words.specs.Put.{Put}
-use Rattle.words.proofs.Puts.{put-nothing, put-then}
 
 pub each-length : {A : Type 0} (f : ℕ → List A) (w : ℕ) → ((i : ℕ) → length (f i) ≡ w) → (n : ℕ) → length (each f n) ≡ n * w
 unfolding each
@@ -35,34 +35,14 @@ rows-length words none width size rows count h =
 
 -- ---- storing
 
+-- rows are stored (`Lined` of `buffer`), and zeros behind them
 module _ {A : Type 0} (words : A → List ℕ) (none : A) (size : ℕ) (rows : List A) (d : List ℕ) (at end : ℕ) where
-  -- i rows are stored
-  pub record Storing (e : List ℕ) (r i : ℕ) : Type 0 where
-    pub within : i ≤ end
-    pub few : end ≤ size
-    pub put : Put d at (each (λ j. words (getD rows j none)) i) e r
-    pub long : length e ≡ length d
-
-  pub store-start : (count : ℕ) → end ≡ min count size → Storing d at 0
-  unfolding each
-  store-start count p = record { within = omega arith; few = omega (arith, p); put = put-nothing d at; long = refl }
-
-  module _ (e : List ℕ) (r i : ℕ) (g : Storing e r i) where
-    pub store-turn : (m : List ℕ) (q : ℕ) → i < end → length m ≡ length e → Put e r (words (getD rows i none)) m q → Storing m q (i + 1)
-    store-turn m q h l p =
-        record {
-          within = omega (arith, h);
-          few = g .few;
-          put = rw each-more (put-then d at (each (λ j. words (getD rows j none)) i) e r (words (getD rows i none)) m q (g .put) p);
-          long = l ∙ g .long;
-        }
-
-    pub store-end : (width count : ℕ) (m : List ℕ) (q : ℕ) → end ≡ min count size → end ≤ i → Put e r (replicate ((size - end) * width) 0) m q
-        → Put d at (rowsWords words none width size rows count) m q
-    unfolding rowsWords
-    store-end width count m q p h z =
-        let s : i ≡ end = omega (arith, h, g .within) in
-        rw (← p) (put-then d at (each (λ j. words (getD rows j none)) end) e r (replicate ((size - end) * width) 0) m q (rw s at (g .put)) z)
+  pub store-end : (e : List ℕ) (r i : ℕ) → Lined (λ j. words (getD rows j none)) d at end e r i
+      → (width count : ℕ) (m : List ℕ) (q : ℕ) → end ≡ min count size → end ≤ i
+      → Placed e r (replicate ((size - end) * width) 0) m q → Placed d at (rowsWords words none width size rows count) m q
+  unfolding rowsWords
+  store-end e r i g width count m q p h z =
+      rw (← p) (lines-end (λ j. words (getD rows j none)) d at end e r i g end refl h then z)
 
 -- ---- collecting
 

@@ -1,14 +1,15 @@
--- What is proved of storing a table as words and loading it. `wordsOf t`: the words of the table t. `tableIn ws`: the table that the words ws stand
--- for. `Wordable t`: the rows of t past its counts are empty, the counts are within the sizes, and every number of t fits.
+-- What is proved of storing a table as words and loading it. `wordsOf t`: the words of the table t.
+-- `tableIn ws`: the table that the words ws stand for. `Wordable t`: the rows of t past its counts
+-- are empty, the counts are within the sizes, and every number of t fits.
 use mathlib.Core.Path.{_≡_, refl, sym, ap, _∙_}
 use mathlib.Core.List.{List, [], _++_, append-nil}
 use Prim.Native.Nat.{ℕ}
 use lib.ListN.{length, replicate}
 use Rattle.der.specs.Span.{Bytes}
 use Rattle.pkcs12.specs.Table.{tableOf, emptyTable}
-use Rattle.pkcs12.specs.Placed.{each}
+use Rattle.buffer.specs.Placed.{each}
 use Rattle.pkcs12.specs.Accepted.{IsAccepted, tableFrom}
-use Rattle.pkcs12.specs.declared.Table.{Table}
+use Rattle.pkcs12.specs.declared.table.Table.{Table}
 use Rattle.words.specs.Layout.{tableWords}
 use Rattle.words.specs.Stored.{rowsWords, wordsOf}
 use Rattle.words.specs.Loaded.{tableIn}

@@ -7,19 +7,21 @@ use borrow.Author.Tests.{lt-ltb, le-ltb}
 use lib.Dec.{ltb}
 use lib.ListN.{length, length-append}
 use Rattle.der.specs.Choice.{if_then_else_}
-use Rattle.pkcs12.specs.Numbers.{safeRows, bagRows, attributeRows, noRoom}
+use Rattle.pkcs12.specs.Numbers.{safeRows, bagRows, attributeRows}
+use Rattle.buffer.specs.Numbers.{shortBuffer}
 use Rattle.pkcs12.specs.Table.{noSafe, noBag, noAttribute}
-use Rattle.pkcs12.specs.Written.{Outcome, refusal, success}
-use Rattle.pkcs12.specs.declared.SafeRow.{SafeRow}
-use Rattle.pkcs12.specs.declared.BagRow.{BagRow}
-use Rattle.pkcs12.specs.declared.AttributeRow.{AttributeRow}
-use Rattle.pkcs12.specs.declared.Table.{Table}
-use Rattle.pkcs12.specs.declared.Written.{Written}
-use Rattle.pkcs12.specs.declared.Written.the-variants.{Length}
-use Rattle.pkcs12.proofs.Placing.{placed-whole}
+use Rattle.buffer.specs.Written.{Outcome, refusal, success}
+use Rattle.pkcs12.specs.declared.row.SafeRow.{SafeRow}
+use Rattle.pkcs12.specs.declared.row.BagRow.{BagRow}
+use Rattle.pkcs12.specs.declared.row.AttributeRow.{AttributeRow}
+use Rattle.pkcs12.specs.declared.table.Table.{Table}
+use Rattle.buffer.specs.declared.Written.{Written}
+use Rattle.buffer.specs.declared.Written.the-variants.{Length}
+use Rattle.buffer.specs.Placed.{greatest, Placed}
+use Rattle.buffer.proofs.Placing.{placed-whole}
 use Rattle.words.specs.Layout.{safeWidth, bagWidth, attributeWidth, tableWords}
-use Rattle.words.specs.Stored.{headWords, safeWords, bagWords, attributeWords, safesWords, bagsWords, attributesWords, wordsOf, stored, storedRow}
-use Rattle.words.specs.Put.{Put}
+use Rattle.words.specs.Stored.{headWords, safeWords, bagWords, attributeWords, safesWords, bagsWords}
+use Rattle.words.specs.Stored.{attributesWords, wordsOf, stored, storedRow}
 use Rattle.words.proofs.Rows.{rows-length}
 
 pub safes-length : (rows : List SafeRow) (count : ℕ) → length (safesWords rows count) ≡ safeRows * safeWidth
@@ -51,56 +53,56 @@ words-length t =
     )
 
 -- the outcomes of storing words x of a known number
-module _ (x : List ℕ) (n : ℕ) (l : length x ≡ n) (room : List ℕ) where
+module _ (x : List ℕ) (n : ℕ) (l : length x ≡ n) (memory : List ℕ) where
   -- refused where there are fewer, else stored at the front
   abbrev pub outcome : Outcome
-  outcome = if ltb (length room) n then refusal noRoom room else success x room
+  outcome = if ltb (length memory) n then refusal shortBuffer memory else success x memory
 
   module _ (o : Outcome) (is : o ≡ outcome) where
-    too-few : length room < n → o ≡ refusal noRoom room
-    too-few h = is ∙ rw (lt-ltb (length room) n h)
+    too-few : length memory < n → o ≡ refusal shortBuffer memory
+    too-few h = is ∙ rw (lt-ltb (length memory) n h)
 
-    module _ (h : n ≤ length room) where
-      enough : o ≡ success x room
-      enough = is ∙ rw (le-ltb (length room) n h)
+    module _ (h : n ≤ length memory) where
+      enough : o ≡ success x memory
+      enough = is ∙ rw (le-ltb (length memory) n h)
 
       stored-answer : (k : ℕ) → k ≡ n → Length k ≡ o .answer
       stored-answer k e = ap {B = Written} Length (e ∙ sym l) ∙ sym (ap (λ (y : Outcome). y .answer) enough)
 
-      stored-memory : (e : List ℕ) (r : ℕ) → Put room 0 x e r → e ≡ o .buffer
-      stored-memory e r p =
-          let k : length x ≤ length room = omega (arith, l, h) in
-          placed-whole room x e r (p .done (omega (arith, k))) k ∙ sym (ap (λ (y : Outcome). y .buffer) enough)
+      stored-memory : length x ≤ greatest → (e : List ℕ) (r : ℕ) → Placed memory 0 x e r → e ≡ o .buffer
+      stored-memory f e r p =
+          let k : length x ≤ length memory = omega (arith, l, h) in
+          placed-whole p k f ∙ sym (ap (λ (y : Outcome). y .buffer) enough)
 
 -- a table
-module _ (t : Table) (room : List ℕ) where
-  is-table : stored t room ≡ outcome (wordsOf t) tableWords (words-length t) room
+module _ (t : Table) (memory : List ℕ) where
+  is-table : stored t memory ≡ outcome (wordsOf t) tableWords (words-length t) memory
   unfolding stored
   is-table = refl
 
-  pub few-for-table : length room < tableWords → stored t room ≡ refusal noRoom room
-  few-for-table = too-few (wordsOf t) tableWords (words-length t) room (stored t room) is-table
+  pub few-for-table : length memory < tableWords → stored t memory ≡ refusal shortBuffer memory
+  few-for-table = too-few (wordsOf t) tableWords (words-length t) memory (stored t memory) is-table
 
-  pub stored-whole : tableWords ≤ length room → stored t room ≡ success (wordsOf t) room
-  stored-whole = enough (wordsOf t) tableWords (words-length t) room (stored t room) is-table
+  pub stored-whole : tableWords ≤ length memory → stored t memory ≡ success (wordsOf t) memory
+  stored-whole = enough (wordsOf t) tableWords (words-length t) memory (stored t memory) is-table
 
-  pub table-answer : tableWords ≤ length room → (k : ℕ) → k ≡ tableWords → Length k ≡ stored t room .answer
-  table-answer = stored-answer (wordsOf t) tableWords (words-length t) room (stored t room) is-table
+  pub table-answer : tableWords ≤ length memory → (k : ℕ) → k ≡ tableWords → Length k ≡ stored t memory .answer
+  table-answer = stored-answer (wordsOf t) tableWords (words-length t) memory (stored t memory) is-table
 
-  pub table-memory : tableWords ≤ length room → (e : List ℕ) (r : ℕ) → Put room 0 (wordsOf t) e r → e ≡ stored t room .buffer
-  table-memory = stored-memory (wordsOf t) tableWords (words-length t) room (stored t room) is-table
+  pub table-memory : tableWords ≤ length memory → (e : List ℕ) (r : ℕ) → Placed memory 0 (wordsOf t) e r → e ≡ stored t memory .buffer
+  table-memory h = stored-memory (wordsOf t) tableWords (words-length t) memory (stored t memory) is-table h (omega (arith, words-length t))
 
 -- an attribute row
-module _ (x : AttributeRow) (room : List ℕ) where
-  is-row : storedRow x room ≡ outcome (attributeWords x) attributeWidth refl room
+module _ (x : AttributeRow) (memory : List ℕ) where
+  is-row : storedRow x memory ≡ outcome (attributeWords x) attributeWidth refl memory
   unfolding storedRow
   is-row = refl
 
-  pub few-for-row : length room < attributeWidth → storedRow x room ≡ refusal noRoom room
-  few-for-row = too-few (attributeWords x) attributeWidth refl room (storedRow x room) is-row
+  pub few-for-row : length memory < attributeWidth → storedRow x memory ≡ refusal shortBuffer memory
+  few-for-row = too-few (attributeWords x) attributeWidth refl memory (storedRow x memory) is-row
 
-  pub row-answer : attributeWidth ≤ length room → (k : ℕ) → k ≡ attributeWidth → Length k ≡ storedRow x room .answer
-  row-answer = stored-answer (attributeWords x) attributeWidth refl room (storedRow x room) is-row
+  pub row-answer : attributeWidth ≤ length memory → (k : ℕ) → k ≡ attributeWidth → Length k ≡ storedRow x memory .answer
+  row-answer = stored-answer (attributeWords x) attributeWidth refl memory (storedRow x memory) is-row
 
-  pub row-memory : attributeWidth ≤ length room → (e : List ℕ) (r : ℕ) → Put room 0 (attributeWords x) e r → e ≡ storedRow x room .buffer
-  row-memory = stored-memory (attributeWords x) attributeWidth refl room (storedRow x room) is-row
+  pub row-memory : attributeWidth ≤ length memory → (e : List ℕ) (r : ℕ) → Placed memory 0 (attributeWords x) e r → e ≡ storedRow x memory .buffer
+  row-memory h = stored-memory (attributeWords x) attributeWidth refl memory (storedRow x memory) is-row h (omega arith)

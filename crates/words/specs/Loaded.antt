@@ -6,22 +6,26 @@ use lib.Dec.{ltb, eqb}
 use lib.ListN.{getD}
 use Rattle.der.specs.Choice.{if_then_else_}
 use Rattle.pkcs12.specs.Numbers.{safeRows, bagRows, attributeRows}
-use Rattle.pkcs12.specs.Table.{range, parts, safeRow, noSafe, bagRow, noBag, attributeRow, noAttribute, macFields, padded, table}
-use Rattle.pkcs12.specs.Placed.{each}
-use Rattle.pkcs12.specs.declared.Range.{Range}
-use Rattle.pkcs12.specs.declared.Parts.{Parts}
-use Rattle.pkcs12.specs.declared.SafeKind.{SafeKind}
-use Rattle.pkcs12.specs.declared.SafeKind.the-variants.{Plain, Encrypted}
-use Rattle.pkcs12.specs.declared.BagKind.{BagKind}
-use Rattle.pkcs12.specs.declared.BagKind.the-variants.{Key, ShroudedKey, Certificate, Crl, Secret, Nested}
-use Rattle.pkcs12.specs.declared.Enclosing.{Enclosing}
-use Rattle.pkcs12.specs.declared.Enclosing.the-variants.{Bag}
-use Rattle.pkcs12.specs.declared.SafeRow.{SafeRow}
-use Rattle.pkcs12.specs.declared.BagRow.{BagRow}
-use Rattle.pkcs12.specs.declared.AttributeRow.{AttributeRow}
-use Rattle.pkcs12.specs.declared.Mac.{Mac}
-use Rattle.pkcs12.specs.declared.Table.{Table}
-use Rattle.words.specs.Layout.{rangeWidth, partsWidth, safeWidth, bagWidth, attributeWidth, elementsAt, safeCountAt, bagCountAt, attributeCountAt, macInputAt, macFieldsAt, safesAt, bagsAt, attributesAt, greatestNumber}
+use Rattle.buffer.specs.Range.{range}
+use Rattle.pkcs12.specs.Table.{parts, safeRow, noSafe, bagRow, noBag, attributeRow, noAttribute, macFields, padded}
+use Rattle.pkcs12.specs.Table.{table}
+use Rattle.buffer.specs.Placed.{each}
+use Rattle.buffer.specs.declared.Range.{Range}
+use Rattle.pkcs12.specs.declared.row.Parts.{Parts}
+use Rattle.pkcs12.specs.declared.kind.SafeKind.{SafeKind}
+use Rattle.pkcs12.specs.declared.kind.SafeKind.the-variants.{Plain, Encrypted}
+use Rattle.pkcs12.specs.declared.kind.BagKind.{BagKind}
+use Rattle.pkcs12.specs.declared.kind.BagKind.the-variants.{Key, ShroudedKey, Certificate, Crl, Secret, Nested}
+use Rattle.pkcs12.specs.declared.row.Enclosing.{Enclosing}
+use Rattle.pkcs12.specs.declared.row.Enclosing.the-variants.{Bag}
+use Rattle.pkcs12.specs.declared.row.SafeRow.{SafeRow}
+use Rattle.pkcs12.specs.declared.row.BagRow.{BagRow}
+use Rattle.pkcs12.specs.declared.row.AttributeRow.{AttributeRow}
+use Rattle.pkcs12.specs.declared.row.Mac.{Mac}
+use Rattle.pkcs12.specs.declared.table.Table.{Table}
+use Rattle.words.specs.Layout.{rangeWidth, partsWidth, safeWidth, bagWidth, attributeWidth, elementsAt}
+use Rattle.words.specs.Layout.{safeCountAt, bagCountAt, attributeCountAt, macInputAt, macFieldsAt, safesAt}
+use Rattle.words.specs.Layout.{bagsAt, attributesAt, greatestNumber}
 
 abbrev pub wordAt : List ℕ → ℕ → ℕ
 wordAt ws i = getD ws i 0
@@ -61,39 +65,40 @@ setOf w = if eqb w 0 then false else true
 
 -- ---- what stands at a place
 
-unfoldable pub rangeAt : List ℕ → ℕ → Range
-rangeAt ws at = rangeOf (wordAt ws at) (wordAt ws (at + 1))
+unfoldable pub rangeLoaded : List ℕ → ℕ → Range
+rangeLoaded ws at = rangeOf (wordAt ws at) (wordAt ws (at + 1))
 
-unfoldable pub partsAt : List ℕ → ℕ → Parts
-partsAt ws at = parts (rangeAt ws at) (rangeAt ws (at + rangeWidth)) (rangeAt ws (at + 2 * rangeWidth))
+unfoldable pub partsLoaded : List ℕ → ℕ → Parts
+partsLoaded ws at = parts (rangeLoaded ws at) (rangeLoaded ws (at + rangeWidth)) (rangeLoaded ws (at + 2 * rangeWidth))
 
-unfoldable pub safeAt : List ℕ → ℕ → SafeRow
-safeAt ws at = safeRow (safeKindOf (wordAt ws at)) (partsAt ws (at + 1))
+unfoldable pub safeLoaded : List ℕ → ℕ → SafeRow
+safeLoaded ws at = safeRow (safeKindOf (wordAt ws at)) (partsLoaded ws (at + 1))
 
-unfoldable pub bagAt : List ℕ → ℕ → BagRow
-bagAt ws at =
-    bagRow (bagKindOf (wordAt ws at)) (numberOf (wordAt ws (at + 1))) (enclosingOf (wordAt ws (at + 2))) (partsAt ws (at + 3))
+unfoldable pub bagLoaded : List ℕ → ℕ → BagRow
+bagLoaded ws at =
+    bagRow (bagKindOf (wordAt ws at)) (numberOf (wordAt ws (at + 1))) (enclosingOf (wordAt ws (at + 2))) (partsLoaded ws (at + 3))
     (setOf (wordAt ws (at + (3 + partsWidth))))
 
-unfoldable pub attributeAt : List ℕ → ℕ → AttributeRow
-attributeAt ws at = attributeRow (numberOf (wordAt ws at)) (rangeAt ws (at + 1)) (rangeAt ws (at + (1 + rangeWidth)))
+unfoldable pub attributeLoaded : List ℕ → ℕ → AttributeRow
+attributeLoaded ws at = attributeRow (numberOf (wordAt ws at)) (rangeLoaded ws (at + 1)) (rangeLoaded ws (at + (1 + rangeWidth)))
 
-unfoldable pub macAt : List ℕ → ℕ → Mac
-macAt ws at = macFields (partsAt ws at) (rangeAt ws (at + partsWidth)) (wordAt ws (at + (partsWidth + rangeWidth)))
+unfoldable pub macLoaded : List ℕ → ℕ → Mac
+macLoaded ws at = macFields (partsLoaded ws at) (rangeLoaded ws (at + partsWidth)) (wordAt ws (at + (partsWidth + rangeWidth)))
 
 -- ---- all of it
 
 -- row i of each kind
 abbrev pub safeFrom : List ℕ → ℕ → SafeRow
-safeFrom ws i = safeAt ws (safesAt + i * safeWidth)
+safeFrom ws i = safeLoaded ws (safesAt + i * safeWidth)
 
 abbrev pub bagFrom : List ℕ → ℕ → BagRow
-bagFrom ws i = bagAt ws (bagsAt + i * bagWidth)
+bagFrom ws i = bagLoaded ws (bagsAt + i * bagWidth)
 
 abbrev pub attributeFrom : List ℕ → ℕ → AttributeRow
-attributeFrom ws i = attributeAt ws (attributesAt + i * attributeWidth)
+attributeFrom ws i = attributeLoaded ws (attributesAt + i * attributeWidth)
 
--- the rows of one kind: those that are counted and that there are, and empty ones in place of the others
+-- the rows of one kind: those that are counted and that there are, and empty ones in place of the
+-- others
 unfoldable pub rowsFrom : {A : Type 0} → (ℕ → A) → A → ℕ → ℕ → List A
 rowsFrom f none rows count = padded rows none (each (λ i. f i ∷ []) (min count rows))
 
@@ -106,6 +111,6 @@ tableIn ws =
     (wordAt ws bagCountAt)
     (rowsFrom (attributeFrom ws) noAttribute attributeRows (wordAt ws attributeCountAt))
     (wordAt ws attributeCountAt)
-    (macAt ws macFieldsAt)
-    (rangeAt ws macInputAt)
+    (macLoaded ws macFieldsAt)
+    (rangeLoaded ws macInputAt)
     (wordAt ws elementsAt)

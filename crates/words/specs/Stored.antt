@@ -5,27 +5,29 @@ use Prim.Native.Nat.{ℕ, _+_, _-_, _*_, min}
 use lib.Dec.{ltb}
 use lib.ListN.{length, getD, replicate}
 use Rattle.der.specs.Choice.{if_then_else_}
-use Rattle.pkcs12.specs.Numbers.{safeRows, bagRows, attributeRows, noRoom}
+use Rattle.pkcs12.specs.Numbers.{safeRows, bagRows, attributeRows}
+use Rattle.buffer.specs.Numbers.{shortBuffer}
 use Rattle.pkcs12.specs.Table.{noSafe, noBag, noAttribute}
-use Rattle.pkcs12.specs.Placed.{each}
-use Rattle.pkcs12.specs.Written.{Outcome, refusal, success}
-use Rattle.pkcs12.specs.declared.Range.{Range}
-use Rattle.pkcs12.specs.declared.Parts.{Parts}
-use Rattle.pkcs12.specs.declared.SafeKind.{SafeKind}
-use Rattle.pkcs12.specs.declared.SafeKind.the-variants.{Plain, Encrypted}
-use Rattle.pkcs12.specs.declared.BagKind.{BagKind}
-use Rattle.pkcs12.specs.declared.BagKind.the-variants.{Key, ShroudedKey, Certificate, Crl, Secret, Nested}
-use Rattle.pkcs12.specs.declared.Enclosing.{Enclosing}
-use Rattle.pkcs12.specs.declared.Enclosing.the-variants.{Bag}
-use Rattle.pkcs12.specs.declared.SafeRow.{SafeRow}
-use Rattle.pkcs12.specs.declared.BagRow.{BagRow}
-use Rattle.pkcs12.specs.declared.AttributeRow.{AttributeRow}
-use Rattle.pkcs12.specs.declared.Mac.{Mac}
-use Rattle.pkcs12.specs.declared.Table.{Table}
+use Rattle.buffer.specs.Placed.{each}
+use Rattle.buffer.specs.Written.{Outcome, refusal, success}
+use Rattle.buffer.specs.declared.Range.{Range}
+use Rattle.pkcs12.specs.declared.row.Parts.{Parts}
+use Rattle.pkcs12.specs.declared.kind.SafeKind.{SafeKind}
+use Rattle.pkcs12.specs.declared.kind.SafeKind.the-variants.{Plain, Encrypted}
+use Rattle.pkcs12.specs.declared.kind.BagKind.{BagKind}
+use Rattle.pkcs12.specs.declared.kind.BagKind.the-variants.{Key, ShroudedKey, Certificate, Crl, Secret, Nested}
+use Rattle.pkcs12.specs.declared.row.Enclosing.{Enclosing}
+use Rattle.pkcs12.specs.declared.row.Enclosing.the-variants.{Bag}
+use Rattle.pkcs12.specs.declared.row.SafeRow.{SafeRow}
+use Rattle.pkcs12.specs.declared.row.BagRow.{BagRow}
+use Rattle.pkcs12.specs.declared.row.AttributeRow.{AttributeRow}
+use Rattle.pkcs12.specs.declared.row.Mac.{Mac}
+use Rattle.pkcs12.specs.declared.table.Table.{Table}
 use Rattle.words.specs.Layout.{safeWidth, bagWidth, attributeWidth, tableWords, greatestWord}
 -- the words of these are the values that they report
-pub use Rattle.pkcs12.specs.Report.{bagNumber, rangeValues as rangeWords, partsValues as partsWords}
-pub use Rattle.pkcs12.specs.Report.{attributeValues as attributeWords, macValues as macWords}
+pub use Rattle.pkcs12.specs.Report.{bagNumber, partsValues as partsWords, attributeValues as attributeWords}
+pub use Rattle.pkcs12.specs.Report.{macValues as macWords}
+pub use Rattle.buffer.specs.Report.{rangeValues as rangeWords}
 
 -- a count that doesn't fit a word is the greatest word
 abbrev pub countWord : ℕ → ℕ
@@ -79,8 +81,8 @@ wordsOf t =
 
 -- the answer, and the memory afterwards
 unfoldable pub stored : Table → List ℕ → Outcome
-stored t memory = if ltb (length memory) tableWords then refusal noRoom memory else success (wordsOf t) memory
+stored t memory = if ltb (length memory) tableWords then refusal shortBuffer memory else success (wordsOf t) memory
 
 -- one attribute row by itself
 unfoldable pub storedRow : AttributeRow → List ℕ → Outcome
-storedRow r memory = if ltb (length memory) attributeWidth then refusal noRoom memory else success (attributeWords r) memory
+storedRow r memory = if ltb (length memory) attributeWidth then refusal shortBuffer memory else success (attributeWords r) memory

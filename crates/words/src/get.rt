@@ -3,15 +3,19 @@ ghost use mathlib.Core.Path.{_≡_};
 ghost use Prim.Native.Nat.{_+_, _≤_};
 ghost use Rattle.pkcs12.specs.Numbers.{safeRows, bagRows, attributeRows};
 ghost use Rattle.pkcs12.specs.Table.{noSafe, noBag, noAttribute};
-ghost use Rattle.words.specs.Layout.{rangeWidth, partsWidth, safeWidth, bagWidth, attributeWidth, macWidth, tableWords};
-ghost use Rattle.words.specs.Loaded.{wordAt, numberOf, enclosingOf, safeKindOf, bagKindOf, setOf, rangeAt, partsAt, safeAt, bagAt, attributeAt, macAt, safeFrom, bagFrom, attributeFrom, rowsFrom};
+ghost use Rattle.words.specs.Layout.{rangeWidth, partsWidth, safeWidth, bagWidth, attributeWidth, macWidth};
+ghost use Rattle.words.specs.Layout.{tableWords};
+ghost use Rattle.words.specs.Loaded.{wordAt, numberOf, enclosingOf, safeKindOf, bagKindOf, setOf, rangeLoaded};
+ghost use Rattle.words.specs.Loaded.{partsLoaded, safeLoaded, bagLoaded, attributeLoaded, macLoaded, safeFrom};
+ghost use Rattle.words.specs.Loaded.{bagFrom};
+ghost use Rattle.words.specs.Loaded.{attributeFrom, rowsFrom};
+use buffer::Range;
 use pkcs12::AttributeRow;
 use pkcs12::BagKind;
 use pkcs12::BagRow;
 use pkcs12::Enclosing;
 use pkcs12::Mac;
 use pkcs12::Parts;
-use pkcs12::Range;
 use pkcs12::SafeKind;
 use pkcs12::SafeRow;
 
@@ -91,7 +95,7 @@ fn set_of(w: u32) -> bool
 
 pub(crate) fn range(words: &[u32], at: usize) -> Range
     requires { ⌜ at + rangeWidth ≤ tableWords ⌝ }
-    ensures { λ r. ⌜ r ≡ rangeAt (now (words .entry)) at ⌝ }
+    ensures { λ r. ⌜ r ≡ rangeLoaded (now (words .entry)) at ⌝ }
 {
     let start = word(words, at);
     let end = word(words, at + 1);
@@ -100,7 +104,7 @@ pub(crate) fn range(words: &[u32], at: usize) -> Range
 
 fn parts(words: &[u32], at: usize) -> Parts
     requires { ⌜ at + partsWidth ≤ tableWords ⌝ }
-    ensures { λ r. ⌜ r ≡ partsAt (now (words .entry)) at ⌝ }
+    ensures { λ r. ⌜ r ≡ partsLoaded (now (words .entry)) at ⌝ }
 {
     let identifier = range(words, at);
     let parameters = range(words, at + crate::RANGE_WIDTH);
@@ -114,7 +118,7 @@ fn parts(words: &[u32], at: usize) -> Parts
 
 fn safe(words: &[u32], at: usize) -> SafeRow
     requires { ⌜ at + safeWidth ≤ tableWords ⌝ }
-    ensures { λ r. ⌜ r ≡ safeAt (now (words .entry)) at ⌝ }
+    ensures { λ r. ⌜ r ≡ safeLoaded (now (words .entry)) at ⌝ }
 {
     let kind = safe_kind_of(word(words, at));
     let parts = parts(words, at + 1);
@@ -123,7 +127,7 @@ fn safe(words: &[u32], at: usize) -> SafeRow
 
 fn bag(words: &[u32], at: usize) -> BagRow
     requires { ⌜ at + bagWidth ≤ tableWords ⌝ }
-    ensures { λ r. ⌜ r ≡ bagAt (now (words .entry)) at ⌝ }
+    ensures { λ r. ⌜ r ≡ bagLoaded (now (words .entry)) at ⌝ }
 {
     let kind = bag_kind_of(word(words, at));
     let safe = number_of(word(words, at + 1));
@@ -141,7 +145,7 @@ fn bag(words: &[u32], at: usize) -> BagRow
 
 fn attribute(words: &[u32], at: usize) -> AttributeRow
     requires { ⌜ at + attributeWidth ≤ tableWords ⌝ }
-    ensures { λ r. ⌜ r ≡ attributeAt (now (words .entry)) at ⌝ }
+    ensures { λ r. ⌜ r ≡ attributeLoaded (now (words .entry)) at ⌝ }
 {
     let bag = number_of(word(words, at));
     let identifier = range(words, at + 1);
@@ -155,7 +159,7 @@ fn attribute(words: &[u32], at: usize) -> AttributeRow
 
 pub(crate) fn mac(words: &[u32], at: usize) -> Mac
     requires { ⌜ at + macWidth ≤ tableWords ⌝ }
-    ensures { λ r. ⌜ r ≡ macAt (now (words .entry)) at ⌝ }
+    ensures { λ r. ⌜ r ≡ macLoaded (now (words .entry)) at ⌝ }
 {
     let parts = parts(words, at);
     let salt = range(words, at + crate::PARTS_WIDTH);
@@ -171,7 +175,7 @@ pub(crate) fn mac(words: &[u32], at: usize) -> Mac
 pub(crate) fn safes(words: &[u32], count: usize) -> [SafeRow; pkcs12::SAFE_ROWS]
     ensures { λ r. ⌜ r ≡ rowsFrom (safeFrom (now (words .entry))) noSafe safeRows count ⌝ }
 {
-    let end = pkcs12::fewer(count, pkcs12::SAFE_ROWS);
+    let end = buffer::fewer(count, pkcs12::SAFE_ROWS);
     let mut rows = [SafeRow::EMPTY; pkcs12::SAFE_ROWS];
     let mut i: usize = 0;
     while i < end {
@@ -185,7 +189,7 @@ pub(crate) fn safes(words: &[u32], count: usize) -> [SafeRow; pkcs12::SAFE_ROWS]
 pub(crate) fn bags(words: &[u32], count: usize) -> [BagRow; pkcs12::BAG_ROWS]
     ensures { λ r. ⌜ r ≡ rowsFrom (bagFrom (now (words .entry))) noBag bagRows count ⌝ }
 {
-    let end = pkcs12::fewer(count, pkcs12::BAG_ROWS);
+    let end = buffer::fewer(count, pkcs12::BAG_ROWS);
     let mut rows = [BagRow::EMPTY; pkcs12::BAG_ROWS];
     let mut i: usize = 0;
     while i < end {
@@ -199,7 +203,7 @@ pub(crate) fn bags(words: &[u32], count: usize) -> [BagRow; pkcs12::BAG_ROWS]
 pub(crate) fn attributes(words: &[u32], count: usize) -> [AttributeRow; pkcs12::ATTRIBUTE_ROWS]
     ensures { λ r. ⌜ r ≡ rowsFrom (attributeFrom (now (words .entry))) noAttribute attributeRows count ⌝ }
 {
-    let end = pkcs12::fewer(count, pkcs12::ATTRIBUTE_ROWS);
+    let end = buffer::fewer(count, pkcs12::ATTRIBUTE_ROWS);
     let mut rows = [AttributeRow::EMPTY; pkcs12::ATTRIBUTE_ROWS];
     let mut i: usize = 0;
     while i < end {

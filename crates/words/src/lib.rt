@@ -1,20 +1,21 @@
-// A table as plain words in a caller's memory, and back. The words are those of `struct p12_table` in include/p12.h.
+// A table as plain words in a caller's memory, and back. The words are those of `struct p12_table`
+// in include/p12.h.
 ghost use mathlib.Core.Path.{_≡_};
 ghost use Rattle.der.specs.Element.{fault};
-ghost use Rattle.pkcs12.specs.Numbers.{noRoom};
-ghost use Rattle.pkcs12.specs.Report.{writtenReport};
-ghost use Rattle.pkcs12.specs.declared.Written.{Written};
+ghost use Rattle.buffer.specs.Numbers.{shortBuffer};
+ghost use Rattle.buffer.specs.Report.{writtenReport};
+ghost use Rattle.buffer.specs.declared.Written.{Written};
 ghost use Rattle.words.specs.Stored.{stored, storedRow};
 ghost use Rattle.words.specs.Loaded.{rangeOf, tableIn};
 
 mod get;
 mod put;
 
+use buffer::Range;
+use buffer::Written;
 use der::Fault;
 use pkcs12::AttributeRow;
-use pkcs12::Range;
 use pkcs12::Table;
-use pkcs12::Written;
 
 // How many words each part of a table takes.
 pub const RANGE_WIDTH: usize = 2;
@@ -78,15 +79,16 @@ pub fn range_of(start: u32, end: u32) -> Range
 }
 
 fn too_few() -> Written
-    ensures { λ r. ⌜ r ≡ Written.Refused (fault noRoom 0) ⌝ }
+    ensures { λ r. ⌜ r ≡ Written.Refused (fault shortBuffer 0) ⌝ }
 {
     Written::Refused(Fault {
-        number: pkcs12::NO_ROOM,
+        number: buffer::SHORT_BUFFER,
         offset: 0,
     })
 }
 
-// Stores a table as words at the front of the memory, and gives their number; 10 if there are fewer.
+// Stores a table as words at the front of the memory, and gives their number; 10 if there are
+// fewer.
 pub fn store(table: Table, out: &mut [u32]) -> Written
     ensures { λ r. ⌜ r ≡ stored table (now (out .entry)) .answer ⌝ }
     ensures { λ r. ⌜ writtenReport r ≡ writtenReport (stored table (now (out .entry)) .answer) ⌝ }

@@ -1,17 +1,20 @@
-// Words into a lent memory, at a place; the answer is the place behind them. Where there is no room nothing is promised: the room is tested once,
-// before anything is stored.
+// Words into a lent memory, at an offset in words; the answer is the offset behind them. What lies
+// past the end of the memory is not stored, but counted.
 ghost use mathlib.Core.Path.{_≡_};
 ghost use mathlib.Core.List.{[], _∷_};
 ghost use lib.ListN.{replicate};
-ghost use Rattle.words.specs.Stored.{countWord, safeNumber, bagNumber, enclosingNumber, setNumber, rangeWords, partsWords, safeWords, bagWords, attributeWords, macWords, countWords, headWords, safesWords, bagsWords, attributesWords, wordsOf};
-ghost use Rattle.words.specs.Put.{Put};
+ghost use Rattle.words.specs.Stored.{countWord, safeNumber, bagNumber, enclosingNumber, setNumber, rangeWords};
+ghost use Rattle.words.specs.Stored.{partsWords, safeWords, bagWords, attributeWords, macWords, countWords};
+ghost use Rattle.words.specs.Stored.{headWords, safesWords, bagsWords, attributesWords, wordsOf};
+ghost use Rattle.buffer.specs.Placed.{Placed};
+use buffer::Range;
+use buffer::write;
 use pkcs12::AttributeRow;
 use pkcs12::BagKind;
 use pkcs12::BagRow;
 use pkcs12::Enclosing;
 use pkcs12::Mac;
 use pkcs12::Parts;
-use pkcs12::Range;
 use pkcs12::SafeKind;
 use pkcs12::SafeRow;
 use pkcs12::Table;
@@ -20,7 +23,7 @@ use pkcs12::Table;
 fn count_word(n: usize) -> u32
     ensures { λ r. ⌜ r ≡ countWord n ⌝ }
 {
-    let fits = pkcs12::fewer(n, crate::GREATEST_WORD);
+    let fits = buffer::fewer(n, crate::GREATEST_WORD);
     fits as u32
 }
 
@@ -70,10 +73,10 @@ fn set_number(has_set: bool) -> u32
 }
 
 fn word(out: &mut [u32], at: usize, w: u32) -> usize
-    ensures { λ r. ⌜ Put (now (out .entry)) at (w ∷ []) (now (out .exit)) r ⌝ }
+    ensures { λ r. ⌜ Placed (now (out .entry)) at (w ∷ []) (now (out .exit)) r ⌝ }
 {
     if out.len() <= at {
-        return at;
+        return write::after(at, 1);
     }
     out[at] = w;
     at + 1
@@ -81,27 +84,25 @@ fn word(out: &mut [u32], at: usize, w: u32) -> usize
 
 // The word 0, n times.
 fn zeros(out: &mut [u32], at: usize, n: usize) -> usize
-    ensures { λ r. ⌜ Put (now (out .entry)) at (replicate n 0) (now (out .exit)) r ⌝ }
+    ensures { λ r. ⌜ Placed (now (out .entry)) at (replicate n 0) (now (out .exit)) r ⌝ }
 {
     let size = out.len();
-    if size < at {
-        return at;
+    if size <= at {
+        return write::after(at, n);
     }
     let left = size - at;
-    if left < n {
-        return at;
-    }
+    let count = buffer::fewer(n, left);
     let mut i: usize = 0;
-    while i < n {
+    while i < count {
         let to = at + i;
         out[to] = 0;
         i = i + 1;
     }
-    at + n
+    write::after(at, n)
 }
 
 fn range(out: &mut [u32], at: usize, range: Range) -> usize
-    ensures { λ r. ⌜ Put (now (out .entry)) at (rangeWords range) (now (out .exit)) r ⌝ }
+    ensures { λ r. ⌜ Placed (now (out .entry)) at (rangeWords range) (now (out .exit)) r ⌝ }
 {
     let start = range.start as u32;
     let end = range.end as u32;
@@ -110,7 +111,7 @@ fn range(out: &mut [u32], at: usize, range: Range) -> usize
 }
 
 fn parts(out: &mut [u32], at: usize, parts: Parts) -> usize
-    ensures { λ r. ⌜ Put (now (out .entry)) at (partsWords parts) (now (out .exit)) r ⌝ }
+    ensures { λ r. ⌜ Placed (now (out .entry)) at (partsWords parts) (now (out .exit)) r ⌝ }
 {
     let second = range(out, at, parts.identifier);
     let third = range(out, second, parts.parameters);
@@ -118,7 +119,7 @@ fn parts(out: &mut [u32], at: usize, parts: Parts) -> usize
 }
 
 fn safe(out: &mut [u32], at: usize, row: SafeRow) -> usize
-    ensures { λ r. ⌜ Put (now (out .entry)) at (safeWords row) (now (out .exit)) r ⌝ }
+    ensures { λ r. ⌜ Placed (now (out .entry)) at (safeWords row) (now (out .exit)) r ⌝ }
 {
     let kind = row.kind;
     let number = safe_number(kind);
@@ -128,7 +129,7 @@ fn safe(out: &mut [u32], at: usize, row: SafeRow) -> usize
 
 // What stands before the parts of a bag.
 fn bag_head(out: &mut [u32], at: usize, kind: BagKind, safe: u16, enclosing: Enclosing) -> usize
-    ensures { λ r. ⌜ Put (now (out .entry)) at (bagNumber kind ∷ safe ∷ enclosingNumber enclosing ∷ []) (now (out .exit)) r ⌝ }
+    ensures { λ r. ⌜ Placed (now (out .entry)) at (bagNumber kind ∷ safe ∷ enclosingNumber enclosing ∷ []) (now (out .exit)) r ⌝ }
 {
     let number = bag_number(kind);
     let wide = safe as u32;
@@ -139,7 +140,7 @@ fn bag_head(out: &mut [u32], at: usize, kind: BagKind, safe: u16, enclosing: Enc
 }
 
 fn bag(out: &mut [u32], at: usize, row: BagRow) -> usize
-    ensures { λ r. ⌜ Put (now (out .entry)) at (bagWords row) (now (out .exit)) r ⌝ }
+    ensures { λ r. ⌜ Placed (now (out .entry)) at (bagWords row) (now (out .exit)) r ⌝ }
 {
     let kind = row.kind;
     let enclosing = row.enclosing;
@@ -150,7 +151,7 @@ fn bag(out: &mut [u32], at: usize, row: BagRow) -> usize
 }
 
 pub(crate) fn attribute(out: &mut [u32], at: usize, row: AttributeRow) -> usize
-    ensures { λ r. ⌜ Put (now (out .entry)) at (attributeWords row) (now (out .exit)) r ⌝ }
+    ensures { λ r. ⌜ Placed (now (out .entry)) at (attributeWords row) (now (out .exit)) r ⌝ }
 {
     let bag = row.bag as u32;
     let second = word(out, at, bag);
@@ -166,7 +167,7 @@ fn counts(
     bags: usize,
     attributes: usize,
 ) -> usize
-    ensures { λ r. ⌜ Put (now (out .entry)) at (countWords elements safes bags attributes) (now (out .exit)) r ⌝ }
+    ensures { λ r. ⌜ Placed (now (out .entry)) at (countWords elements safes bags attributes) (now (out .exit)) r ⌝ }
 {
     let second = word(out, at, count_word(elements));
     let third = word(out, second, count_word(safes));
@@ -175,7 +176,7 @@ fn counts(
 }
 
 fn mac(out: &mut [u32], at: usize, mac: Mac) -> usize
-    ensures { λ r. ⌜ Put (now (out .entry)) at (macWords mac) (now (out .exit)) r ⌝ }
+    ensures { λ r. ⌜ Placed (now (out .entry)) at (macWords mac) (now (out .exit)) r ⌝ }
 {
     let salt = parts(out, at, mac.parts);
     let iterations = range(out, salt, mac.salt);
@@ -184,7 +185,7 @@ fn mac(out: &mut [u32], at: usize, mac: Mac) -> usize
 
 // What stands before the rows.
 fn head(out: &mut [u32], at: usize, table: Table) -> usize
-    ensures { λ r. ⌜ Put (now (out .entry)) at (headWords table) (now (out .exit)) r ⌝ }
+    ensures { λ r. ⌜ Placed (now (out .entry)) at (headWords table) (now (out .exit)) r ⌝ }
 {
     let input = counts(
         out,
@@ -199,9 +200,9 @@ fn head(out: &mut [u32], at: usize, table: Table) -> usize
 }
 
 fn safes(out: &mut [u32], at: usize, rows: [SafeRow; pkcs12::SAFE_ROWS], count: usize) -> usize
-    ensures { λ r. ⌜ Put (now (out .entry)) at (safesWords rows count) (now (out .exit)) r ⌝ }
+    ensures { λ r. ⌜ Placed (now (out .entry)) at (safesWords rows count) (now (out .exit)) r ⌝ }
 {
-    let end = pkcs12::fewer(count, pkcs12::SAFE_ROWS);
+    let end = buffer::fewer(count, pkcs12::SAFE_ROWS);
     let mut to = at;
     let mut i: usize = 0;
     while i < end {
@@ -214,9 +215,9 @@ fn safes(out: &mut [u32], at: usize, rows: [SafeRow; pkcs12::SAFE_ROWS], count: 
 }
 
 fn bags(out: &mut [u32], at: usize, rows: [BagRow; pkcs12::BAG_ROWS], count: usize) -> usize
-    ensures { λ r. ⌜ Put (now (out .entry)) at (bagsWords rows count) (now (out .exit)) r ⌝ }
+    ensures { λ r. ⌜ Placed (now (out .entry)) at (bagsWords rows count) (now (out .exit)) r ⌝ }
 {
-    let end = pkcs12::fewer(count, pkcs12::BAG_ROWS);
+    let end = buffer::fewer(count, pkcs12::BAG_ROWS);
     let mut to = at;
     let mut i: usize = 0;
     while i < end {
@@ -234,9 +235,9 @@ fn attributes(
     rows: [AttributeRow; pkcs12::ATTRIBUTE_ROWS],
     count: usize,
 ) -> usize
-    ensures { λ r. ⌜ Put (now (out .entry)) at (attributesWords rows count) (now (out .exit)) r ⌝ }
+    ensures { λ r. ⌜ Placed (now (out .entry)) at (attributesWords rows count) (now (out .exit)) r ⌝ }
 {
-    let end = pkcs12::fewer(count, pkcs12::ATTRIBUTE_ROWS);
+    let end = buffer::fewer(count, pkcs12::ATTRIBUTE_ROWS);
     let mut to = at;
     let mut i: usize = 0;
     while i < end {
@@ -250,7 +251,7 @@ fn attributes(
 
 // The whole table, at the front.
 pub(crate) fn all(out: &mut [u32], table: Table) -> usize
-    ensures { λ r. ⌜ Put (now (out .entry)) 0 (wordsOf table) (now (out .exit)) r ⌝ }
+    ensures { λ r. ⌜ Placed (now (out .entry)) 0 (wordsOf table) (now (out .exit)) r ⌝ }
 {
     let first = head(out, 0, table);
     let safe_rows = table.safes;

@@ -1,64 +1,52 @@
--- Elements of a file, each behind its header: what stands before the content of a bag, of a ContentInfo and of data, and the whole.
+-- Elements of a file, each behind its header: what stands before the content of a bag, of a
+-- ContentInfo and of data, and the whole.
 use mathlib.Core.Path.{_≡_, refl, sym, ap, _∙_}
 use mathlib.Core.List.{List, _++_, append-assoc}
 use Prim.Native.Nat.{ℕ, _+_, _≤_}
 use native.Mathlib.Omega.{arith}
-use lib.ListN.{length, drop}
-use Rattle.pkcs12.proofs.Placing.{placed-whole}
-use Rattle.der.specs.Octets.{tlv}
-use Rattle.der.specs.Numbers.{octetStringTag}
-use Rattle.pkcs12.specs.Numbers.{fileBytes, sequenceTag, contextTag, pfxVersion}
+use lib.ListN.{length}
+use Rattle.der.specs.Octets.{tlv, integer, identifier, sequence, octetString}
+use Rattle.der.specs.Numbers.{octetStringTag, sequenceTag, contextTag}
+use Rattle.buffer.specs.Numbers.{fileBytes}
+use Rattle.pkcs12.specs.Numbers.{pfxVersion}
 use Rattle.pkcs12.specs.Identifiers.{dataType, encryptedType, identifierOf}
 use Rattle.pkcs12.specs.Syntax.{Sealed, Set, encrypted, Pfx}
-use Rattle.pkcs12.specs.Encode.{integer, identifier, sequence, octetString, contentInfo, dataBytes, setBytes, bagBytes, safeBytes, safesBytes, macBytes, encode}
-use Rattle.pkcs12.specs.declared.Parts.{Parts}
-use Rattle.pkcs12.specs.declared.BagKind.{BagKind}
+use Rattle.pkcs12.specs.Encode.{contentInfo, dataBytes, setBytes, bagBytes, safeBytes, safesBytes, macBytes, encode}
+use Rattle.pkcs12.specs.declared.row.Parts.{Parts}
+use Rattle.pkcs12.specs.declared.kind.BagKind.{BagKind}
 use Rattle.sizes.specs.Bodies.{contentOf, encryptedDataBody, macBody}
 use Rattle.sizes.specs.Picked.{formOf}
-use Rattle.sizes.specs.Sizes.{capped, elementSize, bagSize, contentInfoSize, dataSize, pfxSize}
+use Rattle.sizes.specs.Sizes.{bagSize, contentInfoSize, dataSize, pfxSize}
+use Rattle.encode.specs.Sizes.{capped, elementSize}
 use Rattle.sizes.specs.declared.rows.Form.{Form}
-use Rattle.sizes.proofs.Capped.{Near, Sized, near-cases, near-told, near-is, near-then, near-pfx, capped-small, element-more, sized-told, sized-element, length-element}
-use Rattle.sizes.proofs.Lengths.{bag-body-long, length-bag, info-body-long, length-info, length-data, pfx-body-long, data-type-long, encrypted-type-long}
-use Rattle.writer.specs.Put.{Put, header, bagHead, infoHead, dataHead}
-use Rattle.writer.proofs.Puts.{put-then, put-as, put-element}
+use Rattle.encode.proofs.Capped.{Near, Sized, near-cases, near-told, near-is, near-then, capped-small, element-more}
+use Rattle.encode.proofs.Capped.{sized-told, sized-element, length-element}
+use Rattle.sizes.proofs.Nears.{near-pfx}
+use Rattle.sizes.proofs.Lengths.{bag-body-long, length-bag, info-body-long, length-info, length-data, pfx-body-long}
+use Rattle.sizes.proofs.Lengths.{data-type-long, encrypted-type-long}
+use Rattle.buffer.specs.Placed.{Placed, Put, Short}
+use Rattle.buffer.proofs.Placing.{_then_, put-as, sure}
+use Rattle.encode.specs.Header.{header}
+use Rattle.writer.specs.Heads.{bagHead, infoHead, dataHead}
+use Rattle.writer.proofs.Puts.{short-then, if-short, near-small, put-element}
 
--- the body behind a header whose size was told
-pub put-sized : (d : List ℕ) (at t n : ℕ) (m : List ℕ) (p : ℕ) (b e : List ℕ) (r : ℕ)
-    → (n ≤ fileBytes → Put d at (header t n) m p) → n ≡ capped (length b) → Put m p b e r → Put d at (tlv t b) e r
-put-sized d at t n m p b e r f s g = put-element d at t n m p b e r f (sized-told n b s) g
+-- a SEQUENCE's header with an identifier and the header of [0] behind it; the SEQUENCE has N bytes
+head-put : (c : ℕ) {N n : ℕ} {id d : List ℕ} {at : ℕ} {m : List ℕ} {p : ℕ} {m2 : List ℕ} {p2 : ℕ} {e : List ℕ} {r : ℕ} → n ≡ capped N
+    → Placed d at (header sequenceTag n) m p → Placed m p id m2 p2 → Placed m2 p2 (header contextTag c) e r
+    → N ≤ fileBytes → Placed d at (header sequenceTag N ++ (id ++ header contextTag c)) e r
+head-put c {N} s f g h k = (rw (s ∙ capped-small N k) at f) then (g then h)
 
-pub put-counted : (d : List ℕ) (at t n : ℕ) (m : List ℕ) (p : ℕ) (b e : List ℕ) (r : ℕ)
-    → (n ≤ fileBytes → Put d at (header t n) m p) → n ≡ length b → Put m p b e r → Put d at (tlv t b) e r
-put-counted d at t n m p b e r f s g = put-element d at t n m p b e r f (near-is n (length b) s) g
+pub bag-head-put : (k : BagKind) (c q n : ℕ) (d : List ℕ) (at : ℕ) (m : List ℕ) (p : ℕ) (m2 : List ℕ) (p2 : ℕ) (e : List ℕ) (r : ℕ)
+    → n ≡ capped (bagSize c q) → Placed d at (header sequenceTag n) m p → Placed m p (identifier (identifierOf k)) m2 p2
+    → Placed m2 p2 (header contextTag c) e r → bagSize c q ≤ fileBytes → Placed d at (bagHead k c q) e r
+unfolding bagHead
+bag-head-put k c q n d at m p m2 p2 e r s f g h = head-put c s f g h
 
--- it is enough to write what is no more than a file has
-pub if-small : (d : List ℕ) (at : ℕ) (x e : List ℕ) (r : ℕ) → (length x ≤ fileBytes → Put d at x e r) → Put d at x e r
-if-small d at x e r f = record { done = λ h. f (h .small) .done h }
-
--- a number that is near a small one is that one
-pub near-small : (a b : ℕ) → Near a b → b ≤ fileBytes → a ≡ b
-near-small a b n h = near-cases a b n (λ e. e) (λ u v. absurd (omega (arith, v, h)))
-
--- a SEQUENCE's header with an identifier and the header of [0] behind it; the SEQUENCE has N bytes, and [0] has c
-head-put : (N n c : ℕ) (id d : List ℕ) (at : ℕ) (m : List ℕ) (p : ℕ) (m2 : List ℕ) (p2 : ℕ) (e : List ℕ) (r : ℕ) → n ≡ capped N → c ≤ N
-    → (n ≤ fileBytes → Put d at (header sequenceTag n) m p) → Put m p id m2 p2 → (c ≤ fileBytes → Put m2 p2 (header contextTag c) e r)
-    → N ≤ fileBytes → Put d at (header sequenceTag N ++ (id ++ header contextTag c)) e r
-head-put N n c id d at m p m2 p2 e r s l f g h k =
-    let z : n ≡ N = s ∙ capped-small N k in
-    put-then d at (header sequenceTag N) m p (id ++ header contextTag c) e r (rw z at (f (omega (arith, z, k))))
-    (put-then m p id m2 p2 (header contextTag c) e r g (h (omega (arith, l, k))))
-
-pub bag-head-put : (k : BagKind) (c q n : ℕ) (d : List ℕ) (at : ℕ) (m : List ℕ) (p : ℕ) (m2 : List ℕ) (p2 : ℕ) (e : List ℕ) (r : ℕ) → n ≡ capped (bagSize c q)
-    → (n ≤ fileBytes → Put d at (header sequenceTag n) m p) → Put m p (identifier (identifierOf k)) m2 p2 → (c ≤ fileBytes → Put m2 p2 (header contextTag c) e r)
-    → bagSize c q ≤ fileBytes → Put d at (bagHead k c q) e r
-unfolding bagHead bagSize
-bag-head-put k c q n d at m p m2 p2 e r s f g h = head-put (13 + (elementSize c + q)) n c (identifier (identifierOf k)) d at m p m2 p2 e r s (omega (arith, element-more c)) f g h
-
-pub info-head-put : (type : List ℕ) (c n : ℕ) (d : List ℕ) (at : ℕ) (m : List ℕ) (p : ℕ) (m2 : List ℕ) (p2 : ℕ) (e : List ℕ) (r : ℕ) → n ≡ capped (contentInfoSize c)
-    → (n ≤ fileBytes → Put d at (header sequenceTag n) m p) → Put m p (identifier type) m2 p2 → (c ≤ fileBytes → Put m2 p2 (header contextTag c) e r)
-    → contentInfoSize c ≤ fileBytes → Put d at (infoHead type c) e r
-unfolding infoHead contentInfoSize
-info-head-put type c n d at m p m2 p2 e r s f g h = head-put (11 + elementSize c) n c (identifier type) d at m p m2 p2 e r s (omega (arith, element-more c)) f g h
+pub info-head-put : (type : List ℕ) (c n : ℕ) (d : List ℕ) (at : ℕ) (m : List ℕ) (p : ℕ) (m2 : List ℕ) (p2 : ℕ) (e : List ℕ) (r : ℕ)
+    → n ≡ capped (contentInfoSize c) → Placed d at (header sequenceTag n) m p → Placed m p (identifier type) m2 p2
+    → Placed m2 p2 (header contextTag c) e r → contentInfoSize c ≤ fileBytes → Placed d at (infoHead type c) e r
+unfolding infoHead
+info-head-put type c n d at m p m2 p2 e r s f g h = head-put c s f g h
 
 info-above : (n : ℕ) → n ≤ contentInfoSize n
 unfolding contentInfoSize
@@ -66,18 +54,19 @@ info-above n = omega (arith, element-more n)
 
 pub data-head-put : (type : List ℕ) (n string content : ℕ) (d : List ℕ) (at : ℕ) (m : List ℕ) (p : ℕ) (m2 : List ℕ) (p2 : ℕ) (e : List ℕ) (r : ℕ)
     → string ≡ capped (elementSize n) → content ≡ capped (elementSize string)
-    → (contentInfoSize content ≤ fileBytes → Put d at (infoHead type content) m p) → (string ≤ fileBytes → Put m p (header octetStringTag string) m2 p2)
-    → (n ≤ fileBytes → Put m2 p2 (header sequenceTag n) e r) → dataSize n ≤ fileBytes → Put d at (dataHead type n) e r
+    → (contentInfoSize content ≤ fileBytes → Placed d at (infoHead type content) m p)
+    → Placed m p (header octetStringTag string) m2 p2 → Placed m2 p2 (header sequenceTag n) e r
+    → dataSize n ≤ fileBytes → Placed d at (dataHead type n) e r
 unfolding dataHead dataSize
 data-head-put type n string content d at m p m2 p2 e r s c f g h k =
-    let a : elementSize (elementSize n) ≤ fileBytes = omega (arith, info-above (elementSize (elementSize n)), k) in
+    let N : ℕ = elementSize (elementSize n) in
+    let a : N ≤ fileBytes = omega (arith, info-above N, k) in
     let b : elementSize n ≤ fileBytes = omega (arith, element-more (elementSize n), a) in
     let y : string ≡ elementSize n = s ∙ capped-small (elementSize n) b in
-    let z : content ≡ elementSize (elementSize n) = c ∙ ap (λ (x : ℕ). capped (elementSize x)) y ∙ capped-small _ a in
-    let F : contentInfoSize (elementSize (elementSize n)) ≤ fileBytes → Put d at (infoHead type (elementSize (elementSize n))) m p = rw z at f in
-    let G : elementSize n ≤ fileBytes → Put m p (header octetStringTag (elementSize n)) m2 p2 = rw y at g in
-    put-then d at (infoHead type (elementSize (elementSize n))) m p (header octetStringTag (elementSize n) ++ header sequenceTag n) e r (F k)
-    (put-then m p (header octetStringTag (elementSize n)) m2 p2 (header sequenceTag n) e r (G b) (h (omega (arith, element-more n, b))))
+    let z : content ≡ N = c ∙ ap (λ (x : ℕ). capped (elementSize x)) y ∙ capped-small _ a in
+    let F : contentInfoSize N ≤ fileBytes → Placed d at (infoHead type N) m p = rw z at f in
+    let G : Placed m p (header octetStringTag (elementSize n)) m2 p2 = rw y at g in
+    F k then (G then h)
 
 data-above : (n : ℕ) → n ≤ dataSize n
 unfolding dataSize
@@ -86,10 +75,10 @@ data-above n = omega (arith, info-above (elementSize (elementSize n)), element-m
 -- ---- by the kind of a bag
 
 module _ (k j : BagKind) (h : k ≡ j) (d : List ℕ) (at : ℕ) (e : List ℕ) (r : ℕ) where
-  pub id-of : Put d at (identifier (identifierOf j)) e r → Put d at (identifier (identifierOf k)) e r
+  pub id-of : Placed d at (identifier (identifierOf j)) e r → Placed d at (identifier (identifierOf k)) e r
   id-of f = rw h f
 
-  pub content-of : (s : List ℕ) (p : Parts) → Put d at (contentOf s j p) e r → Put d at (contentOf s k p) e r
+  pub content-of : (s : List ℕ) (p : Parts) → Put Short d at (contentOf s j p) e r → Put Short d at (contentOf s k p) e r
   content-of s p f = rw h f
 
 -- ---- a bag, by its head, its content and its set
@@ -114,20 +103,21 @@ bag-parts k content set h =
       append-assoc id (header contextTag (length content)) (content ++ setBytes set),
     ) refl
 
-pub bag-put : (k : BagKind) (content : List ℕ) (set : Set) (c q : ℕ) (d : List ℕ) (at : ℕ) (m : List ℕ) (p : ℕ) (m2 : List ℕ) (p2 : ℕ) (e : List ℕ) (r : ℕ)
-    → (formOf k ≡ Form.None → ⊥) → Sized c content → Sized q (setBytes set) → (bagSize c q ≤ fileBytes → Put d at (bagHead k c q) m p)
-    → Put m p content m2 p2 → Put m2 p2 (setBytes set) e r → Put d at (bagBytes k content set) e r
+pub bag-put : (k : BagKind) (content : List ℕ) (set : Set) (c q : ℕ) {d : List ℕ} {at : ℕ} {m : List ℕ} {p : ℕ} {m2 : List ℕ} {p2 : ℕ} {e : List ℕ} {r : ℕ}
+    → (formOf k ≡ Form.None → ⊥) → Sized c content → Sized q (setBytes set)
+    → (bagSize c q ≤ fileBytes → Placed d at (bagHead k c q) m p) → Put Short m p content m2 p2
+    → Put Short m2 p2 (setBytes set) e r → Put Short d at (bagBytes k content set) e r
 unfolding bagSize
-bag-put k content set c q d at m p m2 p2 e r h s v f g w =
-    if-small d at (bagBytes k content set) e r (λ small.
-    let l = length-bag k content set h in
-    let N : ℕ = 13 + (elementSize (length content) + length (setBytes set)) in
-    let a : N ≤ fileBytes = omega (arith, small, l, element-more N) in
-    let x : c ≡ length content = near-small c (length content) s (omega (arith, a, element-more (length content))) in
-    let y : q ≡ length (setBytes set) = near-small q (length (setBytes set)) v (omega (arith, a)) in
-    let F : bagSize (length content) (length (setBytes set)) ≤ fileBytes → Put d at (bagHead k (length content) (length (setBytes set))) m p = rw (x, y) at f in
-    put-as d at (bagHead k (length content) (length (setBytes set)) ++ (content ++ setBytes set)) (bagBytes k content set) e r (sym (bag-parts k content set h))
-    (put-then d at (bagHead k (length content) (length (setBytes set))) m p (content ++ setBytes set) e r (F a) (put-then m p content m2 p2 (setBytes set) e r g w)))
+bag-put k content set c q {d} {at} {m} {p} h s v f g w =
+    if-short (λ small.
+    let C : ℕ = length content in
+    let Q : ℕ = length (setBytes set) in
+    let N : ℕ = 13 + (elementSize C + Q) in
+    let a : N ≤ fileBytes = omega (arith, small, length-bag k content set h, element-more N) in
+    let x : c ≡ C = near-small c C s (omega (arith, a, element-more C)) in
+    let y : q ≡ Q = near-small q Q v (omega (arith, a)) in
+    let F : bagSize C Q ≤ fileBytes → Placed d at (bagHead k C Q) m p = rw (x, y) at f in
+    put-as (sym (bag-parts k content set h)) (short-then (sure (F a)) (short-then g w)))
 
 -- ---- a ContentInfo, by its head and its content
 
@@ -143,24 +133,25 @@ info-parts type content h =
       append-assoc id (header contextTag (length content)) content,
     ) refl
 
-pub info-put : (type content : List ℕ) (c : ℕ) (d : List ℕ) (at : ℕ) (m : List ℕ) (p : ℕ) (e : List ℕ) (r : ℕ) → length (identifier type) ≡ 11 → Sized c content
-    → (contentInfoSize c ≤ fileBytes → Put d at (infoHead type c) m p) → Put m p content e r → Put d at (contentInfo type content) e r
-info-put type content c d at m p e r h s f g =
-    if-small d at (contentInfo type content) e r (λ small.
-    let l = length-info type content h in
-    let a : contentInfoSize (length content) ≤ fileBytes = omega (arith, small, l, element-more (contentInfoSize (length content))) in
-    let x : c ≡ length content = near-small c (length content) s (omega (arith, a, info-above (length content))) in
-    let F : contentInfoSize (length content) ≤ fileBytes → Put d at (infoHead type (length content)) m p = rw x at f in
-    put-as d at (infoHead type (length content) ++ content) (contentInfo type content) e r (sym (info-parts type content h))
-    (put-then d at (infoHead type (length content)) m p content e r (F a) g))
+pub info-put : (type content : List ℕ) (c : ℕ) {d : List ℕ} {at : ℕ} {m : List ℕ} {p : ℕ} {e : List ℕ} {r : ℕ}
+    → length (identifier type) ≡ 11 → Sized c content → (contentInfoSize c ≤ fileBytes → Placed d at (infoHead type c) m p)
+    → Put Short m p content e r → Put Short d at (contentInfo type content) e r
+info-put type content c {d} {at} {m} {p} h s f g =
+    if-short (λ small.
+    let C : ℕ = length content in
+    let a : contentInfoSize C ≤ fileBytes = omega (arith, small, length-info type content h, element-more (contentInfoSize C)) in
+    let x : c ≡ C = near-small c C s (omega (arith, a, info-above C)) in
+    let F : contentInfoSize C ≤ fileBytes → Placed d at (infoHead type C) m p = rw x at f in
+    put-as (sym (info-parts type content h)) (short-then (sure (F a)) g))
 
 -- an encrypted safe
-pub encrypted-put : (x : Sealed) (size content : ℕ) (d : List ℕ) (at : ℕ) (m : List ℕ) (p : ℕ) (e : List ℕ) (r : ℕ)
-    → size ≡ capped (length (encryptedDataBody x)) → content ≡ capped (elementSize size) → (contentInfoSize content ≤ fileBytes → Put d at (infoHead encryptedType content) m p)
-    → Put m p (sequence (encryptedDataBody x)) e r → Put d at (safeBytes (encrypted x)) e r
+pub encrypted-put : (x : Sealed) (size content : ℕ) {d : List ℕ} {at : ℕ} {m : List ℕ} {p : ℕ} {e : List ℕ} {r : ℕ}
+    → size ≡ capped (length (encryptedDataBody x)) → content ≡ capped (elementSize size)
+    → (contentInfoSize content ≤ fileBytes → Placed d at (infoHead encryptedType content) m p)
+    → Put Short m p (sequence (encryptedDataBody x)) e r → Put Short d at (safeBytes (encrypted x)) e r
 unfolding safeBytes encryptedDataBody
-encrypted-put x size content d at m p e r s c f g =
-    info-put encryptedType (sequence (encryptedDataBody x)) content d at m p e r encrypted-type-long
+encrypted-put x size content s c f g =
+    info-put encryptedType (sequence (encryptedDataBody x)) content encrypted-type-long
     (sized-element content size sequenceTag (encryptedDataBody x) c (sized-told size (encryptedDataBody x) s)) f g
 
 -- ---- data, by its head and the elements of its SEQUENCE
@@ -180,32 +171,27 @@ data-parts x =
       append-assoc (header octetStringTag (elementSize n)) (header sequenceTag n) x,
     ) refl
 
-pub data-put : (x : List ℕ) (n : ℕ) (d : List ℕ) (at : ℕ) (m : List ℕ) (p : ℕ) (e : List ℕ) (r : ℕ) → Sized n x
-    → (dataSize n ≤ fileBytes → Put d at (dataHead dataType n) m p) → Put m p x e r → Put d at (dataBytes x) e r
-data-put x n d at m p e r s f g =
-    if-small d at (dataBytes x) e r (λ small.
+pub data-put : (x : List ℕ) (n : ℕ) {d : List ℕ} {at : ℕ} {m : List ℕ} {p : ℕ} {e : List ℕ} {r : ℕ} → Sized n x
+    → (dataSize n ≤ fileBytes → Placed d at (dataHead dataType n) m p) → Put Short m p x e r → Put Short d at (dataBytes x) e r
+data-put x n {d} {at} {m} {p} s f g =
+    if-short (λ small.
     let a : dataSize (length x) ≤ fileBytes = omega (arith, small, length-data x, element-more (dataSize (length x))) in
     let y : n ≡ length x = near-small n (length x) s (omega (arith, a, data-above (length x))) in
-    let F : dataSize (length x) ≤ fileBytes → Put d at (dataHead dataType (length x)) m p = rw y at f in
-    put-as d at (dataHead dataType (length x) ++ x) (dataBytes x) e r (sym (data-parts x)) (put-then d at (dataHead dataType (length x)) m p x e r (F a) g))
+    let F : dataSize (length x) ≤ fileBytes → Placed d at (dataHead dataType (length x)) m p = rw y at f in
+    put-as (sym (data-parts x)) (short-then (sure (F a)) g))
 
 -- ---- the file
 
-pub file-put : (x : Pfx) (n mac size : ℕ) (d : List ℕ) (at : ℕ) (m : List ℕ) (p : ℕ) (m2 : List ℕ) (p2 : ℕ) (m3 : List ℕ) (p3 : ℕ) (m4 : List ℕ) (p4 : ℕ) (e : List ℕ) (r : ℕ)
+pub file-put : (x : Pfx) (n mac size : ℕ) {d : List ℕ} {at : ℕ} {m : List ℕ} {p : ℕ} {m2 : List ℕ} {p2 : ℕ}
+    {m3 : List ℕ} {p3 : ℕ} {m4 : List ℕ} {p4 : ℕ} {e : List ℕ} {r : ℕ}
     → Sized n (safesBytes (x .safes)) → Sized mac (macBody (x .mac)) → size ≡ capped (pfxSize n mac)
-    → (size ≤ fileBytes → Put d at (header sequenceTag size) m p) → Put m p (integer pfxVersion) m2 p2
-    → (dataSize n ≤ fileBytes → Put m2 p2 (dataHead dataType n) m3 p3) → Put m3 p3 (safesBytes (x .safes)) m4 p4 → Put m4 p4 (macBytes (x .mac)) e r
-    → Put d at (encode x) e r
+    → Placed d at (header sequenceTag size) m p → Placed m p (integer pfxVersion) m2 p2
+    → (dataSize n ≤ fileBytes → Placed m2 p2 (dataHead dataType n) m3 p3) → Put Short m3 p3 (safesBytes (x .safes)) m4 p4
+    → Put Short m4 p4 (macBytes (x .mac)) e r → Put Short d at (encode x) e r
 unfolding encode
-file-put x n mac size d at m p m2 p2 m3 p3 m4 p4 e r s v z f g h k w =
+file-put x n mac size s v z f g h k w =
     let safes : List ℕ = safesBytes (x .safes) in
-    let rest : List ℕ = dataBytes safes ++ macBytes (x .mac) in
-    put-element d at sequenceTag size m p (integer pfxVersion ++ rest) e r f
-    (near-then _ _ _ (near-told size _ z) (near-then _ _ _ (near-pfx n mac (length safes) (length (macBody (x .mac))) s v) (near-is _ _ (sym (pfx-body-long x)))))
-    (put-then m p (integer pfxVersion) m2 p2 rest e r g
-    (put-then m2 p2 (dataBytes safes) m4 p4 (macBytes (x .mac)) e r (data-put safes n m2 p2 m3 p3 m4 p4 s h k) w))
-
--- the file at the front of a buffer with room for it
-pub whole-put : (d f e : List ℕ) (r : ℕ) → Put d 0 f e r → length f ≤ length d → length f ≤ fileBytes → e ≡ f ++ drop (length f) d
-whole-put d f e r p h k =
-    placed-whole d f e r (p .done (record { inside = omega (arith, h); small = k })) h
+    put-element _ f
+    (near-then _ _ _ (near-told size _ z)
+    (near-then _ _ _ (near-pfx n mac (length safes) (length (macBody (x .mac))) s v) (near-is _ _ (sym (pfx-body-long x)))))
+    (short-then (sure g) (short-then (data-put safes n s h k) w))

@@ -10,25 +10,26 @@ use lib.Dec.{eqb}
 use lib.ListN.{length}
 use borrow.Author.Tests.{lt-ltb, le-ltb}
 use Rattle.der.specs.Choice.{if_then_else_}
-use Rattle.pkcs12.specs.Numbers.{fileBytes, tooLong, noRoom, notSound}
+use Rattle.buffer.specs.Numbers.{fileBytes, tooLong, shortBuffer, notSound}
 use Rattle.pkcs12.specs.Syntax.{Pfx}
 use Rattle.pkcs12.specs.Encode.{encode}
 use Rattle.pkcs12.specs.Checks.{keepsRules}
 use Rattle.pkcs12.specs.Table.{readingOf}
-use Rattle.pkcs12.specs.Written.{writtenAs, fileOf, onFile, Outcome, refusal, success, writeFile}
-use Rattle.pkcs12.specs.declared.Table.{Table}
-use Rattle.pkcs12.specs.declared.Written.the-variants.{Length}
-use Rattle.sizes.specs.Picked.{safesAt}
-use Rattle.sizes.specs.Sizes.{capped}
-use Rattle.sizes.proofs.Capped.{capped-told, by-size}
+use Rattle.pkcs12.specs.Written.{writtenAs, fileOf, onFile, writeFile}
+use Rattle.buffer.specs.Written.{Outcome, refusal, success}
+use Rattle.pkcs12.specs.declared.table.Table.{Table}
+use Rattle.buffer.specs.declared.Written.the-variants.{Length}
+use Rattle.sizes.specs.Picked.{safesPicked}
+use Rattle.encode.specs.Sizes.{capped}
+use Rattle.encode.proofs.Capped.{capped-told, by-size}
 use Rattle.sizes.proofs.Reading.{CountsFit, reading-law}
 use Rattle.sound.specs.Measured.{measured}
 use Rattle.sound.specs.declared.Measured.{Measured}
 use Rattle.sound.specs.declared.Measured.the-variants.{Unsound, Size}
 use Rattle.sound.proofs.Whole.{Arrays, fits}
-use Rattle.writer.specs.Put.{Put}
+use Rattle.buffer.specs.Placed.{Put, Short}
 use Rattle.writer.specs.Rows.{readingAt}
-use Rattle.writer.proofs.Elements.{whole-put}
+use Rattle.writer.proofs.Puts.{whole-put}
 
 some-same : {A : Type 0} (x y : A) → some x ≡ some y → x ≡ y
 some-same x y e = cc
@@ -43,7 +44,9 @@ behind false b c x y e = cc
 reading-is : (t : Table) (s : List ℕ) → CountsFit t → (x : Pfx) → readingOf t s ≡ some x → x ≡ readingAt t s
 unfolding readingAt
 reading-is t s f x e =
-    sym (behind (eqb (safesAt t s 0 0 0 .safe) (t .«safe_count»)) (eqb (safesAt t s 0 0 0 .bag) (t .«bag_count»)) (eqb (safesAt t s 0 0 0 .attribute) (t .«attribute_count»)) _ x
+    sym (behind (eqb (safesPicked t s 0 0 0 .safe) (t .«safe_count»))
+    (eqb (safesPicked t s 0 0 0 .bag) (t .«bag_count»))
+    (eqb (safesPicked t s 0 0 0 .attribute) (t .«attribute_count»)) _ x
     (sym (reading-law t s f) ∙ e))
 
 -- the file of a table is what is written
@@ -77,7 +80,7 @@ tells Unsound (some f) e = (let z : _≡_ {A = ℕ} 0 1 = cc in absurd (omega ar
 tells (Size n) option.none e = (let z : _≡_ {A = ℕ} 0 1 = cc in absurd (omega arith))
 tells (Size n) (some f) e = size-same n (capped (length f)) e
 
-module _ (t : Table) (s room : List ℕ) (r : Measured) (p : r ≡ measured t s) where
+module _ (t : Table) (s buffer : List ℕ) (r : Measured) (p : r ≡ measured t s) where
   no-file : r ≡ Unsound → fileOf t s ≡ option.none
   unfolding measured
   no-file e = go (fileOf t s) (tells Unsound (fileOf t s) (sym e ∙ p))
@@ -94,12 +97,12 @@ module _ (t : Table) (s room : List ℕ) (r : Measured) (p : r ≡ measured t s)
       go option.none h = absurd h
       go (some f) h = (f, refl, h)
 
-  pub refused-unsound : r ≡ Unsound → writeFile t s room ≡ refusal notSound room
+  pub refused-unsound : r ≡ Unsound → writeFile t s buffer ≡ refusal notSound buffer
   unfolding writeFile
   refused-unsound e = rw (no-file e) refl
 
   module _ (n : ℕ) (e : r ≡ Size n) where
-    pub refused-long : fileBytes < n → writeFile t s room ≡ refusal tooLong room
+    pub refused-long : fileBytes < n → writeFile t s buffer ≡ refusal tooLong buffer
     unfolding writeFile
     refused-long h =
         let a = a-file n e in
@@ -110,24 +113,24 @@ module _ (t : Table) (s room : List ℕ) (r : Measured) (p : r ≡ measured t s)
       size-is : length (a-file n e .0) ≡ n
       size-is = let a = a-file n e in sym (a .2 ∙ capped-told (length (a .0)) (omega (arith, h, a .2)))
 
-      pub refused-room : length room < n → writeFile t s room ≡ refusal noRoom room
+      pub refused-short : length buffer < n → writeFile t s buffer ≡ refusal shortBuffer buffer
       unfolding writeFile
-      refused-room k =
+      refused-short k =
           let a = a-file n e in
-          rw (a .1, le-ltb fileBytes (length (a .0)) (omega (arith, h, size-is)), lt-ltb (length room) (length (a .0)) (omega (arith, k, size-is))) refl
+          rw (a .1, le-ltb fileBytes (length (a .0)) (omega (arith, h, size-is)), lt-ltb (length buffer) (length (a .0)) (omega (arith, k, size-is))) refl
 
-      module _ (k : n ≤ length room) where
-        written : writeFile t s room ≡ success (a-file n e .0) room
+      module _ (k : n ≤ length buffer) where
+        written : writeFile t s buffer ≡ success (a-file n e .0) buffer
         unfolding writeFile
         written =
             let a = a-file n e in
-            rw (a .1, le-ltb fileBytes (length (a .0)) (omega (arith, h, size-is)), le-ltb (length room) (length (a .0)) (omega (arith, k, size-is))) refl
+            rw (a .1, le-ltb fileBytes (length (a .0)) (omega (arith, h, size-is)), le-ltb (length buffer) (length (a .0)) (omega (arith, k, size-is))) refl
 
-        pub written-answer : Length n ≡ writeFile t s room .answer
+        pub written-answer : Length n ≡ writeFile t s buffer .answer
         written-answer = ap Length (sym size-is) ∙ sym (ap (λ (o : Outcome). o .answer) written)
 
-        pub written-buffer : Arrays t → (z : List ℕ) (at : ℕ) → Put room 0 (encode (readingAt t s)) z at → z ≡ writeFile t s room .buffer
+        pub written-buffer : Arrays t → (z : List ℕ) (at : ℕ) → Put Short buffer 0 (encode (readingAt t s)) z at → z ≡ writeFile t s buffer .buffer
         written-buffer a z at w =
             let f : List ℕ = a-file n e .0 in
-            whole-put room f z at (rw (file-at t s f a (a-file n e .1)) at w) (omega (arith, k, size-is)) (omega (arith, h, size-is))
+            whole-put (rw (file-at t s f a (a-file n e .1)) at w) (omega (arith, k, size-is)) (omega (arith, h, size-is))
             ∙ sym (ap (λ (o : Outcome). o .buffer) written)

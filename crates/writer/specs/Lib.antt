@@ -1,3 +1,3 @@
 -- What writing does to the buffer.
-pub mod Put
+pub mod Heads
 pub mod Rows

@@ -8,18 +8,18 @@ use Prim.Native.Nat.{ℕ, _+_}
 use Rattle.pkcs12.specs.Syntax.{none, Pfx}
 use Rattle.pkcs12.specs.Encode.{setBytes, bagBytes, bagsBytes, safeBytes}
 use Rattle.pkcs12.specs.Table.{macShown}
-use Rattle.pkcs12.specs.declared.SafeKind.{SafeKind}
-use Rattle.pkcs12.specs.declared.SafeKind.the-variants.{Plain, Encrypted}
-use Rattle.pkcs12.specs.declared.BagRow.{BagRow}
-use Rattle.pkcs12.specs.declared.Table.{Table}
+use Rattle.pkcs12.specs.declared.kind.SafeKind.{SafeKind}
+use Rattle.pkcs12.specs.declared.kind.SafeKind.the-variants.{Plain, Encrypted}
+use Rattle.pkcs12.specs.declared.row.BagRow.{BagRow}
+use Rattle.pkcs12.specs.declared.table.Table.{Table}
 use Rattle.sizes.specs.Bodies.{contentOf}
-use Rattle.sizes.specs.Picked.{SetPicked, Picked, OnePicked, SafePicked, setAt, safesAt}
-use Rattle.writer.specs.Put.{Put}
+use Rattle.sizes.specs.Picked.{SetPicked, Picked, OnePicked, SafePicked, setPicked, safesPicked}
+use Rattle.buffer.specs.Placed.{Put, Short}
 use Rattle.writer.specs.declared.rows.SetEnd.{SetEnd}
 use Rattle.writer.specs.declared.rows.RowsEnd.{RowsEnd}
 
 pub record SetPut (d : List ℕ) (at : ℕ) (p : SetPicked) (e : List ℕ) (r : SetEnd) : Type 0 where
-  pub put : Put d at (setBytes (p .set)) e (r .at)
+  pub put : Put Short d at (setBytes (p .set)) e (r .at)
   pub next : r .next ≡ p .next
 
 -- bytes, and the rows behind those that they are written from
@@ -29,7 +29,7 @@ pub record Part : Type 0 where
   pub attribute : ℕ
 
 pub record RowsPut (d : List ℕ) (at : ℕ) (p : Part) (e : List ℕ) (r : RowsEnd) : Type 0 where
-  pub put : Put d at (p .bytes) e (r .at)
+  pub put : Put Short d at (p .bytes) e (r .at)
   pub bag : r .bag ≡ p .bag
   pub attribute : r .attribute ≡ p .attribute
 
@@ -39,7 +39,7 @@ noPart n m = record { bytes = []; bag = n; attribute = m }
 -- bag n, from its row
 unfoldable pub leafPart : Table → List ℕ → BagRow → ℕ → ℕ → Part
 leafPart t s r n m =
-    let set = setAt t s (r .«has_set») n m in
+    let set = setPicked t s (r .«has_set») n m in
     record { bytes = bagBytes (r .kind) (contentOf s (r .kind) (r .parts)) (set .set); bag = n + 1; attribute = set .next }
 
 unfoldable pub onePart : Option OnePicked → ℕ → ℕ → Part
@@ -60,4 +60,4 @@ isEmptySafe Encrypted = false
 
 -- the reading that the rows show if they stand in order
 unfoldable pub readingAt : Table → List ℕ → Pfx
-readingAt t s = record { safes = safesAt t s 0 0 0 .safes; mac = macShown s (t .mac) }
+readingAt t s = record { safes = safesPicked t s 0 0 0 .safes; mac = macShown s (t .mac) }

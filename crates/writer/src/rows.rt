@@ -1,17 +1,20 @@
-// Safes, safe contents, bags and their attributes, front to back, by the rows of the table. The sizes of a level are computed before it is written.
+// Safes, safe contents, bags and their attributes, front to back, by the rows of the table. The
+// sizes of a level are computed before it is written.
 ghost use mathlib.Core.Path.{_≡_};
 ghost use Prim.Native.Nat.{_<_};
 ghost use lib.ListN.{length, getD};
 ghost use Rattle.pkcs12.specs.Numbers.{bagRows};
 ghost use Rattle.pkcs12.specs.Encode.{safesBytes, encode};
 ghost use Rattle.pkcs12.specs.Table.{noSafe, noBag};
-ghost use Rattle.sizes.specs.Picked.{formOf, setAt, bagAt, bagsAt, safeAt, safesAt};
-ghost use Rattle.sizes.specs.Sizes.{capped, setBody};
+ghost use Rattle.sizes.specs.Picked.{formOf, setPicked, bagPicked, bagsPicked, safePicked, safesPicked};
+ghost use Rattle.sizes.specs.Sizes.{setBody};
+ghost use Rattle.encode.specs.Sizes.{capped};
 ghost use Rattle.sizes.specs.declared.rows.Form.{Form};
-ghost use Rattle.writer.specs.Put.{Put};
-ghost use Rattle.writer.specs.Rows.{SetPut, RowsPut, leafPart, onePart, bagsPart, safePart, readingAt, isEmptySafe};
-use crate::out;
+ghost use Rattle.buffer.specs.Placed.{Put, Short};
+ghost use Rattle.writer.specs.Rows.{SetPut, RowsPut, leafPart, onePart, bagsPart, safePart, readingAt};
+ghost use Rattle.writer.specs.Rows.{isEmptySafe};
 use crate::parts;
+use encode::write;
 use pkcs12::BagRow;
 use pkcs12::Enclosing;
 use pkcs12::SafeKind;
@@ -43,14 +46,14 @@ fn set(
     from: usize,
     body: usize,
 ) -> SetEnd
-    requires { ⌜ body ≡ capped (length (setBody (setAt table (now bytes) «has_set» bag from .set))) ⌝ }
-    ensures { λ r. ⌜ SetPut (now (out .entry)) at (setAt table (now (bytes .entry)) «has_set» bag from) (now (out .exit)) r ⌝ }
+    requires { ⌜ body ≡ capped (length (setBody (setPicked table (now bytes) «has_set» bag from .set))) ⌝ }
+    ensures { λ r. ⌜ SetPut (now (out .entry)) at (setPicked table (now (bytes .entry)) «has_set» bag from) (now (out .exit)) r ⌝ }
 {
     if !has_set {
         return SetEnd { at, next: from };
     }
-    let end = pkcs12::fewer(table.attribute_count, pkcs12::ATTRIBUTE_ROWS);
-    let mut to = out::header(out, at, pkcs12::SET, body);
+    let end = buffer::fewer(table.attribute_count, pkcs12::ATTRIBUTE_ROWS);
+    let mut to = write::header(out, at, der::SET, body);
     let mut next = from;
     while next < end {
         let row = table.attributes[next];
@@ -93,7 +96,8 @@ fn leaf(
     }
 }
 
-// Bag n in a safe, with all that it encloses. Where the row is no bag, or no level is left for it, nothing is written.
+// Bag n in a safe, with all that it encloses. Where the row is no bag, or no level is left for it,
+// nothing is written.
 fn bag(
     out: &mut [u8],
     at: usize,
@@ -106,7 +110,7 @@ fn bag(
     level: u8,
 ) -> RowsEnd
     requires { ⌜ (n < bagRows) × (row ≡ getD (table .bags) n noBag) ⌝ }
-    ensures { λ r. ⌜ RowsPut (now (out .entry)) at (onePart (bagAt table (now (bytes .entry)) level safe n from) n from) (now (out .exit)) r ⌝ }
+    ensures { λ r. ⌜ RowsPut (now (out .entry)) at (onePart (bagPicked table (now (bytes .entry)) level safe n from) n from) (now (out .exit)) r ⌝ }
 {
     let kind = row.kind;
     match sizes::rows::form_of(kind) {
@@ -137,10 +141,10 @@ fn bag(
                 from,
                 below,
             );
-            let content = sizes::element(inner.size);
+            let content = encode::size::element(inner.size);
             let owned = sizes::rows::set(table, bytes, has_set, n, inner.attribute);
             let head = parts::bag_head(out, at, kind, content, owned.size);
-            let body = out::header(out, head, pkcs12::SEQUENCE, inner.size);
+            let body = write::header(out, head, der::SEQUENCE, inner.size);
             let all = bags(
                 out,
                 body,
@@ -183,9 +187,9 @@ fn bags(
     from: usize,
     level: u8,
 ) -> RowsEnd
-    ensures { λ r. ⌜ RowsPut (now (out .entry)) at (bagsPart (bagsAt table (now (bytes .entry)) level safe enclosing first from)) (now (out .exit)) r ⌝ }
+    ensures { λ r. ⌜ RowsPut (now (out .entry)) at (bagsPart (bagsPicked table (now (bytes .entry)) level safe enclosing first from)) (now (out .exit)) r ⌝ }
 {
-    let end = pkcs12::fewer(table.bag_count, pkcs12::BAG_ROWS);
+    let end = buffer::fewer(table.bag_count, pkcs12::BAG_ROWS);
     let mut so_far = RowsEnd {
         at,
         bag: first,
@@ -237,7 +241,7 @@ fn safe(
     from: usize,
 ) -> RowsEnd
     requires { ⌜ row ≡ getD (table .safes) k noSafe ⌝ }
-    ensures { λ r. ⌜ RowsPut (now (out .entry)) at (safePart (safeAt table (now (bytes .entry)) k first from) first from) (now (out .exit)) r ⌝ }
+    ensures { λ r. ⌜ RowsPut (now (out .entry)) at (safePart (safePicked table (now (bytes .entry)) k first from) first from) (now (out .exit)) r ⌝ }
 {
     let kind = row.kind;
     match kind {
@@ -283,9 +287,9 @@ fn safe(
 
 // The safes, from the first row of each kind on.
 fn safes(out: &mut [u8], at: usize, table: Table, bytes: &[u8]) -> usize
-    ensures { λ r. ⌜ Put (now (out .entry)) at (safesBytes (safesAt table (now (bytes .entry)) 0 0 0 .safes)) (now (out .exit)) r ⌝ }
+    ensures { λ r. ⌜ Put Short (now (out .entry)) at (safesBytes (safesPicked table (now (bytes .entry)) 0 0 0 .safes)) (now (out .exit)) r ⌝ }
 {
-    let end = pkcs12::fewer(table.safe_count, pkcs12::SAFE_ROWS);
+    let end = buffer::fewer(table.safe_count, pkcs12::SAFE_ROWS);
     let mut so_far = RowsEnd {
         at,
         bag: 0,
@@ -315,14 +319,14 @@ fn safes(out: &mut [u8], at: usize, table: Table, bytes: &[u8]) -> usize
 
 // The whole file.
 pub(crate) fn file(out: &mut [u8], table: Table, bytes: &[u8]) -> usize
-    ensures { λ r. ⌜ Put (now (out .entry)) 0 (encode (readingAt table (now (bytes .entry)))) (now (out .exit)) r ⌝ }
+    ensures { λ r. ⌜ Put Short (now (out .entry)) 0 (encode (readingAt table (now (bytes .entry)))) (now (out .exit)) r ⌝ }
 {
     let fields = table.mac;
     let all = sizes::rows::all_safes(table, bytes);
     let mac = sizes::mac(bytes, fields);
     let size = sizes::pfx(all.size, mac);
-    let body = out::header(out, 0, pkcs12::SEQUENCE, size);
-    let content = out::integer(out, body, pkcs12::PFX_VERSION);
+    let body = write::header(out, 0, der::SEQUENCE, size);
+    let content = write::integer(out, body, pkcs12::PFX_VERSION);
     let head = parts::data_head(out, content, all.size);
     let end = safes(out, head, table, bytes);
     parts::mac(out, end, bytes, fields)

@@ -4,7 +4,8 @@ use native.Mathlib.Omega.{arith}
 use borrow.Author.Needs.{needs}
 use Rattle.der.proofs.Promised.{all-bytes}
 use Rattle.attributes.specs.Elements.{elementRanges}
-use Rattle.attributes.proofs.Siblings.{Walking, walking-start, walking-ends, walking-stops, stop-fits, walking-less, walking-on}
+use Rattle.attributes.proofs.Siblings.{Walking, walking-start, walking-ends, walking-stops}
+use Rattle.attributes.proofs.Siblings.{stop-fits, walking-less, walking-on}
 use Rattle.attributes.proofs.element.Statement.{statement}
 use Rattle.attributes.proofs.element.Tie as tie
 
@@ -31,7 +32,12 @@ enum-told c = search needs
 
 returns : tie.Need-returns Inv-loop μ-loop
 unfolding elementRanges
-returns c = (walking-stops _ _ _ _ _ _ _ (c .before .before .before .before .loop .inv) (c .before .before .before .loop-test .taken) _ (c .before .before .element .ensures .0) _ (c .enum-told .given .1), search all-bytes)
+returns c = (
+  let e = c .before .before in
+      walking-stops _ _ _ _ _ _ _ (e .before .before .loop .inv) (e .before .loop-test .taken) _
+      (e .element .ensures .0) _ (c .enum-told .given .1),
+  search all-bytes,
+)
 
 enum-known-next : tie.Need-enum-known-next Inv-loop μ-loop
 enum-known-next c = search needs
@@ -40,19 +46,32 @@ cast-start16 : tie.Need-cast-start16 Inv-loop μ-loop
 cast-start16 c = omega (arith, c .before .before .before .before .before .loop .inv .small)
 
 cast-stop16 : tie.Need-cast-stop16 Inv-loop μ-loop
-cast-stop16 c = omega (arith, stop-fits _ _ _ _ _ _ _ (c .before .before .before .before .before .loop .inv) (c .before .before .before .before .loop-test .taken) _ (c .before .before .before .element .ensures .0) _ _ _ (c .before .next .given .1))
+cast-stop16 c = omega (
+  arith,
+  let e = c .before .before .before in
+      stop-fits _ _ _ _ _ _ _ (e .before .before .loop .inv) (e .before .loop-test .taken) _
+      (e .element .ensures .0) _ _ _ (c .before .next .given .1),
+)
 
 chosen-requires : tie.Need-chosen-requires Inv-loop μ-loop
 chosen-requires c κs = search needs
 
 add-count : tie.Need-add-count Inv-loop μ-loop
-add-count c = omega (arith, c .before .before .before .before .before .before .loop .inv .few, c .before .before .before .before .before .before .loop .inv .small)
+add-count c =
+    let e = c .before .before .before .before in
+    omega (arith, e .before .before .loop .inv .few, e .before .before .loop .inv .small)
 
 loop-less : tie.Need-loop-less Inv-loop μ-loop
-loop-less c = walking-less _ _ _ _ _ _ _ (c .before .before .before .before .before .before .loop .inv) (c .before .before .before .before .before .loop-test .taken) _ (c .before .before .before .before .element .ensures .0) _ _ _ (c .before .before .next .given .1)
+loop-less c =
+    let e = c .before .before .before .before in
+    walking-less _ _ _ _ _ _ _ (e .before .before .loop .inv) (e .before .loop-test .taken) _
+    (e .element .ensures .0) _ _ _ (c .before .before .next .given .1)
 
 loop-again : tie.Need-loop-again Inv-loop μ-loop
-loop-again c = walking-on _ _ _ _ _ _ _ (c .before .before .before .before .before .before .loop .inv) (c .before .before .before .before .before .loop-test .taken) _ (c .before .before .before .before .element .ensures .0) _ _ _ (c .before .before .next .given .1) _ (c .chosen .ensures)
+loop-again c =
+    let e = c .before .before .before .before in
+    walking-on _ _ _ _ _ _ _ (e .before .before .loop .inv) (e .before .loop-test .taken) _
+    (e .element .ensures .0) _ _ _ (c .before .before .next .given .1) _ (c .chosen .ensures)
 
 returns-2 : tie.Need-returns-2 Inv-loop μ-loop
 unfolding elementRanges

@@ -28,7 +28,10 @@ cast-owner : tie.Need-cast-owner Inv-loop μ-loop
 cast-owner c = search needs
 
 returns : tie.Need-returns Inv-loop μ-loop
-returns c = next-found (c .before .before .before .before .before .before .args .t1) _ _ _ (c .before .before .before .before .loop .inv .0) (c .before .before .before .loop-test .taken) (c .if1 .taken)
+returns c =
+    let l = c .before .before .before .before in
+    next-found (l .before .before .args .t1) _ _ _ (l .loop .inv .0)
+    (c .before .before .before .loop-test .taken) (c .if1 .taken)
 
 add-i : tie.Need-add-i Inv-loop μ-loop
 add-i c = search needs
@@ -37,7 +40,12 @@ loop-less : tie.Need-loop-less Inv-loop μ-loop
 loop-less c = search needs
 
 loop-again : tie.Need-loop-again Inv-loop μ-loop
-loop-again c = (next-on (c .before .before .before .before .before .before .args .t1) _ _ _ (c .before .before .before .before .loop .inv .0) (c .before .before .before .loop-test .taken) (c .if1 .left), c .before .before .before .before .loop .inv .1)
+loop-again c =
+    let l = c .before .before .before .before in (
+      next-on (l .before .before .args .t1) _ _ _ (l .loop .inv .0)
+          (c .before .before .before .loop-test .taken) (c .if1 .left),
+      l .loop .inv .1,
+    )
 
 returns-2 : tie.Need-returns-2 Inv-loop μ-loop
 returns-2 c = search next-end

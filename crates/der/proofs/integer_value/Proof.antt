@@ -27,13 +27,22 @@ and-digit-requires c κs = search needs
 
 first-digit : (c : tie.After-and-digit) → c .and-digit .result < 32768
 first-digit c =
-    andDigit-next _ _ _ _ 128 _ (c .and-digit .ensures) (c .before .before .before .pre .first) (c .before .shared-slice-known2 .given _)
+    andDigit-next _ _ _ _ 128 _ (c .and-digit .ensures) (c .before .before .before .pre .first)
+    (c .before .shared-slice-known2 .given _)
 
 and-digit-requires-2 : tie.Need-and-digit-requires-2
 and-digit-requires-2 c κs = (search needs, omega (arith, first-digit c))
 
 and-digit-requires-3 : tie.Need-and-digit-requires-3
-and-digit-requires-3 c κs = (search needs, omega (arith, first-digit (c .before), andDigit-next _ _ _ _ 32768 _ (c .and-digit2 .ensures) (first-digit (c .before)) (c .before .before .shared-slice-known2 .given _)))
+and-digit-requires-3 c κs = (
+  search needs,
+  omega (
+    arith,
+    first-digit (c .before),
+    andDigit-next _ _ _ _ 32768 _ (c .and-digit2 .ensures) (first-digit (c .before))
+        (c .before .before .shared-slice-known2 .given _),
+  ),
+)
 
 returns : tie.Need-returns
 unfolding integerValue

@@ -1,4 +1,5 @@
--- The loop's invariant: the answer that is due is that of the bytes from i on. The measure is what is left of the body.
+-- The loop's invariant: the answer that is due is that of the bytes from i on. The measure is what
+-- is left of the body.
 use mathlib.Core.Path.{_≡_}
 use Prim.Native.Nat.{_-_}
 use native.Mathlib.Omega.{arith}

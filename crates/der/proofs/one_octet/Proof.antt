@@ -29,7 +29,8 @@ cast-wide : tie.Need-cast-wide
 cast-wide c = fits-widen tt (c .before .shared-slice-known2 .given _)
 
 within-requires : tie.Need-within-requires
-within-requires c κs = omega (arith, c .before .shared-slice-known2 .given (c .before .before .before .before .args .at + 2))
+within-requires c κs =
+    omega (arith, c .before .shared-slice-known2 .given (c .before .before .before .before .args .at + 2))
 
 returns-3 : tie.Need-returns-3
 unfolding oneOctet

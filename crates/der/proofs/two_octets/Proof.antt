@@ -1,4 +1,5 @@
--- The long form of two bytes. Two bytes make at most 65,535, and the body ends before any word wraps.
+-- The long form of two bytes. Two bytes make at most 65,535, and the body ends before any word
+-- wraps.
 use Prim.Native.Nat.{_+_}
 use native.Mathlib.Omega.{arith}
 use mir.Facts.{fits-widen}
@@ -38,13 +39,19 @@ cast-wide-low : tie.Need-cast-wide-low
 cast-wide-low c = fits-widen tt (c .shared-slice-known3 .given _)
 
 mul-size : tie.Need-mul-size
-mul-size c = omega (arith, c .shared-slice-known3 .given (c .before .before .before .before .before .args .at + 2), c .shared-slice-known3 .given (c .before .before .before .before .before .args .at + 3))
+mul-size c =
+    let a = c .before .before .before .before .before .args .at in
+    omega (arith, c .shared-slice-known3 .given (a + 2), c .shared-slice-known3 .given (a + 3))
 
 add-size : tie.Need-add-size
-add-size c = omega (arith, c .shared-slice-known3 .given (c .before .before .before .before .before .args .at + 2), c .shared-slice-known3 .given (c .before .before .before .before .before .args .at + 3))
+add-size c =
+    let a = c .before .before .before .before .before .args .at in
+    omega (arith, c .shared-slice-known3 .given (a + 2), c .shared-slice-known3 .given (a + 3))
 
 within-requires : tie.Need-within-requires
-within-requires c κs = omega (arith, c .shared-slice-known3 .given (c .before .before .before .before .before .args .at + 2), c .shared-slice-known3 .given (c .before .before .before .before .before .args .at + 3))
+within-requires c κs =
+    let a = c .before .before .before .before .before .args .at in
+    omega (arith, c .shared-slice-known3 .given (a + 2), c .shared-slice-known3 .given (a + 3))
 
 returns-3 : tie.Need-returns-3
 unfolding twoOctets

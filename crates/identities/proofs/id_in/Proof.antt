@@ -21,19 +21,30 @@ enum-known-body : tie.Need-enum-known-body
 enum-known-body c = search needs
 
 cast-start16 : tie.Need-cast-start16
-cast-start16 c = omega (arith, body-fits _ _ _ _ _ _ _ (c .before .before .before .before .before .before .octet-string .ensures .0) (c .before .before .before .before .body .given .1) (omega arith))
+cast-start16 c =
+    let b = c .before .before .before .before in
+    let o = b .before .before .octet-string .ensures .0 in
+    omega (arith, body-fits _ _ _ _ _ _ _ o (b .body .given .1) (omega arith))
 
 cast-end16 : tie.Need-cast-end16
-cast-end16 c = omega (arith, body-fits _ _ _ _ _ _ _ (c .before .before .before .before .before .before .before .octet-string .ensures .0) (c .before .before .before .before .before .body .given .1) (omega arith))
+cast-end16 c =
+    let b = c .before .before .before .before .before in
+    let o = b .before .before .octet-string .ensures .0 in
+    omega (arith, body-fits _ _ _ _ _ _ _ o (b .body .given .1) (omega arith))
 
 returns : tie.Need-returns
-returns c = id-only _ _ _ (c .before .before .before .before .before .before .before .octet-string .ensures .0) _ _ _ (c .before .before .before .before .before .body .given .1) (c .before .before .if1 .taken)
+returns c =
+    let b = c .before .before .before .before .before in
+    let o = b .before .before .octet-string .ensures .0 in
+    id-only _ _ _ o _ _ _ (b .body .given .1) (c .before .before .if1 .taken)
 
 returns-2 : tie.Need-returns-2
 returns-2 c = id-refused _ _ _ (c .before .before .octet-string .ensures .0) _ (c .enum-told .given .1)
 
 returns-3 : tie.Need-returns-3
-returns-3 c = id-more _ _ _ (c .before .before .before .before .before .octet-string .ensures .0) _ _ _ (c .before .before .before .body .given .1) (c .if1 .left)
+returns-3 c =
+    let b = c .before .before .before in
+    id-more _ _ _ (b .before .before .octet-string .ensures .0) _ _ _ (b .body .given .1) (c .if1 .left)
 
 pub id-in-spec : {M : Type 1} → statement M
 id-in-spec =

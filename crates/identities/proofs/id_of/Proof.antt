@@ -22,10 +22,17 @@ id-in-requires : tie.Need-id-in-requires
 id-in-requires c κs = search needs
 
 returns : tie.Need-returns
-returns c = id-found _ _ _ _ _ (c .before .before .before .before .before .key-row .ensures) _ _ _ (c .before .before .before .before .before .before .before .good .0 .1 .1 .1 .1 .1 .1 .0 .1 .0 .1) (c .before .before .before .before .fewer .ensures) _ _ (c .before .before .before .if1 .taken) (c .id-in .ensures)
+returns c =
+    let f = c .before .before .before .before in
+    let k = f .before in
+    id-found _ _ _ _ _ (k .key-row .ensures) _ _ _ (k .before .before .good .0 .1 .1 .1 .1 .1 .1 .0 .1 .0 .1)
+    (f .fewer .ensures) _ _ (c .before .before .before .if1 .taken) (c .id-in .ensures)
 
 returns-2 : tie.Need-returns-2
-returns-2 c = id-none _ _ _ _ _ (c .before .before .key-row .ensures) _ _ _ (c .before .before .before .before .good .0 .1 .1 .1 .1 .1 .1 .0 .1 .0 .1) (c .before .fewer .ensures) (c .if1 .left)
+returns-2 c =
+    let k = c .before .before in
+    id-none _ _ _ _ _ (k .key-row .ensures) _ _ _ (k .before .before .good .0 .1 .1 .1 .1 .1 .1 .0 .1 .0 .1)
+    (c .before .fewer .ensures) (c .if1 .left)
 
 pub id-of-spec : {M : Type 1} → statement M
 id-of-spec =

@@ -19,7 +19,8 @@ same-requires c κs = search needs
 
 returns : tie.Need-returns
 unfolding localKeyType
-returns c = local-named _ _ _ _ _ (c .before .before .before .before .if1 .taken) (c .before .before .part .ensures) (c .same .ensures)
+returns c = local-named _ _ _ _ _ (c .before .before .before .before .if1 .taken)
+    (c .before .before .part .ensures) (c .same .ensures)
 
 returns-2 : tie.Need-returns-2
 returns-2 c = local-other _ _ _ (c .if1 .left)

@@ -17,7 +17,11 @@ fewer-requires : tie.Need-fewer-requires Inv-loop μ-loop
 fewer-requires c κs = search needs
 
 loop-holds : tie.Need-loop-holds Inv-loop μ-loop
-loop-holds c = (keys-start (c .before .before .args .t1) _ _ _ _ _ _ (c .before .before .good .0 .1 .1 .1 .1 .1 .1 .0 .1 .0 .1) (c .fewer .ensures), at-most _ _ _ (c .fewer .ensures))
+loop-holds c = (
+  keys-start (c .before .before .args .t1) _ _ _ _ _ _
+      (c .before .before .good .0 .1 .1 .1 .1 .1 .1 .0 .1 .0 .1) (c .fewer .ensures),
+  at-most _ _ _ (c .fewer .ensures),
+)
 
 mul-row : tie.Need-mul-row Inv-loop μ-loop
 mul-row c = search needs
@@ -29,7 +33,10 @@ is-local-key-requires : tie.Need-is-local-key-requires Inv-loop μ-loop
 is-local-key-requires c κs = search needs
 
 returns : tie.Need-returns Inv-loop μ-loop
-returns c = keys-found _ _ _ _ _ (c .before .before .before .before .loop .inv .0) _ _ (c .before .before .before .loop-test .taken) (c .before .is-local-key .ensures) (c .if1 .taken)
+returns c =
+    let t = c .before .before .before in
+    keys-found _ _ _ _ _ (t .before .loop .inv .0) _ _ (t .loop-test .taken)
+    (c .before .is-local-key .ensures) (c .if1 .taken)
 
 add-i : tie.Need-add-i Inv-loop μ-loop
 add-i c = search needs
@@ -39,10 +46,15 @@ loop-less c = search needs
 
 loop-again : tie.Need-loop-again Inv-loop μ-loop
 loop-again c =
-    (keys-on (c .before .before .before .before .before .before .before .args .t1) _ _ _ _ (c .before .before .before .before .loop .inv .0) _ _ (c .before .before .before .loop-test .taken) (c .before .is-local-key .ensures) (c .if1 .left), c .before .before .before .before .loop .inv .1)
+    let l = c .before .before .before .before in (
+      keys-on (l .before .before .before .args .t1) _ _ _ _ (l .loop .inv .0) _ _
+          (c .before .before .before .loop-test .taken) (c .before .is-local-key .ensures) (c .if1 .left),
+      l .loop .inv .1,
+    )
 
 returns-2 : tie.Need-returns-2 Inv-loop μ-loop
-returns-2 c = keys-end (c .before .before .before .before .args .t1) _ _ _ _ (c .before .loop .inv .0) (c .loop-test .left)
+returns-2 c = keys-end (c .before .before .before .before .args .t1) _ _ _ _
+    (c .before .loop .inv .0) (c .loop-test .left)
 
 pub key-row-spec : {M : Type 1} → statement M
 key-row-spec =

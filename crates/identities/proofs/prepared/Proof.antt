@@ -20,16 +20,19 @@ refused-requires-2 : tie.Need-refused-requires-2
 refused-requires-2 c κs = search needs
 
 returns : tie.Need-returns
-returns c = filling-short _ _ _ (c .before .before .before .before .measure .ensures .0) _ (c .before .before .enum-told2 .given .1) _ _ (c .before .if1 .taken) (c .refused2 .ensures)
+returns c = filling-short _ _ _ (c .before .before .before .before .measure .ensures .0) _
+    (c .before .before .enum-told2 .given .1) _ _ (c .before .if1 .taken) (c .refused2 .ensures)
 
 rows-of-requires : tie.Need-rows-of-requires
 rows-of-requires c κs = search needs
 
 returns-2 : tie.Need-returns-2
-returns-2 c = filling-unsound _ _ _ (c .before .before .before .measure .ensures .0) _ _ (c .before .enum-told .given .1) (c .refused .ensures)
+returns-2 c = filling-unsound _ _ _ (c .before .before .before .measure .ensures .0) _ _
+    (c .before .enum-told .given .1) (c .refused .ensures)
 
 returns-3 : tie.Need-returns-3
-returns-3 c = filling-all _ _ _ (c .before .before .before .before .measure .ensures .0) _ (c .before .before .enum-told2 .given .1) _ _ (c .before .if1 .left) (c .rows-of .ensures)
+returns-3 c = filling-all _ _ _ (c .before .before .before .before .measure .ensures .0) _
+    (c .before .before .enum-told2 .given .1) _ _ (c .before .if1 .left) (c .rows-of .ensures)
 
 pub prepared-spec : {M : Type 1} → statement M
 prepared-spec =

@@ -15,7 +15,8 @@ returns : tie.Need-returns
 returns c = search needs
 
 returns-2 : tie.Need-returns-2
-returns-2 c = past-array _ _ _ _ (c .before .args .t1 .rows) noIdentity (c .before .good .0 .1 .1 .1 .1 .0 .1 .0 .1) (c .if1 .left)
+returns-2 c = past-array _ _ _ _ (c .before .args .t1 .rows) noIdentity
+    (c .before .good .0 .1 .1 .1 .1 .0 .1 .0 .1) (c .if1 .left)
 
 pub row-at-spec : {M : Type 1} → statement M
 row-at-spec = tie.close (tie.spec mul-result element-copy-out-result returns returns-2)

@@ -1,6 +1,6 @@
 -- The rows behind the three lines.
 use Rattle.listing.specs.Lines.{acceptedLines}
-use Rattle.listing.proofs.Puts.{_then_}
+use Rattle.buffer.proofs.Placing.{_then_}
 use borrow.Author.Needs.{needs}
 use Rattle.listing.proofs.accepted.Statement.{statement}
 use Rattle.listing.proofs.accepted.Tie as tie
@@ -22,7 +22,12 @@ same-length c = search needs
 
 returns : tie.Need-returns
 unfolding acceptedLines
-returns c = c .before .before .before .before .before .before .before .before .before .before .before .before .before .before .head .ensures then c .before .before .before .before .before .before .before .before .before .before .safe-lines .ensures then c .before .before .before .before .before .before .bag-lines .ensures then c .before .before .attribute-lines .ensures
+returns c =
+    let a = c .before .before in
+    let b = a .before .before .before .before in
+    let d = b .before .before .before .before in
+    let e = d .before .before .before .before in
+    e .head .ensures then d .safe-lines .ensures then b .bag-lines .ensures then a .attribute-lines .ensures
 
 pub accepted-spec : {M : Type 1} → statement M
 accepted-spec =

@@ -1,6 +1,6 @@
 -- Three lines; the counts are those of the definition.
 use Rattle.listing.specs.Lines.{headLines}
-use Rattle.listing.proofs.Puts.{_then_}
+use Rattle.buffer.proofs.Placing.{_then_}
 use borrow.Author.Needs.{needs}
 use Rattle.listing.proofs.head.Statement.{statement}
 use Rattle.listing.proofs.head.Tie as tie
@@ -28,7 +28,16 @@ same-length c = search needs
 
 returns : tie.Need-returns
 unfolding headLines
-returns c = c .before .before .before .before .before .before .before .before .before .before .file-line .ensures then (rw (c .before .before .before .before .before .before .before .before .before .before .before .before .before .before .fewer .ensures, c .before .before .before .before .before .before .before .before .before .before .before .before .before .fewer2 .ensures, c .before .before .before .before .before .before .before .before .before .before .before .before .fewer3 .ensures) at (c .before .before .before .before .before .before .counts-line .ensures)) then c .before .before .mac-line .ensures
+returns c =
+    let a = c .before .before in
+    let b = a .before .before .before .before in
+    let d = b .before .before .before .before in
+    let e = d .before .before in
+    let f = e .before in
+    let g = f .before in
+    d .file-line .ensures
+    then (rw (g .fewer .ensures, f .fewer2 .ensures, e .fewer3 .ensures) at (b .counts-line .ensures))
+    then a .mac-line .ensures
 
 pub head-spec : {M : Type 1} → statement M
 head-spec =

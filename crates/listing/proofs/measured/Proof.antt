@@ -1,7 +1,7 @@
 -- The place behind the listing is its length.
 use Rattle.listing.specs.Lines.{listing}
-use Rattle.listing.proofs.Short.{short}
-use Rattle.listing.proofs.Whole.{put-length}
+use Rattle.listing.proofs.Short.{counted}
+use Rattle.buffer.proofs.Placing.{placed-end}
 use borrow.Author.Needs.{needs}
 use Rattle.listing.proofs.measured.Statement.{statement}
 use Rattle.listing.proofs.measured.Tie as tie
@@ -14,7 +14,7 @@ answered-requires c κs = search needs
 
 returns : tie.Need-returns
 unfolding listing
-returns c = put-length _ (short _ _) _ _ _ (c .before .answered .ensures)
+returns c = placed-end (c .before .answered .ensures) (counted _ _)
 
 pub measured-spec : {M : Type 1} → statement M
 measured-spec = tie.close (tie.spec slice-aggregate-answered answered-requires returns)

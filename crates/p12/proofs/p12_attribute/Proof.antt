@@ -1,6 +1,7 @@
 -- Words that are too few; else by what the call gave: a row is stored, or nothing is.
 use Rattle.der.proofs.Promised.{all-bytes}
-use Rattle.p12.proofs.Gives.{two-and, attribute-short, attribute-stored, attribute-ready, attribute-done, attribute-refused}
+use Rattle.p12.proofs.Gives.{two-and, attribute-short, attribute-stored, attribute-ready, attribute-done}
+use Rattle.p12.proofs.Gives.{attribute-refused}
 use borrow.Author.Needs.{needs}
 use Rattle.p12.proofs.p12_attribute.Statement.{statement}
 use Rattle.p12.proofs.p12_attribute.Tie as tie

@@ -22,8 +22,11 @@ same-length c = search needs
 
 returns : tie.Need-returns
 returns c =
+    let a = c .before .before .before .before in
+    let b = a .before .before in
     three-and
-    (list-wrote _ _ _ (c .before .before .before .before .before .before .read .ensures .0) _ _ (c .before .before .before .before .list .ensures .0) (c .before .before .before .before .list .ensures .1 .1) _ (c .written-number .ensures) _ (c .before .length-of .ensures))
+    (list-wrote _ _ _ (b .read .ensures .0) _ _ (a .list .ensures .0) (a .list .ensures .1 .1) _
+    (c .written-number .ensures) _ (c .before .length-of .ensures))
     (search all-bytes)
 
 pub p12-list-spec : {M : Type 1} → statement M

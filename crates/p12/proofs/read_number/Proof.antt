@@ -1,6 +1,6 @@
 -- The number that the answer reports.
 use mathlib.Core.Path.{sym, ap}
-use Rattle.pkcs12.specs.declared.Answer.{Answer}
+use Rattle.pkcs12.specs.declared.answers.Answer.{Answer}
 use Rattle.pkcs12.specs.Report.{answerReport}
 use borrow.Author.Needs.{needs}
 use Rattle.p12.proofs.read_number.Statement.{statement}

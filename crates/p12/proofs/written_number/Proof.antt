@@ -1,7 +1,7 @@
 -- The number that the answer reports.
 use mathlib.Core.Path.{sym, ap}
-use Rattle.pkcs12.specs.declared.Written.{Written}
-use Rattle.pkcs12.specs.Report.{writtenReport}
+use Rattle.buffer.specs.declared.Written.{Written}
+use Rattle.buffer.specs.Report.{writtenReport}
 use borrow.Author.Needs.{needs}
 use Rattle.p12.proofs.written_number.Statement.{statement}
 use Rattle.p12.proofs.written_number.Tie as tie

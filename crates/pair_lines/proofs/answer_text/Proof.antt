@@ -1,5 +1,5 @@
 -- By the answer.
-use Rattle.listing.specs.Text.{ascii}
+use Rattle.buffer.specs.Text.{ascii}
 use Rattle.pair_lines.specs.Lines.{answerText}
 use borrow.Author.Needs.{needs}
 use Rattle.pair_lines.proofs.answer_text.Statement.{statement}

@@ -1,14 +1,14 @@
 -- The loop writes a line for each key bag.
 use Prim.Native.Nat.{_-_}
 use native.Mathlib.Omega.{arith}
-use Rattle.listing.proofs.Loops.{Lined, lines-start, lines-turn, lines-end}
+use Rattle.buffer.proofs.Rows.{Lined, lines-start, lines-turn, lines-end}
 use borrow.Author.Needs.{needs}
-use Rattle.pair_lines.specs.Lines.{bagAt, pairLines}
+use Rattle.pair_lines.specs.Lines.{pairRowLine, pairLines}
 use Rattle.pair_lines.proofs.bag_lines.Statement.{statement}
 use Rattle.pair_lines.proofs.bag_lines.Tie as tie
 
 abbrev Inv-loop : tie.InvT-loop
-Inv-loop out₀ file table n to₀ i₀ out to i = Lined (bagAt table file) out₀ 0 n out to i
+Inv-loop out₀ file table n to₀ i₀ out to i = Lined (pairRowLine table file) out₀ 0 n out to i
 
 abbrev μ-loop : tie.MeasureT-loop
 μ-loop out₀ file table n to₀ i₀ out to i = n - i

@@ -1,7 +1,7 @@
 -- The text is made whole; then the refusal, or the text is written.
 use native.Mathlib.Omega.{arith}
 use Rattle.der.proofs.Promised.{reporting-with, all-bytes}
-use Rattle.pkcs12.specs.Report.{writtenReport}
+use Rattle.buffer.specs.Report.{writtenReport}
 use Rattle.pair_lines.specs.Lines.{pairsText}
 use Rattle.pair_lines.proofs.Ways.{made-most, list-refused, list-wrote}
 use borrow.Author.Needs.{needs}
@@ -21,18 +21,18 @@ returns c =
     (list-refused _ _ _ _ _ (c .before .before .answered .ensures) _ (omega (arith, c .if1 .taken)))
     (search all-bytes)
 
-sub-text : tie.Need-sub-text
-sub-text c = search needs
+sub-bytes : tie.Need-sub-bytes
+sub-bytes c = search needs
 
-part-text-start : tie.Need-part-text-start
-part-text-start c = search needs
+part-bytes-start : tie.Need-part-bytes-start
+part-bytes-start c = search needs
 
-part-text-end : tie.Need-part-text-end
+part-bytes-end : tie.Need-part-bytes-end
 unfolding pairsText
-part-text-end c = omega (arith, made-most _ _ _ _ _ (c .before .before .before .before .answered .ensures))
+part-bytes-end c = omega (arith, made-most _ _ _ _ _ (c .before .before .before .before .answered .ensures))
 
-text-requires : tie.Need-text-requires
-text-requires c κs = search needs
+bytes-requires : tie.Need-bytes-requires
+bytes-requires c κs = search needs
 
 same-length : tie.Need-same-length
 same-length c = search needs
@@ -43,7 +43,7 @@ returns-2 c =
     let a = c .before .before .before .before .before .before in
     reporting-with writtenReport
     (list-wrote _ _ _ _ _ (a .before .before .answered .ensures) _ (a .if1 .left) (omega arith) _ _
-    (c .before .before .text4 .ensures))
+    (c .before .before .bytes .ensures))
     (search all-bytes)
 
 pub list-spec : {M : Type 1} → statement M
@@ -53,9 +53,9 @@ list-spec =
     slice-aggregate-answered
     answered-requires
     returns
-    sub-text
-    part-text-start
-    part-text-end
-    text-requires
+    sub-bytes
+    part-bytes-start
+    part-bytes-end
+    bytes-requires
     same-length
     returns-2)

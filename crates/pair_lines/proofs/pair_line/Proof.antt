@@ -1,6 +1,6 @@
 -- The parts one behind another.
-use Rattle.listing.specs.Text.{ascii}
-use Rattle.listing.proofs.Puts.{_then_}
+use Rattle.buffer.specs.Text.{ascii}
+use Rattle.buffer.proofs.Placing.{_then_}
 use Rattle.pair_lines.specs.Lines.{pairLine}
 use borrow.Author.Needs.{needs}
 use Rattle.pair_lines.proofs.pair_line.Statement.{statement}
@@ -15,11 +15,11 @@ number-requires c κs = search needs
 answer-text-requires : tie.Need-answer-text-requires
 answer-text-requires c κs = search needs
 
-slice-aggregate-text : tie.Need-slice-aggregate-text
-slice-aggregate-text c = search needs
+slice-aggregate-bytes : tie.Need-slice-aggregate-bytes
+slice-aggregate-bytes c = search needs
 
-text-requires : tie.Need-text-requires
-text-requires c κs = search needs
+bytes-requires : tie.Need-bytes-requires
+bytes-requires c κs = search needs
 
 same-length : tie.Need-same-length
 same-length c = search needs
@@ -29,7 +29,7 @@ unfolding ascii pairLine
 returns c =
     let a = c .before .before in
     let b = a .before .before .before .before .before in
-    b .before .before .before .before .number .ensures then b .answer-text .ensures then a .text .ensures
+    b .before .before .before .before .number .ensures then b .answer-text .ensures then a .bytes .ensures
 
 pub pair-line-spec : {M : Type 1} → statement M
 pair-line-spec =
@@ -38,7 +38,7 @@ pair-line-spec =
     slice-aggregate-number
     number-requires
     answer-text-requires
-    slice-aggregate-text
-    text-requires
+    slice-aggregate-bytes
+    bytes-requires
     same-length
     returns)

@@ -26,7 +26,11 @@ refused-requires-3 : tie.Need-refused-requires-3
 refused-requires-3 c κs = search needs
 
 returns-3 : tie.Need-returns-3
-returns-3 c = answered-none (c .before .before .before .before .before .before .before .args .state) _ _ (c .before .before .before .before .before .if1 .left) (c .before .before .before .is-key .ensures) (c .before .before .if2 .left) (c .before .if3 .taken) (c .refused3 .ensures)
+returns-3 c =
+    let k = c .before .before .before in
+    let i = k .before .before in
+    answered-none (i .before .before .args .state) _ _ (i .if1 .left) (k .is-key .ensures)
+    (c .before .before .if2 .left) (c .before .if3 .taken) (c .refused3 .ensures)
 
 returns-4 : tie.Need-returns-4
 unfolding answered
@@ -36,7 +40,11 @@ refused-requires-4 : tie.Need-refused-requires-4
 refused-requires-4 c κs = search needs
 
 returns-5 : tie.Need-returns-5
-returns-5 c = answered-several (c .before .before .before .before .before .before .before .before .args .state) _ _ (c .before .before .before .before .before .before .if1 .left) (c .before .before .before .before .is-key .ensures) (c .before .before .before .if2 .left) (c .before .before .if3 .left) (c .before .if4 .left) (c .refused4 .ensures)
+returns-5 c =
+    let k = c .before .before .before .before in
+    let i = k .before .before in
+    answered-several (i .before .before .args .state) _ _ (i .if1 .left) (k .is-key .ensures)
+    (c .before .before .before .if2 .left) (c .before .before .if3 .left) (c .before .if4 .left) (c .refused4 .ensures)
 
 pub answer-spec : {M : Type 1} → statement M
 answer-spec =

@@ -2,7 +2,8 @@
 use borrow.Author.Needs.{needs}
 use Rattle.der.proofs.Promised.{promised, all-bytes}
 use Rattle.pkcs12.specs.Report.{answerReport}
-use Rattle.reader.proofs.Whole.{read-long, read-refused, input-from, input-to, close-refused, close-fits, close-found}
+use Rattle.reader.proofs.Whole.{read-long, read-refused, input-from, input-to, close-refused, close-fits}
+use Rattle.reader.proofs.Whole.{close-found}
 use Rattle.reader.proofs.read.Statement.{statement}
 use Rattle.reader.proofs.read.Tie as tie
 
@@ -39,7 +40,16 @@ enum-known-input : tie.Need-enum-known-input
 enum-known-input c = search needs
 
 safes-requires : tie.Need-safes-requires
-safes-requires c κs = (c .before .before .before .before .before .if1 .left, input-from _ (c .before .before .before .before .before .if1 .left) _ (c .before .before .before .before .over .ensures) _ (c .before .before .before .«open» .ensures) _ _ _ _ _ _ _ (c .before .input .given .1), input-to _ (c .before .before .before .before .before .if1 .left) _ (c .before .before .before .before .over .ensures) _ (c .before .before .before .«open» .ensures) _ _ _ _ _ _ _ (c .before .input .given .1))
+safes-requires c κs =
+    let a = c .before .before .before in
+    let b = a .before in
+    let d = b .before in (
+      d .if1 .left,
+      input-from _ (d .if1 .left) _ (b .over .ensures) _ (a .«open» .ensures) _ _ _ _ _ _ _
+          (c .before .input .given .1),
+      input-to _ (d .if1 .left) _ (b .over .ensures) _ (a .«open» .ensures) _ _ _ _ _ _ _
+          (c .before .input .given .1),
+    )
 
 close-requires : tie.Need-close-requires
 close-requires c κs = search needs
@@ -64,7 +74,16 @@ enum-known-fields : tie.Need-enum-known-fields
 enum-known-fields c = search needs
 
 add-elements : tie.Need-add-elements
-add-elements c = close-fits _ (c .before .before .before .before .before .before .before .before .before .before .before .before .if1 .left) _ (c .before .before .before .before .before .before .before .before .before .before .before .over .ensures) _ (c .before .before .before .before .before .before .before .before .before .before .«open» .ensures) _ _ _ _ _ _ _ (c .before .before .before .before .before .before .before .before .input .given .1) _ (c .before .before .before .before .before .before .safes .ensures) _ (c .before .before .before .before .before .close .ensures) _ _ _ (c .before .before .before .fields .given .1)
+add-elements c =
+    let a = c .before .before .before in
+    let b = a .before .before in
+    let d = b .before in
+    let e = d .before .before in
+    let f = e .before .before in
+    let g = f .before in
+    let h = g .before in
+    close-fits _ (h .if1 .left) _ (g .over .ensures) _ (f .«open» .ensures) _ _ _ _ _ _ _ (e .input .given .1) _
+    (d .safes .ensures) _ (b .close .ensures) _ _ _ (a .fields .given .1)
 
 returns-4 : tie.Need-returns-4
 returns-4 c =

@@ -1,6 +1,7 @@
 -- By the kind.
 use borrow.Author.Needs.{needs}
-use Rattle.sizes.proofs.Leaves.{content-none, content-nested, content-key, content-shrouded, content-certificate, content-crl, content-secret}
+use Rattle.sizes.proofs.Leaves.{content-none, content-nested, content-key, content-shrouded}
+use Rattle.sizes.proofs.Leaves.{content-certificate, content-crl, content-secret}
 use Rattle.sizes.proofs.content.Statement.{statement}
 use Rattle.sizes.proofs.content.Tie as tie
 

@@ -1,7 +1,7 @@
 -- The sizes of the parts make that of the whole.
 use borrow.Author.Needs.{needs}
 use Rattle.sizes.specs.Sizes.{contentInfoSize}
-use Rattle.sizes.proofs.Capped.{sizing}
+use Rattle.encode.proofs.Capped.{sizing}
 use Rattle.sizes.proofs.content_info.Statement.{statement}
 use Rattle.sizes.proofs.content_info.Tie as tie
 

@@ -1,7 +1,8 @@
 -- The sizes of the parts make that of the whole.
 use borrow.Author.Needs.{needs}
 use Rattle.sizes.specs.Sizes.{dataSize}
-use Rattle.sizes.proofs.Capped.{sizing, told-content-info}
+use Rattle.encode.proofs.Capped.{sizing}
+use Rattle.sizes.proofs.Nears.{told-content-info}
 use Rattle.sizes.proofs.data.Statement.{statement}
 use Rattle.sizes.proofs.data.Tie as tie
 

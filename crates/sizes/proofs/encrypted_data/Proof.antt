@@ -2,7 +2,7 @@
 use borrow.Author.Needs.{needs}
 use Rattle.pkcs12.specs.Encode.{encryptedInfo}
 use Rattle.sizes.specs.Bodies.{encryptedInfoBody, encryptedDataBody}
-use Rattle.sizes.proofs.Capped.{sizing}
+use Rattle.encode.proofs.Capped.{sizing}
 use Rattle.sizes.proofs.Leaves.{encrypted-version-sized}
 use Rattle.sizes.proofs.encrypted_data.Statement.{statement}
 use Rattle.sizes.proofs.encrypted_data.Tie as tie

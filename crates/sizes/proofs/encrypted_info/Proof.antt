@@ -2,7 +2,7 @@
 use borrow.Author.Needs.{needs}
 use Rattle.pkcs12.specs.Encode.{algorithmBytes}
 use Rattle.sizes.specs.Bodies.{algorithmBody, encryptedInfoBody}
-use Rattle.sizes.proofs.Capped.{sizing}
+use Rattle.encode.proofs.Capped.{sizing}
 use Rattle.sizes.proofs.Leaves.{data-type-sized}
 use Rattle.sizes.proofs.encrypted_info.Statement.{statement}
 use Rattle.sizes.proofs.encrypted_info.Tie as tie

@@ -2,7 +2,7 @@
 use borrow.Author.Needs.{needs}
 use Rattle.pkcs12.specs.Encode.{sealedBytes}
 use Rattle.sizes.specs.Bodies.{sealedBody, macBody}
-use Rattle.sizes.proofs.Capped.{sizing}
+use Rattle.encode.proofs.Capped.{sizing}
 use Rattle.sizes.proofs.mac.Statement.{statement}
 use Rattle.sizes.proofs.mac.Tie as tie
 

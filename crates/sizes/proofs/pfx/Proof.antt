@@ -1,7 +1,7 @@
 -- The sizes of the parts make that of the whole.
 use borrow.Author.Needs.{needs}
 use Rattle.sizes.specs.Sizes.{pfxSize}
-use Rattle.sizes.proofs.Capped.{sizing}
+use Rattle.encode.proofs.Capped.{sizing}
 use Rattle.sizes.proofs.pfx.Statement.{statement}
 use Rattle.sizes.proofs.pfx.Tie as tie
 

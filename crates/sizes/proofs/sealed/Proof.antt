@@ -2,7 +2,7 @@
 use borrow.Author.Needs.{needs}
 use Rattle.pkcs12.specs.Encode.{algorithmBytes}
 use Rattle.sizes.specs.Bodies.{algorithmBody, sealedBody}
-use Rattle.sizes.proofs.Capped.{sizing}
+use Rattle.encode.proofs.Capped.{sizing}
 use Rattle.sizes.proofs.sealed.Statement.{statement}
 use Rattle.sizes.proofs.sealed.Tie as tie
 

@@ -45,7 +45,17 @@ range-requires : tie.Need-range-requires
 range-requires c κs = search needs
 
 returns : tie.Need-returns
-returns c = table-read _ _ (omega (arith, c .before .before .before .before .before .before .before .before .word .ensures)) (omega (arith, c .before .before .before .before .before .before .before .word2 .ensures)) (omega (arith, c .before .before .before .before .before .before .word3 .ensures)) (omega (arith, c .before .before .before .before .before .word4 .ensures)) (c .before .before .before .before .safes .ensures) (c .before .before .before .bags .ensures) (c .before .before .attributes .ensures) (c .before .mac .ensures) (c .range .ensures)
+returns c =
+    let a = c .before .before in
+    let b = a .before in
+    let d = b .before in
+    let e = d .before in
+    let f = e .before in
+    let g = f .before in
+    let h = g .before in
+    table-read _ _ (omega (arith, h .word .ensures)) (omega (arith, g .word2 .ensures))
+    (omega (arith, f .word3 .ensures)) (omega (arith, e .word4 .ensures)) (d .safes .ensures) (b .bags .ensures)
+    (a .attributes .ensures) (c .before .mac .ensures) (c .range .ensures)
 
 pub load-spec : {M : Type 1} → statement M
 load-spec =

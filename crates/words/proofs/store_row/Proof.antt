@@ -1,7 +1,7 @@
 -- As for a table.
 use Rattle.der.proofs.Promised.{promised}
-use Rattle.pkcs12.specs.Report.{writtenReport}
-use Rattle.pkcs12.proofs.Placing.{refusal-answer, refusal-buffer}
+use Rattle.buffer.specs.Report.{writtenReport}
+use Rattle.buffer.proofs.Outcomes.{refusal-answer, refusal-buffer}
 use native.Mathlib.Omega.{arith}
 use Rattle.words.proofs.Whole.{few-for-row, row-answer, row-memory}
 use borrow.Author.Needs.{needs}

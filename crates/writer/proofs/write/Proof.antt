@@ -1,9 +1,9 @@
 -- The refusals first, in their order; then the file is written (Whole).
 use Rattle.der.proofs.Promised.{promised}
-use Rattle.pkcs12.specs.Report.{writtenReport}
-use Rattle.pkcs12.proofs.Placing.{refusal-answer, refusal-buffer}
+use Rattle.buffer.specs.Report.{writtenReport}
+use Rattle.buffer.proofs.Outcomes.{refusal-answer, refusal-buffer}
 use Rattle.sound.proofs.Whole.{arrays}
-use Rattle.writer.proofs.Whole.{refused-unsound, refused-long, refused-room, written-answer, written-buffer}
+use Rattle.writer.proofs.Whole.{refused-unsound, refused-long, refused-short, written-answer, written-buffer}
 use borrow.Author.Needs.{needs}
 use Rattle.writer.proofs.write.Statement.{statement}
 use Rattle.writer.proofs.write.Tie as tie
@@ -36,7 +36,7 @@ returns-2 : tie.Need-returns-2
 returns-2 c =
     let a = c .before .before .before .before in
     let m = a .before .before .measure .ensures in
-    let o = refused-room _ _ _ _ (m .0) _ (a .size .given .1) (c .before .before .if1 .left) (c .before .if2 .taken) in
+    let o = refused-short _ _ _ _ (m .0) _ (a .size .given .1) (c .before .before .if1 .left) (c .before .if2 .taken) in
     promised writtenReport (refusal-answer _ _ _ o _ (c .refused3 .ensures)) (refusal-buffer _ _ _ o, m .1 .1)
 
 file-requires : tie.Need-file-requires

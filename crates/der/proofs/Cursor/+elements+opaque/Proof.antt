@@ -1,11 +1,13 @@
--- An opaque element and a run of them call each other: the level falls from an element to the run of its body. Each is its definition.
+-- An opaque element and a run of them call each other: the level falls from an element to the run
+-- of its body. Each is its definition.
 use Prim.Native.Nat.{ℕ, _+_, _*_, _-_, _<_, _≤_}
 use native.Mathlib.Omega.{arith}
 use borrow.Author.Needs.{needs}
 use Rattle.der.specs.Element.{cursor}
 use Rattle.der.specs.Opaque.{run, elementsAt}
 use Rattle.der.proofs.Choices.{choices}
-use Rattle.der.proofs.Opaque.{Running, running-start, running-end, running-refused, running-on, step-falls, step-long, step-fits, run-fits, opaque-step}
+use Rattle.der.proofs.Opaque.{Running, running-start, running-end, running-refused, running-on}
+use Rattle.der.proofs.Opaque.{step-falls, step-long, step-fits, run-fits, opaque-step}
 use Rattle.der.proofs.Promised.{promised, all-bytes}
 use Rattle.der.specs.Report.{checkedReport}
 use borrow.Fn.Kinds.{In}
@@ -40,7 +42,8 @@ abbrev opaque-below : ℕ → In 1 opaque-kinds.ps
 opaque-below t = and 1 opaque-kinds.ps (falls 1 opaque-kinds.ps _<_ μ-opaque t) opaque.Pre
 
 abbrev elements-Inv-loop : elements-lts.InvT-loop
-elements-Inv-loop s level end at₀ count₀ at count = Running level s end (elementsAt level s (cursor at₀ end)) count at × (at₀ + 2 * count ≤ at)
+elements-Inv-loop s level end at₀ count₀ at count =
+    Running level s end (elementsAt level s (cursor at₀ end)) count at × (at₀ + 2 * count ≤ at)
 
 abbrev elements-μ-loop : elements-lts.MeasureT-loop
 elements-μ-loop s level end at₀ count₀ at count = end - at
@@ -52,32 +55,41 @@ in-elements t = (opaque-below t, opaque.Post)
 abbrev in-opaque : ℕ → opaque-lts.Claims
 in-opaque t = (element-reads.Asked, element-reads.Learnt, elements-below t, elements.Post)
 
-elements-loop-holds : (t : ℕ) → elements-lts.Need-loop-holds (in-elements t) (elements-at t) elements.Post elements-Inv-loop elements-μ-loop
+elements-loop-holds : (t : ℕ)
+    → elements-lts.Need-loop-holds (in-elements t) (elements-at t) elements.Post elements-Inv-loop elements-μ-loop
 elements-loop-holds t c = (search running-start, omega arith)
 
-elements-opaque-requires : (t : ℕ) → elements-lts.Need-opaque-requires (in-elements t) (elements-at t) elements.Post elements-Inv-loop elements-μ-loop
+elements-opaque-requires : (t : ℕ)
+    → elements-lts.Need-opaque-requires (in-elements t) (elements-at t) elements.Post elements-Inv-loop elements-μ-loop
 elements-opaque-requires t c κs = omega arith
 
-elements-enum-known-f : (t : ℕ) → elements-lts.Need-enum-known-f (in-elements t) (elements-at t) elements.Post elements-Inv-loop elements-μ-loop
+elements-enum-known-f : (t : ℕ)
+    → elements-lts.Need-enum-known-f (in-elements t) (elements-at t) elements.Post elements-Inv-loop elements-μ-loop
 elements-enum-known-f t c = search needs
 
-elements-returns : (t : ℕ) → elements-lts.Need-returns (in-elements t) (elements-at t) elements.Post elements-Inv-loop elements-μ-loop
+elements-returns : (t : ℕ)
+    → elements-lts.Need-returns (in-elements t) (elements-at t) elements.Post elements-Inv-loop elements-μ-loop
 unfolding elementsAt run
 elements-returns t c = promised checkedReport (search running-refused) (search all-bytes)
 
-elements-enum-known-more : (t : ℕ) → elements-lts.Need-enum-known-more (in-elements t) (elements-at t) elements.Post elements-Inv-loop elements-μ-loop
+elements-enum-known-more : (t : ℕ)
+    → elements-lts.Need-enum-known-more (in-elements t) (elements-at t) elements.Post elements-Inv-loop elements-μ-loop
 elements-enum-known-more t c = search needs
 
-elements-add-sum : (t : ℕ) → elements-lts.Need-add-sum (in-elements t) (elements-at t) elements.Post elements-Inv-loop elements-μ-loop
+elements-add-sum : (t : ℕ)
+    → elements-lts.Need-add-sum (in-elements t) (elements-at t) elements.Post elements-Inv-loop elements-μ-loop
 elements-add-sum t c = search step-fits
 
-elements-loop-less : (t : ℕ) → elements-lts.Need-loop-less (in-elements t) (elements-at t) elements.Post elements-Inv-loop elements-μ-loop
+elements-loop-less : (t : ℕ)
+    → elements-lts.Need-loop-less (in-elements t) (elements-at t) elements.Post elements-Inv-loop elements-μ-loop
 elements-loop-less t c = search (step-falls, needs)
 
-elements-loop-again : (t : ℕ) → elements-lts.Need-loop-again (in-elements t) (elements-at t) elements.Post elements-Inv-loop elements-μ-loop
+elements-loop-again : (t : ℕ)
+    → elements-lts.Need-loop-again (in-elements t) (elements-at t) elements.Post elements-Inv-loop elements-μ-loop
 elements-loop-again t c = (search running-on, search step-long)
 
-elements-returns-2 : (t : ℕ) → elements-lts.Need-returns-2 (in-elements t) (elements-at t) elements.Post elements-Inv-loop elements-μ-loop
+elements-returns-2 : (t : ℕ)
+    → elements-lts.Need-returns-2 (in-elements t) (elements-at t) elements.Post elements-Inv-loop elements-μ-loop
 unfolding elementsAt run
 elements-returns-2 t c = promised checkedReport (search running-end) (search all-bytes)
 
@@ -123,5 +135,11 @@ opaque-returns-5 t c = promised checkedReport (search (opaque-step, choices) dep
 pub +elements+opaque-spec : {M : Type 1} → statement M
 +elements+opaque-spec =
     close μ-elements μ-opaque
-    (λ t. elements-lts.spec (in-elements t) (elements-at t) elements.Post elements-Inv-loop elements-μ-loop (elements-loop-holds t) (elements-opaque-requires t) (elements-enum-known-f t) (elements-returns t) (elements-enum-known-more t) (elements-add-sum t) (elements-loop-less t) (elements-loop-again t) (elements-returns-2 t))
-    (λ t. opaque-lts.spec (in-opaque t) (opaque-at t) opaque.Post (opaque-element-requires t) (opaque-enum-known-f t) (opaque-enum-known-tag t) (opaque-returns t) (opaque-returns-2 t) (opaque-sub-below t) (opaque-elements-requires t) (opaque-enum-known-f-2 t) (opaque-enum-known-count t) (opaque-add-more t) (opaque-returns-3 t) (opaque-returns-4 t) (opaque-returns-5 t))
+    (λ t. elements-lts.spec (in-elements t) (elements-at t) elements.Post elements-Inv-loop elements-μ-loop
+    (elements-loop-holds t) (elements-opaque-requires t) (elements-enum-known-f t) (elements-returns t)
+    (elements-enum-known-more t) (elements-add-sum t) (elements-loop-less t)
+    (elements-loop-again t) (elements-returns-2 t))
+    (λ t. opaque-lts.spec (in-opaque t) (opaque-at t) opaque.Post (opaque-element-requires t) (opaque-enum-known-f t)
+    (opaque-enum-known-tag t) (opaque-returns t) (opaque-returns-2 t) (opaque-sub-below t) (opaque-elements-requires t)
+    (opaque-enum-known-f-2 t) (opaque-enum-known-count t) (opaque-add-more t) (opaque-returns-3 t)
+    (opaque-returns-4 t) (opaque-returns-5 t))

@@ -17,7 +17,9 @@ unfolding elementAt
 returns c = promised elementReport (search (choices, told-true) depth 14) (search all-bytes)
 
 shared-slice-read-tag : tie.Need-shared-slice-read-tag
-shared-slice-read-tag c = omega (arith, left-within _ (c .before .before .before .before .args .self) _ (c .before .before .no-byte-left .ensures) (c .before .if1 .left))
+shared-slice-read-tag c =
+    let l = c .before .before in
+    omega (arith, left-within _ (l .before .before .args .self) _ (l .no-byte-left .ensures) (c .before .if1 .left))
 
 returns-2 : tie.Need-returns-2
 unfolding elementAt
@@ -28,7 +30,10 @@ unfolding elementAt
 returns-3 c = promised elementReport (search (choices, told-false) depth 14) (search all-bytes)
 
 body-of-requires : tie.Need-body-of-requires
-body-of-requires c κs = omega (arith, left-within _ (c .before .before .before .before .before .before .args .self) _ (c .before .before .before .before .no-byte-left .ensures) (c .before .before .before .if1 .left))
+body-of-requires c κs =
+    let i = c .before .before .before in
+    let l = i .before in
+    omega (arith, left-within _ (l .before .before .args .self) _ (l .no-byte-left .ensures) (i .if1 .left))
 
 enum-known-f : tie.Need-enum-known-f
 enum-known-f c = search needs

@@ -15,7 +15,9 @@ unfolding tagAt
 returns c = search (choices, told-true) depth 14
 
 shared-slice-read-result : tie.Need-shared-slice-read-result
-shared-slice-read-result c = omega (arith, left-within _ (c .before .before .before .before .args .self) _ (c .before .before .no-byte-left .ensures) (c .before .if1 .left))
+shared-slice-read-result c =
+    let l = c .before .before in
+    omega (arith, left-within _ (l .before .before .args .self) _ (l .no-byte-left .ensures) (c .before .if1 .left))
 
 returns-2 : tie.Need-returns-2
 unfolding tagAt

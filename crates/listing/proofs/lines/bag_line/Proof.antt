@@ -1,7 +1,7 @@
 -- The parts one behind another.
-use Rattle.listing.specs.Text.{ascii}
+use Rattle.buffer.specs.Text.{ascii}
 use Rattle.listing.specs.Lines.{bagLine}
-use Rattle.listing.proofs.Puts.{_then_}
+use Rattle.buffer.proofs.Placing.{_then_}
 use borrow.Author.Needs.{needs}
 use Rattle.listing.proofs.lines.bag_line.Statement.{statement}
 use Rattle.listing.proofs.lines.bag_line.Tie as tie
@@ -15,18 +15,23 @@ bag-parts-requires c κs = search needs
 bag-set-requires : tie.Need-bag-set-requires
 bag-set-requires c κs = search needs
 
-slice-aggregate-text : tie.Need-slice-aggregate-text
-slice-aggregate-text c = search needs
+slice-aggregate-bytes : tie.Need-slice-aggregate-bytes
+slice-aggregate-bytes c = search needs
 
-text-requires : tie.Need-text-requires
-text-requires c κs = search needs
+bytes-requires : tie.Need-bytes-requires
+bytes-requires c κs = search needs
 
 same-length : tie.Need-same-length
 same-length c = search needs
 
 returns : tie.Need-returns
 unfolding ascii bagLine
-returns c = c .before .before .before .before .before .before .before .before .before .before .before .before .before .before .before .bag-start .ensures then c .before .before .before .before .before .before .before .before .before .before .before .bag-parts .ensures then c .before .before .before .before .before .before .before .bag-set .ensures then c .before .before .text .ensures
+returns c =
+    let a = c .before .before in
+    let b = a .before .before .before .before .before in
+    let d = b .before .before .before .before in
+    let e = d .before .before .before .before in
+    e .bag-start .ensures then d .bag-parts .ensures then b .bag-set .ensures then a .bytes .ensures
 
 pub bag-line-spec : {M : Type 1} → statement M
 bag-line-spec =
@@ -35,7 +40,7 @@ bag-line-spec =
     bag-start-requires
     bag-parts-requires
     bag-set-requires
-    slice-aggregate-text
-    text-requires
+    slice-aggregate-bytes
+    bytes-requires
     same-length
     returns)

@@ -1,7 +1,7 @@
 -- By the kind.
-use Rattle.listing.specs.Text.{ascii}
+use Rattle.buffer.specs.Text.{ascii}
 use Rattle.listing.specs.Lines.{partsText}
-use Rattle.listing.proofs.Puts.{put-nothing}
+use Rattle.buffer.proofs.Placing.{placed-nothing}
 use borrow.Author.Needs.{needs}
 use Rattle.listing.proofs.lines.bag_parts.Statement.{statement}
 use Rattle.listing.proofs.lines.bag_parts.Tie as tie
@@ -47,7 +47,7 @@ enum-told-7 c = search needs
 
 returns : tie.Need-returns
 unfolding partsText
-returns c = rw (c .enum-told .given .1) (put-nothing _ _)
+returns c = rw (c .enum-told .given .1) (placed-nothing _ _)
 
 same-length : tie.Need-same-length
 same-length c = search needs
@@ -86,7 +86,7 @@ returns-6 c = rw (c .before .before .before .before .enum-told6 .given .1) (c .b
 
 returns-7 : tie.Need-returns-7
 unfolding partsText
-returns-7 c = rw (c .enum-told7 .given .1) (put-nothing _ _)
+returns-7 c = rw (c .enum-told7 .given .1) (placed-nothing _ _)
 
 pub bag-parts-spec : {M : Type 1} → statement M
 bag-parts-spec =

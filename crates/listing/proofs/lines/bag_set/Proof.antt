@@ -1,5 +1,5 @@
 -- By whether a set stands there.
-use Rattle.listing.specs.Text.{ascii}
+use Rattle.buffer.specs.Text.{ascii}
 use Rattle.listing.specs.Lines.{setText}
 use borrow.Author.Needs.{needs}
 use Rattle.listing.proofs.lines.bag_set.Statement.{statement}
@@ -18,18 +18,18 @@ returns : tie.Need-returns
 unfolding ascii setText
 returns c = rw (c .before .before .before .before .before .if1 .taken) (c .before .before .number .ensures)
 
-slice-aggregate-text : tie.Need-slice-aggregate-text
-slice-aggregate-text c = search needs
+slice-aggregate-bytes : tie.Need-slice-aggregate-bytes
+slice-aggregate-bytes c = search needs
 
-text-requires : tie.Need-text-requires
-text-requires c κs = search needs
+bytes-requires : tie.Need-bytes-requires
+bytes-requires c κs = search needs
 
 same-length-2 : tie.Need-same-length-2
 same-length-2 c = search needs
 
 returns-2 : tie.Need-returns-2
 unfolding ascii setText
-returns-2 c = rw (c .before .before .before .before .before .if1 .left) (c .before .before .text .ensures)
+returns-2 c = rw (c .before .before .before .before .before .if1 .left) (c .before .before .bytes .ensures)
 
 pub bag-set-spec : {M : Type 1} → statement M
 bag-set-spec =
@@ -39,7 +39,7 @@ bag-set-spec =
     number-requires
     same-length
     returns
-    slice-aggregate-text
-    text-requires
+    slice-aggregate-bytes
+    bytes-requires
     same-length-2
     returns-2)

@@ -1,7 +1,7 @@
 -- The parts one behind another.
-use Rattle.listing.specs.Text.{ascii}
+use Rattle.buffer.specs.Text.{ascii}
 use Rattle.listing.specs.Lines.{bagStart}
-use Rattle.listing.proofs.Puts.{_then_}
+use Rattle.buffer.proofs.Placing.{_then_}
 use borrow.Author.Needs.{needs}
 use Rattle.listing.proofs.lines.bag_start.Statement.{statement}
 use Rattle.listing.proofs.lines.bag_start.Tie as tie
@@ -32,7 +32,12 @@ same-length c = search needs
 
 returns : tie.Need-returns
 unfolding ascii bagStart
-returns c = c .before .before .before .before .before .before .before .before .before .before .before .before .before .before .before .number .ensures then c .before .before .before .before .before .before .before .before .before .before .before .bag-kind .ensures then c .before .before .before .before .before .before .number2 .ensures then c .before .before .enclosing .ensures
+returns c =
+    let a = c .before .before in
+    let b = a .before .before .before .before in
+    let d = b .before .before .before .before .before in
+    let e = d .before .before .before .before in
+    e .number .ensures then d .bag-kind .ensures then b .number2 .ensures then a .enclosing .ensures
 
 pub bag-start-spec : {M : Type 1} → statement M
 bag-start-spec =

@@ -1,7 +1,7 @@
 -- The parts one behind another.
-use Rattle.listing.specs.Text.{ascii}
+use Rattle.buffer.specs.Text.{ascii}
 use Rattle.listing.specs.Lines.{countsLine}
-use Rattle.listing.proofs.Puts.{_then_}
+use Rattle.buffer.proofs.Placing.{_then_}
 use borrow.Author.Needs.{needs}
 use Rattle.listing.proofs.lines.counts_line.Statement.{statement}
 use Rattle.listing.proofs.lines.counts_line.Tie as tie
@@ -24,18 +24,23 @@ slice-aggregate-number-3 c = search needs
 number-requires-3 : tie.Need-number-requires-3
 number-requires-3 c κs = search needs
 
-slice-aggregate-text : tie.Need-slice-aggregate-text
-slice-aggregate-text c = search needs
+slice-aggregate-bytes : tie.Need-slice-aggregate-bytes
+slice-aggregate-bytes c = search needs
 
-text-requires : tie.Need-text-requires
-text-requires c κs = search needs
+bytes-requires : tie.Need-bytes-requires
+bytes-requires c κs = search needs
 
 same-length : tie.Need-same-length
 same-length c = search needs
 
 returns : tie.Need-returns
 unfolding ascii countsLine
-returns c = c .before .before .before .before .before .before .before .before .before .before .before .before .before .before .before .before .before .number .ensures then c .before .before .before .before .before .before .before .before .before .before .before .before .number2 .ensures then c .before .before .before .before .before .before .before .number3 .ensures then c .before .before .text .ensures
+returns c =
+    let a = c .before .before in
+    let b = a .before .before .before .before .before in
+    let d = b .before .before .before .before .before in
+    let e = d .before .before .before .before .before in
+    e .number .ensures then d .number2 .ensures then b .number3 .ensures then a .bytes .ensures
 
 pub counts-line-spec : {M : Type 1} → statement M
 counts-line-spec =
@@ -47,7 +52,7 @@ counts-line-spec =
     number-requires-2
     slice-aggregate-number-3
     number-requires-3
-    slice-aggregate-text
-    text-requires
+    slice-aggregate-bytes
+    bytes-requires
     same-length
     returns)

@@ -1,5 +1,5 @@
 -- By the enclosing bag.
-use Rattle.listing.specs.Text.{ascii}
+use Rattle.buffer.specs.Text.{ascii}
 use Rattle.listing.specs.Lines.{enclosingText}
 use borrow.Author.Needs.{needs}
 use Rattle.listing.proofs.lines.enclosing.Statement.{statement}
@@ -8,11 +8,11 @@ use Rattle.listing.proofs.lines.enclosing.Tie as tie
 enum-told : tie.Need-enum-told
 enum-told c = search needs
 
-slice-aggregate-text : tie.Need-slice-aggregate-text
-slice-aggregate-text c = search needs
+slice-aggregate-bytes : tie.Need-slice-aggregate-bytes
+slice-aggregate-bytes c = search needs
 
-text-requires : tie.Need-text-requires
-text-requires c κs = search needs
+bytes-requires : tie.Need-bytes-requires
+bytes-requires c κs = search needs
 
 enum-known-e : tie.Need-enum-known-e
 enum-known-e c = search needs
@@ -31,7 +31,7 @@ same-length c = search needs
 
 returns : tie.Need-returns
 unfolding ascii enclosingText
-returns c = rw (c .before .before .before .before .before .enum-told .given .1) (c .before .before .text .ensures)
+returns c = rw (c .before .before .before .before .before .enum-told .given .1) (c .before .before .bytes .ensures)
 
 same-length-2 : tie.Need-same-length-2
 same-length-2 c = search needs
@@ -45,8 +45,8 @@ enclosing-spec =
     tie.close
     (tie.spec
     enum-told
-    slice-aggregate-text
-    text-requires
+    slice-aggregate-bytes
+    bytes-requires
     enum-known-e
     cast-bag
     slice-aggregate-number

@@ -1,7 +1,7 @@
 -- The parts one behind another.
-use Rattle.listing.specs.Text.{ascii}
+use Rattle.buffer.specs.Text.{ascii}
 use Rattle.listing.specs.Lines.{macLine}
-use Rattle.listing.proofs.Puts.{_then_}
+use Rattle.buffer.proofs.Placing.{_then_}
 use borrow.Author.Needs.{needs}
 use Rattle.listing.proofs.lines.mac_line.Statement.{statement}
 use Rattle.listing.proofs.lines.mac_line.Tie as tie
@@ -33,18 +33,24 @@ slice-aggregate-number c = search needs
 number-requires : tie.Need-number-requires
 number-requires c κs = search needs
 
-slice-aggregate-text : tie.Need-slice-aggregate-text
-slice-aggregate-text c = search needs
+slice-aggregate-bytes : tie.Need-slice-aggregate-bytes
+slice-aggregate-bytes c = search needs
 
-text-requires : tie.Need-text-requires
-text-requires c κs = search needs
+bytes-requires : tie.Need-bytes-requires
+bytes-requires c κs = search needs
 
 same-length : tie.Need-same-length
 same-length c = search needs
 
 returns : tie.Need-returns
 unfolding ascii macLine
-returns c = c .before .before .before .before .before .before .before .before .before .before .before .before .before .before .before .before .before .before .before .before .before .before .range .ensures then c .before .before .before .before .before .before .before .before .before .before .before .before .before .before .before .before .before .range2 .ensures then c .before .before .before .before .before .before .before .before .before .before .before .before .range3 .ensures then c .before .before .before .before .before .before .before .number .ensures then c .before .before .text .ensures
+returns c =
+    let a = c .before .before in
+    let b = a .before .before .before .before .before in
+    let d = b .before .before .before .before .before in
+    let e = d .before .before .before .before .before in
+    let f = e .before .before .before .before .before in
+    f .range .ensures then e .range2 .ensures then d .range3 .ensures then b .number .ensures then a .bytes .ensures
 
 pub mac-line-spec : {M : Type 1} → statement M
 mac-line-spec =
@@ -59,7 +65,7 @@ mac-line-spec =
     range-requires-3
     slice-aggregate-number
     number-requires
-    slice-aggregate-text
-    text-requires
+    slice-aggregate-bytes
+    bytes-requires
     same-length
     returns)

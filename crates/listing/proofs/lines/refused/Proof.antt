@@ -1,7 +1,7 @@
 -- The parts one behind another.
-use Rattle.listing.specs.Text.{ascii}
+use Rattle.buffer.specs.Text.{ascii}
 use Rattle.listing.specs.Lines.{refusedLine}
-use Rattle.listing.proofs.Puts.{_then_}
+use Rattle.buffer.proofs.Placing.{_then_}
 use borrow.Author.Needs.{needs}
 use Rattle.listing.proofs.lines.refused.Statement.{statement}
 use Rattle.listing.proofs.lines.refused.Tie as tie
@@ -21,18 +21,22 @@ slice-aggregate-number-2 c = search needs
 number-requires-2 : tie.Need-number-requires-2
 number-requires-2 c κs = search needs
 
-slice-aggregate-text : tie.Need-slice-aggregate-text
-slice-aggregate-text c = search needs
+slice-aggregate-bytes : tie.Need-slice-aggregate-bytes
+slice-aggregate-bytes c = search needs
 
-text-requires : tie.Need-text-requires
-text-requires c κs = search needs
+bytes-requires : tie.Need-bytes-requires
+bytes-requires c κs = search needs
 
 same-length : tie.Need-same-length
 same-length c = search needs
 
 returns : tie.Need-returns
 unfolding ascii refusedLine
-returns c = c .before .before .before .before .before .before .before .before .before .before .before .before .number .ensures then c .before .before .before .before .before .before .before .number2 .ensures then c .before .before .text .ensures
+returns c =
+    let a = c .before .before in
+    let b = a .before .before .before .before .before in
+    let d = b .before .before .before .before .before in
+    d .number .ensures then b .number2 .ensures then a .bytes .ensures
 
 pub refused-spec : {M : Type 1} → statement M
 refused-spec =
@@ -43,7 +47,7 @@ refused-spec =
     number-requires
     slice-aggregate-number-2
     number-requires-2
-    slice-aggregate-text
-    text-requires
+    slice-aggregate-bytes
+    bytes-requires
     same-length
     returns)

@@ -1,7 +1,7 @@
 -- The parts one behind another.
-use Rattle.listing.specs.Text.{ascii}
+use Rattle.buffer.specs.Text.{ascii}
 use Rattle.listing.specs.Lines.{safeLine}
-use Rattle.listing.proofs.Puts.{_then_}
+use Rattle.buffer.proofs.Placing.{_then_}
 use borrow.Author.Needs.{needs}
 use Rattle.listing.proofs.lines.safe_line.Statement.{statement}
 use Rattle.listing.proofs.lines.safe_line.Tie as tie
@@ -15,18 +15,22 @@ number-requires c κs = search needs
 safe-kind-requires : tie.Need-safe-kind-requires
 safe-kind-requires c κs = search needs
 
-slice-aggregate-text : tie.Need-slice-aggregate-text
-slice-aggregate-text c = search needs
+slice-aggregate-bytes : tie.Need-slice-aggregate-bytes
+slice-aggregate-bytes c = search needs
 
-text-requires : tie.Need-text-requires
-text-requires c κs = search needs
+bytes-requires : tie.Need-bytes-requires
+bytes-requires c κs = search needs
 
 same-length : tie.Need-same-length
 same-length c = search needs
 
 returns : tie.Need-returns
 unfolding ascii safeLine
-returns c = c .before .before .before .before .before .before .before .before .before .before .before .number .ensures then c .before .before .before .before .before .before .before .safe-kind .ensures then c .before .before .text .ensures
+returns c =
+    let a = c .before .before in
+    let b = a .before .before .before .before .before in
+    let d = b .before .before .before .before in
+    d .number .ensures then b .safe-kind .ensures then a .bytes .ensures
 
 pub safe-line-spec : {M : Type 1} → statement M
 safe-line-spec =
@@ -35,7 +39,7 @@ safe-line-spec =
     slice-aggregate-number
     number-requires
     safe-kind-requires
-    slice-aggregate-text
-    text-requires
+    slice-aggregate-bytes
+    bytes-requires
     same-length
     returns)

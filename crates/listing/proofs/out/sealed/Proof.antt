@@ -1,7 +1,7 @@
 -- Three ranges.
-use Rattle.listing.specs.Text.{ascii}
+use Rattle.buffer.specs.Text.{ascii}
 use Rattle.listing.specs.Lines.{sealedText}
-use Rattle.listing.proofs.Puts.{_then_}
+use Rattle.buffer.proofs.Placing.{_then_}
 use borrow.Author.Needs.{needs}
 use Rattle.listing.proofs.out.sealed.Statement.{statement}
 use Rattle.listing.proofs.out.sealed.Tie as tie
@@ -29,7 +29,11 @@ same-length c = search needs
 
 returns : tie.Need-returns
 unfolding ascii sealedText
-returns c = c .before .before .before .before .before .before .before .before .before .before .before .before .range .ensures then c .before .before .before .before .before .before .before .range2 .ensures then c .before .before .range3 .ensures
+returns c =
+    let a = c .before .before in
+    let b = a .before .before .before .before .before in
+    let d = b .before .before .before .before .before in
+    d .range .ensures then b .range2 .ensures then a .range3 .ensures
 
 pub sealed-spec : {M : Type 1} → statement M
 sealed-spec =

@@ -1,7 +1,7 @@
 -- Two ranges.
-use Rattle.listing.specs.Text.{ascii}
+use Rattle.buffer.specs.Text.{ascii}
 use Rattle.listing.specs.Lines.{typedText}
-use Rattle.listing.proofs.Puts.{_then_}
+use Rattle.buffer.proofs.Placing.{_then_}
 use borrow.Author.Needs.{needs}
 use Rattle.listing.proofs.out.typed.Statement.{statement}
 use Rattle.listing.proofs.out.typed.Tie as tie

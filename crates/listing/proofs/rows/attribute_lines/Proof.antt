@@ -1,13 +1,13 @@
 -- The loop writes a line for each row.
 use Prim.Native.Nat.{_-_}
-use Rattle.listing.specs.Lines.{attributeAt}
-use Rattle.listing.proofs.Loops.{Lined, lines-start, lines-turn, lines-end}
+use Rattle.listing.specs.Lines.{attributeRowLine}
+use Rattle.buffer.proofs.Rows.{Lined, lines-start, lines-turn, lines-end}
 use borrow.Author.Needs.{needs}
 use Rattle.listing.proofs.rows.attribute_lines.Statement.{statement}
 use Rattle.listing.proofs.rows.attribute_lines.Tie as tie
 
 abbrev Inv-loop : tie.InvT-loop
-Inv-loop out₀ at table n to₀ i₀ out to i = Lined (attributeAt table) out₀ at n out to i
+Inv-loop out₀ at table n to₀ i₀ out to i = Lined (attributeRowLine table) out₀ at n out to i
 
 abbrev μ-loop : tie.MeasureT-loop
 μ-loop out₀ at table n to₀ i₀ out to i = n - i
@@ -34,7 +34,11 @@ loop-less : tie.Need-loop-less Inv-loop μ-loop
 loop-less c = search needs
 
 loop-again : tie.Need-loop-again Inv-loop μ-loop
-loop-again c = lines-turn _ _ _ _ _ _ _ (c .before .before .before .before .before .before .loop .inv) _ _ (c .before .before .before .before .before .loop-test .taken) (search needs) (c .before .before .attribute-line .ensures)
+loop-again c =
+    let a = c .before .before in
+    let b = a .before .before .before in
+    let d = b .before in
+    lines-turn _ _ _ _ _ _ _ (d .loop .inv) _ _ (b .loop-test .taken) (search needs) (a .attribute-line .ensures)
 
 same-length : tie.Need-same-length Inv-loop μ-loop
 same-length c = search needs

@@ -1,13 +1,13 @@
 -- The loop writes a line for each row.
 use Prim.Native.Nat.{_-_}
-use Rattle.listing.specs.Lines.{bagAt}
-use Rattle.listing.proofs.Loops.{Lined, lines-start, lines-turn, lines-end}
+use Rattle.listing.specs.Lines.{bagRowLine}
+use Rattle.buffer.proofs.Rows.{Lined, lines-start, lines-turn, lines-end}
 use borrow.Author.Needs.{needs}
 use Rattle.listing.proofs.rows.bag_lines.Statement.{statement}
 use Rattle.listing.proofs.rows.bag_lines.Tie as tie
 
 abbrev Inv-loop : tie.InvT-loop
-Inv-loop out₀ at table n to₀ i₀ out to i = Lined (bagAt table) out₀ at n out to i
+Inv-loop out₀ at table n to₀ i₀ out to i = Lined (bagRowLine table) out₀ at n out to i
 
 abbrev μ-loop : tie.MeasureT-loop
 μ-loop out₀ at table n to₀ i₀ out to i = n - i
@@ -37,7 +37,13 @@ loop-less : tie.Need-loop-less Inv-loop μ-loop
 loop-less c = search needs
 
 loop-again : tie.Need-loop-again Inv-loop μ-loop
-loop-again c = lines-turn _ _ _ _ _ _ _ (c .before .before .before .before .before .before .before .loop .inv) _ _ (c .before .before .before .before .before .before .loop-test .taken) (search needs) (rw (c .before .before .before .before .own-attributes .ensures) at (c .before .before .bag-line .ensures))
+loop-again c =
+    let a = c .before .before in
+    let b = a .before .before in
+    let d = b .before .before in
+    let e = d .before in
+    lines-turn _ _ _ _ _ _ _ (e .loop .inv) _ _ (d .loop-test .taken) (search needs)
+    (rw (b .own-attributes .ensures) at (a .bag-line .ensures))
 
 same-length : tie.Need-same-length Inv-loop μ-loop
 same-length c = search needs

@@ -31,7 +31,10 @@ one-if-own-requires : tie.Need-one-if-own-requires Inv-loop μ-loop
 one-if-own-requires c κs = search needs
 
 add-own : tie.Need-add-own Inv-loop μ-loop
-add-own c = omega (arith, own-turn _ _ _ _ _ (c .before .before .before .before .loop .inv) _ (c .before .before .before .loop-test .taken) (c .one-if-own .ensures) .few)
+add-own c =
+    let a = c .before .before .before in
+    let b = a .before in
+    omega (arith, own-turn _ _ _ _ _ (b .loop .inv) _ (a .loop-test .taken) (c .one-if-own .ensures) .few)
 
 add-i : tie.Need-add-i Inv-loop μ-loop
 add-i c = search needs
@@ -40,7 +43,10 @@ loop-less : tie.Need-loop-less Inv-loop μ-loop
 loop-less c = search needs
 
 loop-again : tie.Need-loop-again Inv-loop μ-loop
-loop-again c = own-turn _ _ _ _ _ (c .before .before .before .before .loop .inv) _ (c .before .before .before .loop-test .taken) (c .one-if-own .ensures)
+loop-again c =
+    let a = c .before .before .before in
+    let b = a .before in
+    own-turn _ _ _ _ _ (b .loop .inv) _ (a .loop-test .taken) (c .one-if-own .ensures)
 
 returns : tie.Need-returns Inv-loop μ-loop
 returns c = own-end _ _ _ _ _ (c .before .loop .inv) _ (c .before .before .fewer .ensures) (c .loop-test .left)

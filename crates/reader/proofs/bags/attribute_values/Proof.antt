@@ -1,8 +1,12 @@
--- Each way out is the definition's, by the tests and answers on the way; places have room in a range, and a count has room for more.
+-- Each way out is the definition's, by the tests and answers on the way; places have room in a
+-- range, and a count has room for more.
 use borrow.Author.Needs.{needs}
-use Rattle.der.proofs.Choices.{choices}
+use mathlib.Core.Path.{refl}
+use Rattle.der.proofs.Choices.{choices, element-found, checked-passed}
 use Rattle.reader.specs.Steps.{attributeValuesAt}
-use Rattle.reader.proofs.Rules.{answers, rooms}
+use Rattle.reader.proofs.Rules.{answers}
+use native.Mathlib.Omega.{arith}
+use Rattle.parts.proofs.Rules.{made, body-range, expected-from, expected-to}
 use Rattle.reader.proofs.Heads.{elements-fits}
 use Rattle.reader.proofs.bags.attribute_values.Statement.{statement}
 use Rattle.reader.proofs.bags.attribute_values.Tie as tie
@@ -38,7 +42,7 @@ range-of-requires : tie.Need-range-of-requires
 range-of-requires c κs = search needs
 
 range-of-requires-2 : tie.Need-range-of-requires-2
-range-of-requires-2 c κs = search (needs, rooms)
+range-of-requires-2 c κs = search needs
 
 add-more : tie.Need-add-more
 add-more c = search elements-fits
@@ -57,7 +61,19 @@ returns-3 c = search (choices, answers) depth 14
 
 returns-4 : tie.Need-returns-4
 unfolding attributeValuesAt
-returns-4 c = search (choices, answers) depth 14
+returns-4 c =
+    let k = c .before .before .before .before in
+    let m = k .before .before in
+    let b = m .before .before .before .before in
+    let x = b .before .before in
+    let p = x .before .before .pre in
+    let e = x .expect .ensures .0 in
+    let f = b .body .given .1 in
+    let i = body-range _ _ (c .before .range-of .ensures) (omega (arith, p)) (omega (arith, p)) in
+    let v = body-range _ _ (c .range-of2 .ensures) (expected-from _ _ _ _ _ _ _ e f (p .0)) (expected-to _ _ _ _ _ _ _ e f (p .0)) in
+    element-found _ _ _ _ _ _ _ _ e f
+    (checked-passed _ _ _ _ _ _ _ (m .before .before .elements .ensures .0) (m .count .given .1)
+    (checked-passed _ _ _ _ _ _ _ (k .finish .ensures .0) (c .before .before .enum-told .given .1) (made _ _ _ _ _ _ _ _ i refl v)))
 
 pub attribute-values-spec : {M : Type 1} → statement M
 attribute-values-spec =

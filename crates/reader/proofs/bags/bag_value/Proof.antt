@@ -1,5 +1,7 @@
--- Each way out is the definition's, by the tests and answers on the way; the count of a value is small.
+-- Each way out is the definition's, by the tests and answers on the way; the count of a value is
+-- small.
 use borrow.Author.Needs.{needs}
+use Rattle.parts.proofs.Rules.{in-files}
 use Rattle.reader.proofs.Heads.{small-values, values}
 use Rattle.reader.proofs.bags.bag_value.Statement.{statement}
 use Rattle.reader.proofs.bags.bag_value.Tie as tie
@@ -56,25 +58,25 @@ enum-told-7 : tie.Need-enum-told-7
 enum-told-7 c = search needs
 
 returns : tie.Need-returns
-returns c = search values
+returns c = search (values, in-files)
 
 returns-2 : tie.Need-returns-2
-returns-2 c = search values
+returns-2 c = search (values, in-files)
 
 returns-3 : tie.Need-returns-3
-returns-3 c = search values
+returns-3 c = search (values, in-files)
 
 returns-4 : tie.Need-returns-4
-returns-4 c = search values
+returns-4 c = search (values, in-files)
 
 returns-5 : tie.Need-returns-5
-returns-5 c = search values
+returns-5 c = search (values, in-files)
 
 returns-6 : tie.Need-returns-6
-returns-6 c = search values
+returns-6 c = search (values, in-files)
 
 returns-7 : tie.Need-returns-7
-returns-7 c = search values
+returns-7 c = search (values, in-files)
 
 pub bag-value-spec : {M : Type 1} → statement M
 bag-value-spec =

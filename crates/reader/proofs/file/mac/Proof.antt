@@ -3,6 +3,7 @@ use borrow.Author.Needs.{needs}
 use Rattle.der.proofs.Choices.{choices}
 use Rattle.pkcs12.specs.Walk.{macAt}
 use Rattle.reader.specs.Steps.{saltedAt}
+use Rattle.parts.proofs.Rules.{in-files}
 use Rattle.reader.proofs.Rules.{answers}
 use Rattle.reader.proofs.Heads.{sealed-count}
 use Rattle.reader.proofs.file.mac.Statement.{statement}
@@ -31,15 +32,15 @@ salted-requires c κs = search (needs, sealed-count)
 
 returns : tie.Need-returns
 unfolding macAt saltedAt
-returns c = search (choices, answers) depth 14
+returns c = search (choices, answers, in-files) depth 14
 
 returns-2 : tie.Need-returns-2
 unfolding macAt saltedAt
-returns-2 c = search (choices, answers) depth 14
+returns-2 c = search (choices, answers, in-files) depth 14
 
 returns-3 : tie.Need-returns-3
 unfolding macAt saltedAt
-returns-3 c = search (choices, answers) depth 14
+returns-3 c = search (choices, answers, in-files) depth 14
 
 pub mac-spec : {M : Type 1} → statement M
 mac-spec =

@@ -1,8 +1,10 @@
--- Each way out is the definition's, by the tests and answers on the way; places have room in a range.
+-- Each way out is the definition's, by the tests and answers on the way; places have room in a
+-- range.
 use borrow.Author.Needs.{needs}
 use Rattle.der.proofs.Choices.{choices}
 use Rattle.reader.specs.Steps.{saltedAt}
-use Rattle.reader.proofs.Rules.{rooms, salted-refused, salted-found}
+use Rattle.reader.proofs.Rules.{salted-refused, salted-found}
+use Rattle.parts.proofs.Rules.{in-files, rooms}
 use Rattle.reader.proofs.file.salted.Statement.{statement}
 use Rattle.reader.proofs.file.salted.Tie as tie
 
@@ -32,15 +34,15 @@ enum-known-mac c = search needs
 
 returns : tie.Need-returns
 unfolding saltedAt
-returns c = search (choices, salted-refused, salted-found) depth 14
+returns c = search (choices, salted-refused, salted-found, in-files, rooms) depth 14
 
 returns-2 : tie.Need-returns-2
 unfolding saltedAt
-returns-2 c = search (choices, salted-refused, salted-found) depth 14
+returns-2 c = search (choices, salted-refused, salted-found, in-files, rooms) depth 14
 
 returns-3 : tie.Need-returns-3
 unfolding saltedAt
-returns-3 c = search (choices, salted-refused, salted-found) depth 14
+returns-3 c = search (choices, salted-refused, salted-found, in-files, rooms) depth 14
 
 pub salted-spec : {M : Type 1} → statement M
 salted-spec =

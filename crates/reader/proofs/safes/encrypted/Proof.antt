@@ -2,6 +2,7 @@
 use borrow.Author.Needs.{needs}
 use Rattle.der.proofs.Choices.{choices}
 use Rattle.reader.specs.Steps.{encryptedHeadAt}
+use Rattle.parts.proofs.Rules.{in-files}
 use Rattle.reader.proofs.Rules.{answers}
 use Rattle.reader.proofs.Heads.{encrypted-fits}
 use Rattle.reader.proofs.safes.encrypted.Statement.{statement}
@@ -39,19 +40,19 @@ add-more c = search encrypted-fits
 
 returns : tie.Need-returns
 unfolding encryptedHeadAt
-returns c = search (choices, answers) depth 14
+returns c = search (choices, answers, in-files) depth 14
 
 returns-2 : tie.Need-returns-2
 unfolding encryptedHeadAt
-returns-2 c = search (choices, answers) depth 14
+returns-2 c = search (choices, answers, in-files) depth 14
 
 returns-3 : tie.Need-returns-3
 unfolding encryptedHeadAt
-returns-3 c = search (choices, answers) depth 14
+returns-3 c = search (choices, answers, in-files) depth 14
 
 returns-4 : tie.Need-returns-4
 unfolding encryptedHeadAt
-returns-4 c = search (choices, answers) depth 14
+returns-4 c = search (choices, answers, in-files) depth 14
 
 pub encrypted-spec : {M : Type 1} → statement M
 encrypted-spec =

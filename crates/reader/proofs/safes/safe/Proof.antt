@@ -1,8 +1,9 @@
--- Each way out is the definition's, by the tests and answers on the way; places have room in a range.
+-- Each way out is the definition's, by the tests and answers on the way; places have room in a
+-- range.
 use borrow.Author.Needs.{needs}
 use Rattle.der.proofs.Choices.{choices, told-true, told-false}
 use Rattle.reader.specs.Steps.{safeHeadAt}
-use Rattle.reader.proofs.Rules.{rooms}
+use Rattle.parts.proofs.Rules.{rooms}
 use Rattle.reader.proofs.safes.safe.Statement.{statement}
 use Rattle.reader.proofs.safes.safe.Tie as tie
 

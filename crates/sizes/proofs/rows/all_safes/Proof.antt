@@ -33,7 +33,11 @@ all-requires : tie.Need-all-requires Inv-loop μ-loop
 all-requires c κs = search needs
 
 returns : tie.Need-returns Inv-loop μ-loop
-returns c = safes-nots _ _ _ _ _ (c .before .before .before .before .before .before .loop .inv) (c .before .before .before .before .before .loop-test .taken) _ (c .before .before .before .safe .ensures) _ (c .before .enum-told .given .1) (c .all .ensures)
+returns c =
+    let s = c .before .before .before in
+    let t = s .before .before in
+    safes-nots _ _ _ _ _ (t .before .loop .inv) (t .loop-test .taken) _ (s .safe .ensures) _
+    (c .before .enum-told .given .1) (c .all .ensures)
 
 enum-known-one : tie.Need-enum-known-one Inv-loop μ-loop
 enum-known-one c = search needs
@@ -48,7 +52,11 @@ loop-less : tie.Need-loop-less Inv-loop μ-loop
 loop-less c = search needs
 
 loop-again : tie.Need-loop-again Inv-loop μ-loop
-loop-again c = safes-goes _ _ _ _ _ (c .before .before .before .before .before .before .before .loop .inv) (c .before .before .before .before .before .before .loop-test .taken) _ (c .before .before .before .before .safe .ensures) _ _ (c .before .before .one .given .1) (c .joined .ensures)
+loop-again c =
+    let s = c .before .before .before .before in
+    let t = s .before .before in
+    safes-goes _ _ _ _ _ (t .before .loop .inv) (t .loop-test .taken) _ (s .safe .ensures) _ _
+    (c .before .before .one .given .1) (c .joined .ensures)
 
 all-requires-2 : tie.Need-all-requires-2 Inv-loop μ-loop
 all-requires-2 c κs = search needs

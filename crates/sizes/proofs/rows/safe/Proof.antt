@@ -38,10 +38,18 @@ returns : tie.Need-returns
 returns c = safe-none-sized _ _ _ _ _ _ (c .before .before .before .pre) (c .enum-told .given .1)
 
 returns-2 : tie.Need-returns-2
-returns-2 c = safe-plain-sized _ _ _ _ _ _ (c .before .before .before .before .before .before .pre) _ _ _ (c .before .before .before .enum-told2 .given .1) (c .before .before .bags .ensures) (c .before .«data» .ensures) (c .element .ensures)
+returns-2 c =
+    let k = c .before .before .before in
+    safe-plain-sized _ _ _ _ _ _ (k .before .before .before .pre) _ _ _ (k .enum-told2 .given .1)
+    (c .before .before .bags .ensures) (c .before .«data» .ensures) (c .element .ensures)
 
 returns-3 : tie.Need-returns-3
-returns-3 c = safe-encrypted-sized _ _ _ _ _ _ (c .before .before .before .before .before .before .before .before .pre) _ _ _ _ (c .before .before .before .before .before .enum-told3 .given .1) (c .before .before .before .encrypted-data .ensures) (c .before .before .element2 .ensures) (c .before .content-info .ensures) (c .element3 .ensures)
+returns-3 c =
+    let e = c .before .before .before in
+    let k = e .before .before in
+    safe-encrypted-sized _ _ _ _ _ _ (k .before .before .before .pre) _ _ _ _ (k .enum-told3 .given .1)
+    (e .encrypted-data .ensures) (c .before .before .element2 .ensures) (c .before .content-info .ensures)
+    (c .element3 .ensures)
 
 pub safe-spec : {M : Type 1} → statement M
 safe-spec =

@@ -34,8 +34,9 @@ present-requires c κs = search needs
 
 returns-2 : tie.Need-returns-2 Inv-loop μ-loop
 returns-2 c =
-    set-leaves _ _ _ _ _ _ _ _ (c .before .before .before .before .before .loop .inv) (c .before .before .before .before .loop-test .taken) _ (on _ (c .before .before .before .before .before .before .before .if1 .left))
-    (c .before .if2 .taken) (c .present .ensures)
+    let l = c .before .before .before .before .before in
+    set-leaves _ _ _ _ _ _ _ _ (l .loop .inv) (c .before .before .before .before .loop-test .taken) _
+    (on _ (l .before .before .if1 .left)) (c .before .if2 .taken) (c .present .ensures)
 
 attribute-requires : tie.Need-attribute-requires Inv-loop μ-loop
 attribute-requires c κs = search needs
@@ -54,15 +55,20 @@ loop-less c = search needs
 
 loop-again : tie.Need-loop-again Inv-loop μ-loop
 loop-again c =
-    set-turn _ _ (c .before .before .before .before .before .before .before .before .before .before .before .args .has-set) _ _ _ _ _ (c .before .before .before .before .before .before .before .loop .inv) (c .before .before .before .before .before .before .loop-test .taken) _ _ _ (c .before .before .before .if2 .left)
-    (c .before .before .attribute .ensures) (c .before .element .ensures) (c .sum .ensures)
+    let i = c .before .before .before in
+    let t = i .before .before .before in
+    let l = t .before in
+    set-turn _ _ (l .before .before .before .before .args .has-set) _ _ _ _ _ (l .loop .inv) (t .loop-test .taken) _ _ _
+    (i .if2 .left) (c .before .before .attribute .ensures) (c .before .element .ensures) (c .sum .ensures)
 
 present-requires-2 : tie.Need-present-requires-2 Inv-loop μ-loop
 present-requires-2 c κs = search needs
 
 returns-3 : tie.Need-returns-3 Inv-loop μ-loop
 returns-3 c =
-    set-ends _ _ _ _ _ _ _ _ (c .before .before .loop .inv) _ (on _ (c .before .before .before .before .if1 .left)) (c .before .loop-test .left) (c .present2 .ensures)
+    let l = c .before .before in
+    set-ends _ _ _ _ _ _ _ _ (l .loop .inv) _ (on _ (l .before .before .if1 .left))
+    (c .before .loop-test .left) (c .present2 .ensures)
 
 pub set-spec : {M : Type 1} → statement M
 set-spec =

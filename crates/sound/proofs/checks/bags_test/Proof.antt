@@ -1,4 +1,5 @@
--- The loop's invariant: the answer that is due is that of the rows from i on. The measure is what is left of them.
+-- The loop's invariant: the answer that is due is that of the rows from i on. The measure is what
+-- is left of them.
 use Prim.Native.Nat.{_-_}
 use borrow.Author.Needs.{needs}
 use Rattle.pkcs12.specs.Checks.{bagTest}

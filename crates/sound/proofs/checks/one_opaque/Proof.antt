@@ -1,4 +1,5 @@
--- Each way out is the definition's: the cursor is over all of the bytes, and its check passed or was refused.
+-- Each way out is the definition's: the cursor is over all of the bytes, and its check passed or
+-- was refused.
 use borrow.Author.Needs.{needs}
 use Rattle.sound.proofs.Rules.{one-refused, one-passed}
 use Rattle.sound.proofs.checks.one_opaque.Statement.{statement}

@@ -1,4 +1,5 @@
--- Each way out is the definition's, by the tests and answers on the way. The loops may run, since the counts fit.
+-- Each way out is the definition's, by the tests and answers on the way. The loops may run, since
+-- the counts fit.
 use borrow.Author.Needs.{needs}
 use Rattle.pkcs12.specs.Checks.{keepsRules, rowsTest}
 use Rattle.der.proofs.Choices.{denied, granted}

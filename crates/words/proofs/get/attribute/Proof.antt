@@ -1,5 +1,5 @@
 -- Its parts, each at its place.
-use Rattle.words.specs.Loaded.{attributeAt}
+use Rattle.words.specs.Loaded.{attributeLoaded}
 use borrow.Author.Needs.{needs}
 use Rattle.words.proofs.get.attribute.Statement.{statement}
 use Rattle.words.proofs.get.attribute.Tie as tie
@@ -26,7 +26,7 @@ range-requires-2 : tie.Need-range-requires-2
 range-requires-2 c κs = search needs
 
 returns : tie.Need-returns
-unfolding attributeAt
+unfolding attributeLoaded
 returns c = cc
 
 pub attribute-spec : {M : Type 1} → statement M

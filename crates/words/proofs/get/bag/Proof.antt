@@ -1,5 +1,5 @@
 -- Its parts, each at its place.
-use Rattle.words.specs.Loaded.{bagAt}
+use Rattle.words.specs.Loaded.{bagLoaded}
 use borrow.Author.Needs.{needs}
 use Rattle.words.proofs.get.bag.Statement.{statement}
 use Rattle.words.proofs.get.bag.Tie as tie
@@ -47,7 +47,7 @@ set-of-requires : tie.Need-set-of-requires
 set-of-requires c κs = search needs
 
 returns : tie.Need-returns
-unfolding bagAt
+unfolding bagLoaded
 returns c = cc
 
 pub bag-spec : {M : Type 1} → statement M

@@ -1,5 +1,5 @@
 -- Its parts, each at its place.
-use Rattle.words.specs.Loaded.{macAt}
+use Rattle.words.specs.Loaded.{macLoaded}
 use borrow.Author.Needs.{needs}
 use Rattle.words.proofs.get.mac.Statement.{statement}
 use Rattle.words.proofs.get.mac.Tie as tie
@@ -23,7 +23,7 @@ word-requires : tie.Need-word-requires
 word-requires c κs = search needs
 
 returns : tie.Need-returns
-unfolding macAt
+unfolding macLoaded
 returns c = cc
 
 pub mac-spec : {M : Type 1} → statement M

@@ -1,5 +1,5 @@
 -- Its parts, each at its place.
-use Rattle.words.specs.Loaded.{partsAt}
+use Rattle.words.specs.Loaded.{partsLoaded}
 use borrow.Author.Needs.{needs}
 use Rattle.words.proofs.get.parts.Statement.{statement}
 use Rattle.words.proofs.get.parts.Tie as tie
@@ -23,7 +23,7 @@ range-requires-3 : tie.Need-range-requires-3
 range-requires-3 c κs = search needs
 
 returns : tie.Need-returns
-unfolding partsAt
+unfolding partsLoaded
 returns c = cc
 
 pub parts-spec : {M : Type 1} → statement M

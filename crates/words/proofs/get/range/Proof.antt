@@ -1,5 +1,5 @@
 -- Its parts, each at its place.
-use Rattle.words.specs.Loaded.{rangeAt}
+use Rattle.words.specs.Loaded.{rangeLoaded}
 use borrow.Author.Needs.{needs}
 use Rattle.words.proofs.get.range.Statement.{statement}
 use Rattle.words.proofs.get.range.Tie as tie
@@ -17,7 +17,7 @@ range-of-requires : tie.Need-range-of-requires
 range-of-requires c κs = search needs
 
 returns : tie.Need-returns
-unfolding rangeAt
+unfolding rangeLoaded
 returns c = cc
 
 pub range-spec : {M : Type 1} → statement M

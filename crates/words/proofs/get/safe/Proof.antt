@@ -1,5 +1,5 @@
 -- Its parts, each at its place.
-use Rattle.words.specs.Loaded.{safeAt}
+use Rattle.words.specs.Loaded.{safeLoaded}
 use borrow.Author.Needs.{needs}
 use Rattle.words.proofs.get.safe.Statement.{statement}
 use Rattle.words.proofs.get.safe.Tie as tie
@@ -17,7 +17,7 @@ parts-requires : tie.Need-parts-requires
 parts-requires c κs = search needs
 
 returns : tie.Need-returns
-unfolding safeAt
+unfolding safeLoaded
 returns c = cc
 
 pub safe-spec : {M : Type 1} → statement M

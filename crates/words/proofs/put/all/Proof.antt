@@ -1,5 +1,5 @@
 -- The parts one behind another.
-use Rattle.words.proofs.Puts.{put-then}
+use Rattle.buffer.proofs.Placing.{_then_}
 use Rattle.words.specs.Stored.{wordsOf}
 use borrow.Author.Needs.{needs}
 use Rattle.words.proofs.put.all.Statement.{statement}
@@ -22,7 +22,12 @@ same-length c = search needs
 
 returns : tie.Need-returns
 unfolding wordsOf
-returns c = put-then _ _ _ _ _ _ _ _ (c .before .before .before .before .before .before .before .before .before .before .before .before .before .before .before .before .before .head .ensures) (put-then _ _ _ _ _ _ _ _ (c .before .before .before .before .before .before .before .before .before .before .before .before .safes .ensures) (put-then _ _ _ _ _ _ _ _ (c .before .before .before .before .before .before .before .bags .ensures) (c .before .before .attributes .ensures)))
+returns c =
+    let a = c .before .before in
+    let b = a .before .before .before .before .before in
+    let d = b .before .before .before .before .before in
+    let e = d .before .before .before .before .before in
+    _then_ (e .head .ensures) (_then_ (d .safes .ensures) (_then_ (b .bags .ensures) (a .attributes .ensures)))
 
 pub all-spec : {M : Type 1} → statement M
 all-spec =

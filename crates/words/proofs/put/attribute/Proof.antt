@@ -1,5 +1,6 @@
 -- The bag before the ranges.
-use Rattle.words.proofs.Puts.{put-word, put-then}
+use Rattle.buffer.proofs.Placing.{_then_}
+use Rattle.words.proofs.Stores.{word-then}
 use native.Mathlib.Omega.{arith}
 use borrow.Author.Needs.{needs}
 use Rattle.words.proofs.put.attribute.Statement.{statement}
@@ -21,7 +22,11 @@ same-length : tie.Need-same-length
 same-length c = search needs
 
 returns : tie.Need-returns
-returns c = put-word _ _ _ _ _ _ _ _ _ (omega arith) (c .before .before .before .before .before .before .before .before .before .before .word .ensures) (put-then _ _ _ _ _ _ _ _ (c .before .before .before .before .before .before .range .ensures) (c .before .before .range2 .ensures))
+returns c =
+    let a = c .before .before in
+    let b = a .before .before .before .before in
+    let d = b .before .before .before .before in
+    word-then (omega arith) (d .word .ensures) (_then_ (b .range .ensures) (a .range2 .ensures))
 
 pub attribute-spec : {M : Type 1} → statement M
 attribute-spec =

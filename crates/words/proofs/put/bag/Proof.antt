@@ -1,5 +1,6 @@
 -- The parts one behind another.
-use Rattle.words.proofs.Puts.{put-then, put-last}
+use Rattle.buffer.proofs.Placing.{_then_}
+use Rattle.words.proofs.Stores.{word-last}
 use borrow.Author.Needs.{needs}
 use Rattle.words.proofs.put.bag.Statement.{statement}
 use Rattle.words.proofs.put.bag.Tie as tie
@@ -20,7 +21,12 @@ same-length : tie.Need-same-length
 same-length c = search needs
 
 returns : tie.Need-returns
-returns c = put-then _ _ _ _ _ _ _ _ (c .before .before .before .before .before .before .before .before .before .before .bag-head .ensures) (put-then _ _ _ _ _ _ _ _ (c .before .before .before .before .before .before .parts .ensures) (put-last _ _ _ _ _ _ (c .before .before .before .before .before .before .before .before .before .before .before .before .set-number .ensures) (c .before .before .word .ensures)))
+returns c =
+    let a = c .before .before in
+    let b = a .before .before .before .before in
+    let d = b .before .before .before .before in
+    let e = d .before .before in
+    _then_ (d .bag-head .ensures) (_then_ (b .parts .ensures) (word-last (e .set-number .ensures) (a .word .ensures)))
 
 pub bag-spec : {M : Type 1} → statement M
 bag-spec =

@@ -1,5 +1,5 @@
 -- The words one behind another.
-use Rattle.words.proofs.Puts.{put-word, put-last}
+use Rattle.words.proofs.Stores.{word-then, word-last}
 use native.Mathlib.Omega.{arith}
 use borrow.Author.Needs.{needs}
 use Rattle.words.proofs.put.bag_head.Statement.{statement}
@@ -24,7 +24,14 @@ same-length : tie.Need-same-length
 same-length c = search needs
 
 returns : tie.Need-returns
-returns c = put-word _ _ _ _ _ _ _ _ _ (c .before .before .before .before .before .before .before .before .before .before .before .before .before .bag-number .ensures) (c .before .before .before .before .before .before .before .before .before .before .word .ensures) (put-word _ _ _ _ _ _ _ _ _ (omega arith) (c .before .before .before .before .before .before .word2 .ensures) (put-last _ _ _ _ _ _ (c .before .before .before .before .before .before .before .before .before .before .before .before .enclosing-number .ensures) (c .before .before .word3 .ensures)))
+returns c =
+    let a = c .before .before in
+    let b = a .before .before .before .before in
+    let d = b .before .before .before .before in
+    let e = d .before .before in
+    let f = e .before in
+    word-then (f .bag-number .ensures) (d .word .ensures)
+    (word-then (omega arith) (b .word2 .ensures) (word-last (e .enclosing-number .ensures) (a .word3 .ensures)))
 
 pub bag-head-spec : {M : Type 1} → statement M
 bag-head-spec =

@@ -1,5 +1,5 @@
 -- The words one behind another.
-use Rattle.words.proofs.Puts.{put-word, put-last}
+use Rattle.words.proofs.Stores.{word-then, word-last}
 use borrow.Author.Needs.{needs}
 use Rattle.words.proofs.put.counts.Statement.{statement}
 use Rattle.words.proofs.put.counts.Tie as tie
@@ -32,7 +32,18 @@ same-length : tie.Need-same-length
 same-length c = search needs
 
 returns : tie.Need-returns
-returns c = put-word _ _ _ _ _ _ _ _ _ (c .before .before .before .before .before .before .before .before .before .before .before .before .before .before .before .before .before .before .count-word .ensures) (c .before .before .before .before .before .before .before .before .before .before .before .before .before .before .before .before .before .word .ensures) (put-word _ _ _ _ _ _ _ _ _ (c .before .before .before .before .before .before .before .before .before .before .before .before .before .count-word2 .ensures) (c .before .before .before .before .before .before .before .before .before .before .before .before .word2 .ensures) (put-word _ _ _ _ _ _ _ _ _ (c .before .before .before .before .before .before .before .before .count-word3 .ensures) (c .before .before .before .before .before .before .before .word3 .ensures) (put-last _ _ _ _ _ _ (c .before .before .before .count-word4 .ensures) (c .before .before .word4 .ensures))))
+returns c =
+    let a = c .before .before in
+    let b = a .before in
+    let d = b .before .before .before .before in
+    let e = d .before in
+    let f = e .before .before .before .before in
+    let g = f .before in
+    let h = g .before .before .before .before in
+    let k = h .before in
+    word-then (k .count-word .ensures) (h .word .ensures)
+    (word-then (g .count-word2 .ensures) (f .word2 .ensures)
+    (word-then (e .count-word3 .ensures) (d .word3 .ensures) (word-last (b .count-word4 .ensures) (a .word4 .ensures))))
 
 pub counts-spec : {M : Type 1} → statement M
 counts-spec =

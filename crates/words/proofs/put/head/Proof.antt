@@ -1,5 +1,5 @@
 -- The parts one behind another.
-use Rattle.words.proofs.Puts.{put-then}
+use Rattle.buffer.proofs.Placing.{_then_}
 use borrow.Author.Needs.{needs}
 use Rattle.words.proofs.put.head.Statement.{statement}
 use Rattle.words.proofs.put.head.Tie as tie
@@ -17,7 +17,11 @@ same-length : tie.Need-same-length
 same-length c = search needs
 
 returns : tie.Need-returns
-returns c = put-then _ _ _ _ _ _ _ _ (c .before .before .before .before .before .before .before .before .before .before .counts .ensures) (put-then _ _ _ _ _ _ _ _ (c .before .before .before .before .before .before .range .ensures) (c .before .before .mac .ensures))
+returns c =
+    let a = c .before .before in
+    let b = a .before .before .before .before in
+    let d = b .before .before .before .before in
+    _then_ (d .counts .ensures) (_then_ (b .range .ensures) (a .mac .ensures))
 
 pub head-spec : {M : Type 1} → statement M
 head-spec = tie.close (tie.spec counts-requires range-requires mac-requires same-length returns)

@@ -1,5 +1,5 @@
 -- The parts one behind another.
-use Rattle.words.proofs.Puts.{put-then}
+use Rattle.buffer.proofs.Placing.{_then_}
 use borrow.Author.Needs.{needs}
 use Rattle.words.proofs.put.mac.Statement.{statement}
 use Rattle.words.proofs.put.mac.Tie as tie
@@ -17,7 +17,11 @@ same-length : tie.Need-same-length
 same-length c = search needs
 
 returns : tie.Need-returns
-returns c = put-then _ _ _ _ _ _ _ _ (c .before .before .before .before .before .before .before .before .before .before .parts .ensures) (put-then _ _ _ _ _ _ _ _ (c .before .before .before .before .before .before .range .ensures) (c .before .before .word .ensures))
+returns c =
+    let a = c .before .before in
+    let b = a .before .before .before .before in
+    let d = b .before .before .before .before in
+    _then_ (d .parts .ensures) (_then_ (b .range .ensures) (a .word .ensures))
 
 pub mac-spec : {M : Type 1} → statement M
 mac-spec = tie.close (tie.spec parts-requires range-requires word-requires same-length returns)

@@ -1,5 +1,5 @@
 -- The ranges one behind another.
-use Rattle.words.proofs.Puts.{put-then}
+use Rattle.buffer.proofs.Placing.{_then_}
 use borrow.Author.Needs.{needs}
 use Rattle.words.proofs.put.parts.Statement.{statement}
 use Rattle.words.proofs.put.parts.Tie as tie
@@ -17,7 +17,11 @@ same-length : tie.Need-same-length
 same-length c = search needs
 
 returns : tie.Need-returns
-returns c = put-then _ _ _ _ _ _ _ _ (c .before .before .before .before .before .before .before .before .before .before .range .ensures) (put-then _ _ _ _ _ _ _ _ (c .before .before .before .before .before .before .range2 .ensures) (c .before .before .range3 .ensures))
+returns c =
+    let a = c .before .before in
+    let b = a .before .before .before .before in
+    let d = b .before .before .before .before in
+    _then_ (d .range .ensures) (_then_ (b .range2 .ensures) (a .range3 .ensures))
 
 pub parts-spec : {M : Type 1} → statement M
 parts-spec =

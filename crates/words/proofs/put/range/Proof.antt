@@ -1,5 +1,5 @@
 -- The words one behind another.
-use Rattle.words.proofs.Puts.{put-word}
+use Rattle.words.proofs.Stores.{word-then}
 use native.Mathlib.Omega.{arith}
 use borrow.Author.Needs.{needs}
 use Rattle.words.proofs.put.range.Statement.{statement}
@@ -21,7 +21,10 @@ same-length : tie.Need-same-length
 same-length c = search needs
 
 returns : tie.Need-returns
-returns c = put-word _ _ _ _ _ _ _ _ _ (omega arith) (c .before .before .before .before .before .before .word .ensures) (c .before .before .word2 .ensures)
+returns c =
+    let a = c .before .before in
+    let b = a .before .before .before .before in
+    word-then (omega arith) (b .word .ensures) (a .word2 .ensures)
 
 pub range-spec : {M : Type 1} → statement M
 range-spec =

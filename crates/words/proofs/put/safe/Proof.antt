@@ -1,5 +1,5 @@
 -- The kind before the parts.
-use Rattle.words.proofs.Puts.{put-word}
+use Rattle.words.proofs.Stores.{word-then}
 use borrow.Author.Needs.{needs}
 use Rattle.words.proofs.put.safe.Statement.{statement}
 use Rattle.words.proofs.put.safe.Tie as tie
@@ -17,7 +17,11 @@ same-length : tie.Need-same-length
 same-length c = search needs
 
 returns : tie.Need-returns
-returns c = put-word _ _ _ _ _ _ _ _ _ (c .before .before .before .before .before .before .before .before .safe-number .ensures) (c .before .before .before .before .before .before .word .ensures) (c .before .before .parts .ensures)
+returns c =
+    let a = c .before .before in
+    let b = a .before .before .before .before in
+    let d = b .before .before in
+    word-then (d .safe-number .ensures) (b .word .ensures) (a .parts .ensures)
 
 pub safe-spec : {M : Type 1} → statement M
 safe-spec =

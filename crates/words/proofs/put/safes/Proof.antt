@@ -1,8 +1,9 @@
 -- The loop stores the rows one behind another; zeros fill what is left.
-use Rattle.words.proofs.Rows.{Storing, store-start, store-turn, store-end}
+use lib.ListN.{getD}
+use Rattle.buffer.proofs.Rows.{Lined, lines-start, lines-turn}
+use Rattle.words.proofs.Rows.{store-end}
 use Rattle.words.specs.Stored.{safeWords}
 use Rattle.pkcs12.specs.Table.{noSafe}
-use Rattle.pkcs12.specs.Numbers.{safeRows}
 use borrow.Author.Needs.{needs}
 use native.Mathlib.Omega.{arith}
 use Prim.Native.Nat.{_-_}
@@ -10,7 +11,7 @@ use Rattle.words.proofs.put.safes.Statement.{statement}
 use Rattle.words.proofs.put.safes.Tie as tie
 
 abbrev Inv-loop : tie.InvT-loop
-Inv-loop out₀ at count rows end to₀ i₀ out to i = Storing safeWords noSafe safeRows rows out₀ at end out to i
+Inv-loop out₀ at count rows end to₀ i₀ out to i = Lined (λ j. safeWords (getD rows j noSafe)) out₀ at end out to i
 
 abbrev μ-loop : tie.MeasureT-loop
 μ-loop out₀ at count rows end to₀ i₀ out to i = end - i
@@ -19,31 +20,35 @@ fewer-requires : tie.Need-fewer-requires Inv-loop μ-loop
 fewer-requires c κs = search needs
 
 loop-holds : tie.Need-loop-holds Inv-loop μ-loop
-loop-holds c = store-start _ _ _ _ _ _ _ _ (c .fewer .ensures)
+loop-holds c = lines-start _ _ _ _
 
 mul-row : tie.Need-mul-row Inv-loop μ-loop
-mul-row c = omega (arith, (c .before .loop .inv .few))
+mul-row c = omega (arith, c .before .before .fewer .ensures)
 
 array-copy-out-row : tie.Need-array-copy-out-row Inv-loop μ-loop
-array-copy-out-row c = omega (arith, (c .before .loop .inv .few))
+array-copy-out-row c = omega (arith, c .before .before .fewer .ensures)
 
 safe-requires : tie.Need-safe-requires Inv-loop μ-loop
 safe-requires c κs = search needs
 
 add-i : tie.Need-add-i Inv-loop μ-loop
-add-i c = omega (arith, (c .before .before .before .before .before .before .loop .inv .few))
+add-i c = omega (arith, c .before .before .before .before .before .before .before .fewer .ensures)
 
 loop-less : tie.Need-loop-less Inv-loop μ-loop
 loop-less c = search needs
 
 loop-again : tie.Need-loop-again Inv-loop μ-loop
-loop-again c = store-turn _ _ _ _ _ _ _ _ _ _ (c .before .before .before .before .before .before .loop .inv) _ _ (c .before .before .before .before .before .loop-test .taken) (search needs) (c .before .before .safe .ensures)
+loop-again c =
+    let a = c .before .before in
+    let b = a .before .before .before in
+    let d = b .before in
+    lines-turn _ _ _ _ _ _ _ (d .loop .inv) _ _ (b .loop-test .taken) (search needs) (a .safe .ensures)
 
 sub-left : tie.Need-sub-left Inv-loop μ-loop
-sub-left c = omega (arith, (c .before .loop .inv .few))
+sub-left c = omega (arith, c .before .before .fewer .ensures)
 
 mul-left : tie.Need-mul-left Inv-loop μ-loop
-mul-left c = omega (arith, (c .before .loop .inv .few))
+mul-left c = omega (arith, c .before .before .fewer .ensures)
 
 zeros-requires : tie.Need-zeros-requires Inv-loop μ-loop
 zeros-requires c κs = search needs
@@ -52,7 +57,12 @@ same-length : tie.Need-same-length Inv-loop μ-loop
 same-length c = search needs
 
 returns : tie.Need-returns Inv-loop μ-loop
-returns c = store-end _ _ _ _ _ _ _ _ _ _ (c .before .before .before .before .before .loop .inv) _ _ _ _ (c .before .before .before .before .before .before .fewer .ensures) (c .before .before .before .before .loop-test .left) (c .before .before .zeros .ensures)
+returns c =
+    let a = c .before .before in
+    let b = a .before .before in
+    let d = b .before in
+    let e = d .before in
+    store-end _ _ _ _ _ _ _ _ _ _ (d .loop .inv) _ _ _ _ (e .fewer .ensures) (b .loop-test .left) (a .zeros .ensures)
 
 pub safes-spec : {M : Type 1} → statement M
 safes-spec =

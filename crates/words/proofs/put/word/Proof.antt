@@ -1,11 +1,15 @@
--- A word is stored where there is room.
-use Rattle.words.proofs.Puts.{word-past}
+-- A word is stored if the memory has its offset.
+use native.Mathlib.Omega.{arith}
+use Rattle.buffer.proofs.Writes.{byte-past, byte-here}
 use borrow.Author.Needs.{needs}
 use Rattle.words.proofs.put.word.Statement.{statement}
 use Rattle.words.proofs.put.word.Tie as tie
 
+after-requires : tie.Need-after-requires
+after-requires c κs = search needs
+
 returns : tie.Need-returns
-returns c = search word-past
+returns c = byte-past _ _ _ (omega arith) _ (c .before .if1 .taken) (c .after .ensures)
 
 mul-out : tie.Need-mul-out
 mul-out c = search needs
@@ -20,7 +24,7 @@ same-length : tie.Need-same-length
 same-length c = search needs
 
 returns-2 : tie.Need-returns-2
-returns-2 c = search needs
+returns-2 c = byte-here _ _ _ (omega arith) (c .if1 .left)
 
 pub word-spec : {M : Type 1} → statement M
-word-spec = tie.close (tie.spec returns mul-out slice-write-out add-result same-length returns-2)
+word-spec = tie.close (tie.spec after-requires returns mul-out slice-write-out add-result same-length returns-2)

@@ -1,21 +1,28 @@
--- The loop stores the zeros one behind another.
-use Rattle.words.proofs.Puts.{zeros-past, zeros-short, Clearing, zeros-start, zeros-turn, zeros-end}
-use borrow.Author.Needs.{needs}
+-- The loop stores the zeros that the memory has offsets for, one behind another.
 use Prim.Native.Nat.{_-_}
+use native.Mathlib.Omega.{arith}
+use borrow.Author.Needs.{needs}
+use Rattle.words.proofs.Stores.{zeros-past, Clearing, zeros-start, zeros-turn, zeros-end}
 use Rattle.words.proofs.put.zeros.Statement.{statement}
 use Rattle.words.proofs.put.zeros.Tie as tie
 
 abbrev Inv-loop : tie.InvT-loop
-Inv-loop out₀ at n size left i₀ out i = Clearing out₀ at n out i
+Inv-loop out₀ at n size left count i₀ out i = Clearing out₀ at n count out i
 
 abbrev μ-loop : tie.MeasureT-loop
-μ-loop out₀ at n size left i₀ out i = n - i
+μ-loop out₀ at n size left count i₀ out i = count - i
+
+after-requires : tie.Need-after-requires Inv-loop μ-loop
+after-requires c κs = search needs
 
 returns : tie.Need-returns Inv-loop μ-loop
-returns c = search zeros-past
+returns c = zeros-past _ _ _ _ (omega arith) (c .before .if1 .taken) (c .after .ensures)
 
-returns-2 : tie.Need-returns-2 Inv-loop μ-loop
-returns-2 c = search zeros-short
+sub-left : tie.Need-sub-left Inv-loop μ-loop
+sub-left c = search needs
+
+fewer-requires : tie.Need-fewer-requires Inv-loop μ-loop
+fewer-requires c κs = search needs
 
 loop-holds : tie.Need-loop-holds Inv-loop μ-loop
 loop-holds c = search zeros-start
@@ -36,16 +43,22 @@ loop-less : tie.Need-loop-less Inv-loop μ-loop
 loop-less c = search needs
 
 loop-again : tie.Need-loop-again Inv-loop μ-loop
-loop-again c = search zeros-turn
+loop-again c =
+    let a = c .before in
+    zeros-turn _ _ _ _ _ _ (a .loop .inv) _ (c .loop-test .taken) (a .before .fewer .ensures)
 
-add-result : tie.Need-add-result Inv-loop μ-loop
-add-result c = search needs
+after-requires-2 : tie.Need-after-requires-2 Inv-loop μ-loop
+after-requires-2 c κs = search needs
 
 same-length : tie.Need-same-length Inv-loop μ-loop
 same-length c = search needs
 
-returns-3 : tie.Need-returns-3 Inv-loop μ-loop
-returns-3 c = search zeros-end
+returns-2 : tie.Need-returns-2 Inv-loop μ-loop
+returns-2 c =
+    let a = c .before .before in
+    let f = a .before in
+    zeros-end _ _ _ _ _ _ (a .loop .inv) _ (omega arith) (c .before .loop-test .left) (f .fewer .ensures) (omega arith)
+    (c .after2 .ensures)
 
 pub zeros-spec : {M : Type 1} → statement M
 zeros-spec =
@@ -53,8 +66,10 @@ zeros-spec =
     (tie.spec
     Inv-loop
     μ-loop
+    after-requires
     returns
-    returns-2
+    sub-left
+    fewer-requires
     loop-holds
     add-to
     mul-out
@@ -62,6 +77,6 @@ zeros-spec =
     add-i
     loop-less
     loop-again
-    add-result
+    after-requires-2
     same-length
-    returns-3)
+    returns-2)

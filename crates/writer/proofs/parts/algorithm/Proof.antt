@@ -1,8 +1,8 @@
 -- The parts behind the header, which has their size.
 use Rattle.pkcs12.specs.Encode.{algorithmBytes}
 use Rattle.sizes.specs.Bodies.{algorithmBody}
-use Rattle.writer.proofs.Puts.{put-as, put-then}
-use Rattle.writer.proofs.Elements.{put-sized}
+use Rattle.buffer.proofs.Placing.{put-as, sure}
+use Rattle.writer.proofs.Puts.{short-then, put-sized}
 use borrow.Author.Needs.{needs}
 use Rattle.writer.proofs.parts.algorithm.Statement.{statement}
 use Rattle.writer.proofs.parts.algorithm.Tie as tie
@@ -19,15 +19,22 @@ named-requires c κs = search needs
 part-requires : tie.Need-part-requires
 part-requires c κs = search needs
 
-copied-requires : tie.Need-copied-requires
-copied-requires c κs = search needs
+bytes-requires : tie.Need-bytes-requires
+bytes-requires c κs = search needs
 
 same-length : tie.Need-same-length
 same-length c = search needs
 
 returns : tie.Need-returns
 unfolding algorithmBytes algorithmBody
-returns c = put-sized _ _ _ _ _ _ _ _ _ (c .before .before .before .before .before .before .before .before .before .before .before .before .header .ensures) (c .before .before .before .before .before .before .before .before .before .before .before .before .before .before .algorithm .ensures) (put-then _ _ _ _ _ _ _ _ (c .before .before .before .before .before .before .before .before .named .ensures) (put-as _ _ _ _ _ _ (c .before .before .before .part .ensures) (c .before .before .copied .ensures)))
+returns c =
+    let a = c .before .before in
+    let b = a .before in
+    let d = b .before .before .before .before .before in
+    let e = d .before .before .before .before in
+    let f = e .before .before in
+    put-sized _ (e .header .ensures) (f .algorithm .ensures)
+    (short-then (sure (d .named .ensures)) (put-as (b .part .ensures) (sure (a .bytes .ensures))))
 
 pub algorithm-spec : {M : Type 1} → statement M
 algorithm-spec =
@@ -37,6 +44,6 @@ algorithm-spec =
     header-requires
     named-requires
     part-requires
-    copied-requires
+    bytes-requires
     same-length
     returns)

@@ -20,7 +20,13 @@ same-length : tie.Need-same-length
 same-length c = search needs
 
 returns : tie.Need-returns
-returns c = bag-head-put _ _ _ _ _ _ _ _ _ _ _ _ (c .before .before .before .before .before .before .before .before .before .before .before .before .bag .ensures) (c .before .before .before .before .before .before .before .before .before .before .header .ensures) (c .before .before .before .before .before .before .bag-id .ensures) (c .before .before .header2 .ensures)
+returns c =
+    let a = c .before .before in
+    let b = a .before .before .before .before in
+    let d = b .before .before .before .before in
+    let e = d .before .before in
+    bag-head-put _ _ _ _ _ _ _ _ _ _ _ _ (e .bag .ensures) (d .header .ensures) (b .bag-id .ensures)
+    (a .header2 .ensures)
 
 pub bag-head-spec : {M : Type 1} → statement M
 bag-head-spec =

@@ -1,10 +1,9 @@
 -- By the kind.
-use native.Mathlib.Omega.{arith}
 use Rattle.der.specs.Octets.{lengthOctets, tlv}
 use Rattle.pkcs12.specs.Identifiers.{identifierOf}
-use Rattle.pkcs12.specs.declared.BagKind.{BagKind}
-use Rattle.pkcs12.specs.declared.BagKind.the-variants.{Key, ShroudedKey, Certificate, Crl, Secret, Nested}
-use Rattle.writer.specs.Put.{header}
+use Rattle.pkcs12.specs.declared.kind.BagKind.{BagKind}
+use Rattle.pkcs12.specs.declared.kind.BagKind.the-variants.{Key, ShroudedKey, Certificate, Crl, Secret, Nested}
+use Rattle.encode.specs.Header.{header}
 use Rattle.writer.proofs.Elements.{id-of}
 use borrow.Author.Needs.{needs}
 use Rattle.writer.proofs.parts.bag_id.Statement.{statement}
@@ -75,49 +74,70 @@ same-length c = search needs
 
 returns : tie.Need-returns
 unfolding identifierOf header tlv lengthOctets
-returns c = id-of _ BagKind.None (c .before .before .before .before .enum-told .given .1) _ _ _ _ (c .before .before .header .ensures (omega arith))
+returns c =
+    let a = c .before .before in
+    let b = a .before .before in
+    id-of _ BagKind.None (b .enum-told .given .1) _ _ _ _ (a .header .ensures)
 
 same-length-2 : tie.Need-same-length-2
 same-length-2 c = search needs
 
 returns-2 : tie.Need-returns-2
 unfolding identifierOf
-returns-2 c = id-of _ Key (c .before .before .before .before .before .enum-told2 .given .1) _ _ _ _ (c .before .before .element .ensures)
+returns-2 c =
+    let a = c .before .before in
+    let b = a .before .before .before in
+    id-of _ Key (b .enum-told2 .given .1) _ _ _ _ (a .element .ensures)
 
 same-length-3 : tie.Need-same-length-3
 same-length-3 c = search needs
 
 returns-3 : tie.Need-returns-3
 unfolding identifierOf
-returns-3 c = id-of _ ShroudedKey (c .before .before .before .before .before .enum-told3 .given .1) _ _ _ _ (c .before .before .element2 .ensures)
+returns-3 c =
+    let a = c .before .before in
+    let b = a .before .before .before in
+    id-of _ ShroudedKey (b .enum-told3 .given .1) _ _ _ _ (a .element2 .ensures)
 
 same-length-4 : tie.Need-same-length-4
 same-length-4 c = search needs
 
 returns-4 : tie.Need-returns-4
 unfolding identifierOf
-returns-4 c = id-of _ Certificate (c .before .before .before .before .before .enum-told4 .given .1) _ _ _ _ (c .before .before .element3 .ensures)
+returns-4 c =
+    let a = c .before .before in
+    let b = a .before .before .before in
+    id-of _ Certificate (b .enum-told4 .given .1) _ _ _ _ (a .element3 .ensures)
 
 same-length-5 : tie.Need-same-length-5
 same-length-5 c = search needs
 
 returns-5 : tie.Need-returns-5
 unfolding identifierOf
-returns-5 c = id-of _ Crl (c .before .before .before .before .before .enum-told5 .given .1) _ _ _ _ (c .before .before .element4 .ensures)
+returns-5 c =
+    let a = c .before .before in
+    let b = a .before .before .before in
+    id-of _ Crl (b .enum-told5 .given .1) _ _ _ _ (a .element4 .ensures)
 
 same-length-6 : tie.Need-same-length-6
 same-length-6 c = search needs
 
 returns-6 : tie.Need-returns-6
 unfolding identifierOf
-returns-6 c = id-of _ Secret (c .before .before .before .before .before .enum-told6 .given .1) _ _ _ _ (c .before .before .element5 .ensures)
+returns-6 c =
+    let a = c .before .before in
+    let b = a .before .before .before in
+    id-of _ Secret (b .enum-told6 .given .1) _ _ _ _ (a .element5 .ensures)
 
 same-length-7 : tie.Need-same-length-7
 same-length-7 c = search needs
 
 returns-7 : tie.Need-returns-7
 unfolding identifierOf
-returns-7 c = id-of _ Nested (c .before .before .before .before .before .enum-told7 .given .1) _ _ _ _ (c .before .before .element6 .ensures)
+returns-7 c =
+    let a = c .before .before in
+    let b = a .before .before .before in
+    id-of _ Nested (b .enum-told7 .given .1) _ _ _ _ (a .element6 .ensures)
 
 pub bag-id-spec : {M : Type 1} → statement M
 bag-id-spec =

@@ -1,9 +1,9 @@
 -- By the kind.
 use Rattle.pkcs12.specs.Encode.{leafBytes}
-use Rattle.pkcs12.specs.declared.BagKind.{BagKind}
-use Rattle.pkcs12.specs.declared.BagKind.the-variants.{Key, ShroudedKey, Certificate, Crl, Secret, Nested}
+use Rattle.pkcs12.specs.declared.kind.BagKind.{BagKind}
+use Rattle.pkcs12.specs.declared.kind.BagKind.the-variants.{Key, ShroudedKey, Certificate, Crl, Secret, Nested}
 use Rattle.sizes.specs.Bodies.{typedBody, contentOf}
-use Rattle.writer.proofs.Puts.{put-nothing, put-as}
+use Rattle.buffer.proofs.Placing.{put-nothing, put-as, sure}
 use Rattle.writer.proofs.Elements.{content-of}
 use borrow.Author.Needs.{needs}
 use Rattle.writer.proofs.parts.content.Statement.{statement}
@@ -21,8 +21,8 @@ enum-told-3 c = search needs
 part-requires : tie.Need-part-requires
 part-requires c κs = search needs
 
-copied-requires : tie.Need-copied-requires
-copied-requires c κs = search needs
+bytes-requires : tie.Need-bytes-requires
+bytes-requires c κs = search needs
 
 enum-told-4 : tie.Need-enum-told-4
 enum-told-4 c = search needs
@@ -61,35 +61,51 @@ same-length c = search needs
 
 returns-3 : tie.Need-returns-3
 unfolding contentOf leafBytes
-returns-3 c = content-of _ Key (c .before .before .before .before .before .before .enum-told3 .given .1) _ _ _ _ _ _ (put-as _ _ _ _ _ _ (c .before .before .before .part .ensures) (c .before .before .copied .ensures))
+returns-3 c =
+    let a = c .before .before in
+    let b = a .before in
+    let d = b .before .before .before in
+    content-of _ Key (d .enum-told3 .given .1) _ _ _ _ _ _ (put-as (b .part .ensures) (sure (a .bytes .ensures)))
 
 same-length-2 : tie.Need-same-length-2
 same-length-2 c = search needs
 
 returns-4 : tie.Need-returns-4
 unfolding contentOf leafBytes
-returns-4 c = content-of _ ShroudedKey (c .before .before .before .before .enum-told4 .given .1) _ _ _ _ _ _ (c .before .before .sealed .ensures)
+returns-4 c =
+    let a = c .before .before in
+    let b = a .before .before in
+    content-of _ ShroudedKey (b .enum-told4 .given .1) _ _ _ _ _ _ (a .sealed .ensures)
 
 same-length-3 : tie.Need-same-length-3
 same-length-3 c = search needs
 
 returns-5 : tie.Need-returns-5
 unfolding contentOf leafBytes typedBody
-returns-5 c = content-of _ Certificate (c .before .before .before .before .enum-told5 .given .1) _ _ _ _ _ _ (c .before .before .typed .ensures)
+returns-5 c =
+    let a = c .before .before in
+    let b = a .before .before in
+    content-of _ Certificate (b .enum-told5 .given .1) _ _ _ _ _ _ (a .typed .ensures)
 
 same-length-4 : tie.Need-same-length-4
 same-length-4 c = search needs
 
 returns-6 : tie.Need-returns-6
 unfolding contentOf leafBytes typedBody
-returns-6 c = content-of _ Crl (c .before .before .before .before .enum-told6 .given .1) _ _ _ _ _ _ (c .before .before .typed2 .ensures)
+returns-6 c =
+    let a = c .before .before in
+    let b = a .before .before in
+    content-of _ Crl (b .enum-told6 .given .1) _ _ _ _ _ _ (a .typed2 .ensures)
 
 same-length-5 : tie.Need-same-length-5
 same-length-5 c = search needs
 
 returns-7 : tie.Need-returns-7
 unfolding contentOf leafBytes typedBody
-returns-7 c = content-of _ Secret (c .before .before .before .before .enum-told7 .given .1) _ _ _ _ _ _ (c .before .before .typed3 .ensures)
+returns-7 c =
+    let a = c .before .before in
+    let b = a .before .before in
+    content-of _ Secret (b .enum-told7 .given .1) _ _ _ _ _ _ (a .typed3 .ensures)
 
 pub content-spec : {M : Type 1} → statement M
 content-spec =
@@ -99,7 +115,7 @@ content-spec =
     enum-told-2
     enum-told-3
     part-requires
-    copied-requires
+    bytes-requires
     enum-told-4
     sealed-requires
     enum-told-5

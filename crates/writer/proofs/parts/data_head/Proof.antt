@@ -28,7 +28,14 @@ same-length c = search needs
 
 returns : tie.Need-returns
 unfolding dataType
-returns c = data-head-put _ _ _ _ _ _ _ _ _ _ _ _ (c .before .before .before .before .before .before .before .before .before .before .before .before .before .before .element .ensures) (c .before .before .before .before .before .before .before .before .before .before .before .before .before .element2 .ensures) (c .before .before .before .before .before .before .before .before .before .before .info-head .ensures) (c .before .before .before .before .before .before .header .ensures) (c .before .before .header2 .ensures)
+returns c =
+    let a = c .before .before in
+    let b = a .before .before .before .before in
+    let d = b .before .before .before .before in
+    let e = d .before .before .before in
+    let f = e .before in
+    data-head-put _ _ _ _ _ _ _ _ _ _ _ _ (f .element .ensures) (e .element2 .ensures) (d .info-head .ensures)
+    (b .header .ensures) (a .header2 .ensures)
 
 pub data-head-spec : {M : Type 1} → statement M
 data-head-spec =

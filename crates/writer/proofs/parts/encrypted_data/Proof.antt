@@ -1,7 +1,7 @@
 -- The parts behind the header, which has their size.
 use Rattle.sizes.specs.Bodies.{encryptedDataBody}
-use Rattle.writer.proofs.Puts.{put-then}
-use Rattle.writer.proofs.Elements.{put-sized}
+use Rattle.buffer.proofs.Placing.{sure}
+use Rattle.writer.proofs.Puts.{short-then, put-sized}
 use borrow.Author.Needs.{needs}
 use Rattle.writer.proofs.parts.encrypted_data.Statement.{statement}
 use Rattle.writer.proofs.parts.encrypted_data.Tie as tie
@@ -20,7 +20,12 @@ same-length c = search needs
 
 returns : tie.Need-returns
 unfolding encryptedDataBody
-returns c = put-sized _ _ _ _ _ _ _ _ _ (c .before .before .before .before .before .before .before .before .before .before .header .ensures) (c .before .before .before .before .before .before .before .before .before .before .before .before .before .before .pre) (put-then _ _ _ _ _ _ _ _ (c .before .before .before .before .before .before .integer .ensures) (c .before .before .encrypted-info .ensures))
+returns c =
+    let a = c .before .before in
+    let b = a .before .before .before .before in
+    let d = b .before .before .before .before in
+    let e = d .before .before .before .before in
+    put-sized _ (d .header .ensures) (e .pre) (short-then (sure (b .integer .ensures)) (a .encrypted-info .ensures))
 
 pub encrypted-data-spec : {M : Type 1} → statement M
 encrypted-data-spec =

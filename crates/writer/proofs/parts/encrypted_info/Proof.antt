@@ -2,8 +2,8 @@
 use Rattle.pkcs12.specs.Encode.{encryptedInfo}
 use Rattle.pkcs12.specs.Identifiers.{dataType}
 use Rattle.sizes.specs.Bodies.{encryptedInfoBody}
-use Rattle.writer.proofs.Puts.{put-then}
-use Rattle.writer.proofs.Elements.{put-sized}
+use Rattle.buffer.proofs.Placing.{sure}
+use Rattle.writer.proofs.Puts.{short-then, put-sized}
 use borrow.Author.Needs.{needs}
 use Rattle.writer.proofs.parts.encrypted_info.Statement.{statement}
 use Rattle.writer.proofs.parts.encrypted_info.Tie as tie
@@ -31,7 +31,14 @@ same-length c = search needs
 
 returns : tie.Need-returns
 unfolding encryptedInfo encryptedInfoBody dataType
-returns c = put-sized _ _ _ _ _ _ _ _ _ (c .before .before .before .before .before .before .before .before .before .before .before .before .before .before .before .header .ensures) (c .before .before .before .before .before .before .before .before .before .before .before .before .before .before .before .before .before .encrypted-info .ensures) (put-then _ _ _ _ _ _ _ _ (c .before .before .before .before .before .before .before .before .before .before .element .ensures) (put-then _ _ _ _ _ _ _ _ (c .before .before .before .before .before .before .algorithm .ensures) (c .before .before .named .ensures)))
+returns c =
+    let a = c .before .before in
+    let b = a .before .before .before .before in
+    let d = b .before .before .before .before in
+    let e = d .before .before .before .before .before in
+    let f = e .before .before in
+    put-sized _ (e .header .ensures) (f .encrypted-info .ensures)
+    (short-then (sure (d .element .ensures)) (short-then (b .algorithm .ensures) (sure (a .named .ensures))))
 
 pub encrypted-info-spec : {M : Type 1} → statement M
 encrypted-info-spec =

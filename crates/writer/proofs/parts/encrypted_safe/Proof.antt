@@ -25,7 +25,13 @@ same-length c = search needs
 
 returns : tie.Need-returns
 unfolding encryptedType
-returns c = encrypted-put _ _ _ _ _ _ _ _ _ (c .before .before .before .before .before .before .before .before .before .before .encrypted-data .ensures) (c .before .before .before .before .before .before .before .before .before .element .ensures) (c .before .before .before .before .before .before .info-head .ensures) (c .before .before .encrypted-data2 .ensures)
+returns c =
+    let a = c .before .before in
+    let b = a .before .before .before .before in
+    let d = b .before .before .before in
+    let e = d .before in
+    encrypted-put _ _ _ (e .encrypted-data .ensures) (d .element .ensures) (b .info-head .ensures)
+    (a .encrypted-data2 .ensures)
 
 pub encrypted-safe-spec : {M : Type 1} → statement M
 encrypted-safe-spec =

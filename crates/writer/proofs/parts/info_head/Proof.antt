@@ -20,7 +20,13 @@ same-length : tie.Need-same-length
 same-length c = search needs
 
 returns : tie.Need-returns
-returns c = info-head-put _ _ _ _ _ _ _ _ _ _ _ (c .before .before .before .before .before .before .before .before .before .before .before .before .content-info .ensures) (c .before .before .before .before .before .before .before .before .before .before .header .ensures) (c .before .before .before .before .before .before .element .ensures) (c .before .before .header2 .ensures)
+returns c =
+    let a = c .before .before in
+    let b = a .before .before .before .before in
+    let d = b .before .before .before .before in
+    let e = d .before .before in
+    info-head-put _ _ _ _ _ _ _ _ _ _ _ (e .content-info .ensures) (d .header .ensures) (b .element .ensures)
+    (a .header2 .ensures)
 
 pub info-head-spec : {M : Type 1} → statement M
 info-head-spec =

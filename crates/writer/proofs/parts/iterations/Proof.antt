@@ -1,14 +1,14 @@
 -- Nothing is written for the default.
 use borrow.Author.Tests.{eq-eqb, ne-eqb}
 use Rattle.pkcs12.specs.Encode.{iterationsBytes}
-use Rattle.writer.proofs.Puts.{put-nothing}
+use Rattle.buffer.proofs.Placing.{placed-nothing}
 use borrow.Author.Needs.{needs}
 use Rattle.writer.proofs.parts.iterations.Statement.{statement}
 use Rattle.writer.proofs.parts.iterations.Tie as tie
 
 returns : tie.Need-returns
 unfolding iterationsBytes
-returns c = rw (eq-eqb _ _ (c .if1 .taken)) (put-nothing _ _)
+returns c = rw (eq-eqb _ _ (c .if1 .taken)) (placed-nothing _ _)
 
 integer-requires : tie.Need-integer-requires
 integer-requires c κs = search needs

@@ -1,8 +1,8 @@
 -- The parts behind the header, which has their size.
 use Rattle.pkcs12.specs.Encode.{macBytes}
 use Rattle.sizes.specs.Bodies.{macBody}
-use Rattle.writer.proofs.Puts.{put-then}
-use Rattle.writer.proofs.Elements.{put-sized}
+use Rattle.buffer.proofs.Placing.{sure}
+use Rattle.writer.proofs.Puts.{short-then, put-sized}
 use borrow.Author.Needs.{needs}
 use Rattle.writer.proofs.parts.mac.Statement.{statement}
 use Rattle.writer.proofs.parts.mac.Tie as tie
@@ -27,7 +27,14 @@ same-length c = search needs
 
 returns : tie.Need-returns
 unfolding macBytes macBody
-returns c = put-sized _ _ _ _ _ _ _ _ _ (c .before .before .before .before .before .before .before .before .before .before .before .before .before .before .header .ensures) (c .before .before .before .before .before .before .before .before .before .before .before .before .before .before .before .before .mac .ensures) (put-then _ _ _ _ _ _ _ _ (c .before .before .before .before .before .before .before .before .before .before .sealed .ensures) (put-then _ _ _ _ _ _ _ _ (c .before .before .before .before .before .before .named .ensures) (c .before .before .iterations .ensures)))
+returns c =
+    let a = c .before .before in
+    let b = a .before .before .before .before in
+    let d = b .before .before .before .before in
+    let e = d .before .before .before .before in
+    let f = e .before .before in
+    put-sized _ (e .header .ensures) (f .mac .ensures)
+    (short-then (d .sealed .ensures) (short-then (sure (b .named .ensures)) (sure (a .iterations .ensures))))
 
 pub mac-spec : {M : Type 1} → statement M
 mac-spec =

@@ -1,8 +1,8 @@
 -- The parts behind the header, which has their size.
 use Rattle.pkcs12.specs.Encode.{sealedBytes}
 use Rattle.sizes.specs.Bodies.{sealedBody}
-use Rattle.writer.proofs.Puts.{put-then}
-use Rattle.writer.proofs.Elements.{put-sized}
+use Rattle.buffer.proofs.Placing.{sure}
+use Rattle.writer.proofs.Puts.{short-then, put-sized}
 use borrow.Author.Needs.{needs}
 use Rattle.writer.proofs.parts.sealed.Statement.{statement}
 use Rattle.writer.proofs.parts.sealed.Tie as tie
@@ -24,7 +24,13 @@ same-length c = search needs
 
 returns : tie.Need-returns
 unfolding sealedBytes sealedBody
-returns c = put-sized _ _ _ _ _ _ _ _ _ (c .before .before .before .before .before .before .before .before .before .before .header .ensures) (c .before .before .before .before .before .before .before .before .before .before .before .before .sealed .ensures) (put-then _ _ _ _ _ _ _ _ (c .before .before .before .before .before .before .algorithm .ensures) (c .before .before .named .ensures))
+returns c =
+    let a = c .before .before in
+    let b = a .before .before .before .before in
+    let d = b .before .before .before .before in
+    let e = d .before .before in
+    put-sized _ (d .header .ensures) (e .sealed .ensures)
+    (short-then (b .algorithm .ensures) (sure (a .named .ensures)))
 
 pub sealed-spec : {M : Type 1} → statement M
 sealed-spec =

@@ -1,7 +1,7 @@
 -- The parts behind the header, which has their size.
 use Rattle.sizes.specs.Bodies.{typedBody}
-use Rattle.writer.proofs.Puts.{put-then}
-use Rattle.writer.proofs.Elements.{put-sized}
+use Rattle.buffer.proofs.Placing.{sure}
+use Rattle.writer.proofs.Puts.{short-then, put-sized}
 use borrow.Author.Needs.{needs}
 use Rattle.writer.proofs.parts.typed.Statement.{statement}
 use Rattle.writer.proofs.parts.typed.Tie as tie
@@ -23,7 +23,13 @@ same-length c = search needs
 
 returns : tie.Need-returns
 unfolding typedBody
-returns c = put-sized _ _ _ _ _ _ _ _ _ (c .before .before .before .before .before .before .before .before .before .before .header .ensures) (c .before .before .before .before .before .before .before .before .before .before .before .before .typed .ensures) (put-then _ _ _ _ _ _ _ _ (c .before .before .before .before .before .before .named .ensures) (c .before .before .named2 .ensures))
+returns c =
+    let a = c .before .before in
+    let b = a .before .before .before .before in
+    let d = b .before .before .before .before in
+    let e = d .before .before in
+    put-sized _ (d .header .ensures) (e .typed .ensures)
+    (short-then (sure (b .named .ensures)) (sure (a .named2 .ensures)))
 
 pub typed-spec : {M : Type 1} → statement M
 typed-spec =

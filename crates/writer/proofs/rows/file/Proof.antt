@@ -32,7 +32,17 @@ same-length : tie.Need-same-length
 same-length c = search needs
 
 returns : tie.Need-returns
-returns c = all-put-file _ _ _ _ _ _ _ _ _ _ _ _ _ _ _ _ _ (c .before .before .before .before .before .before .before .before .before .before .before .before .before .before .before .before .before .before .before .before .before .before .all-safes .ensures) (c .before .before .before .before .before .before .before .before .before .before .before .before .before .before .before .before .before .before .before .before .before .mac .ensures) (c .before .before .before .before .before .before .before .before .before .before .before .before .before .before .before .before .before .before .before .before .pfx .ensures) (c .before .before .before .before .before .before .before .before .before .before .before .before .before .before .before .before .before .before .header .ensures) (c .before .before .before .before .before .before .before .before .before .before .before .before .before .before .integer .ensures) (c .before .before .before .before .before .before .before .before .before .before .data-head .ensures) (c .before .before .before .before .before .before .safes .ensures) (c .before .before .mac2 .ensures)
+returns c =
+    let a = c .before .before in
+    let b = a .before .before .before .before in
+    let d = b .before .before .before .before in
+    let e = d .before .before .before .before in
+    let f = e .before .before .before .before in
+    let g = f .before .before in
+    let h = g .before in
+    let k = h .before in
+    all-put-file _ _ _ _ _ _ _ _ _ _ _ _ _ _ _ _ _ (k .all-safes .ensures) (h .mac .ensures) (g .pfx .ensures)
+    (f .header .ensures) (e .integer .ensures) (d .data-head .ensures) (b .safes .ensures) (a .mac2 .ensures)
 
 pub file-spec : {M : Type 1} → statement M
 file-spec =

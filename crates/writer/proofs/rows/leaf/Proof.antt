@@ -21,13 +21,23 @@ content-requires-2 : tie.Need-content-requires-2
 content-requires-2 c κs = search needs
 
 set-requires-2 : tie.Need-set-requires-2
-set-requires-2 c κs = owned-body _ _ (c .before .before .before .before .before .before .before .before .before .set .ensures)
+set-requires-2 c κs =
+    let a = c .before .before .before .before .before .before .before .before .before in
+    owned-body _ _ (a .set .ensures)
 
 same-length : tie.Need-same-length
 same-length c = search needs
 
 returns : tie.Need-returns
-returns c = leaf-put _ _ _ _ _ _ _ _ _ _ _ _ _ _ _ (c .before .before .before .before .before .before .before .before .before .before .before .before .before .before .before .before .before .pre .1) (c .before .before .before .before .before .before .before .before .before .before .before .before .before .content .ensures) (c .before .before .before .before .before .before .before .before .before .before .before .before .set .ensures) (c .before .before .before .before .before .before .before .before .before .before .bag-head .ensures) (c .before .before .before .before .before .before .content2 .ensures) (c .before .before .set2 .ensures)
+returns c =
+    let a = c .before .before in
+    let b = a .before .before .before .before in
+    let d = b .before .before .before .before in
+    let e = d .before .before in
+    let f = e .before in
+    let g = f .before .before .before .before in
+    leaf-put _ _ _ _ _ _ _ _ _ _ _ _ _ _ _ (g .pre .1) (f .content .ensures) (e .set .ensures) (d .bag-head .ensures)
+    (b .content2 .ensures) (a .set2 .ensures)
 
 pub leaf-spec : {M : Type 1} → statement M
 leaf-spec =

@@ -32,13 +32,24 @@ same-length : tie.Need-same-length
 same-length c = search needs
 
 returns-2 : tie.Need-returns-2
-returns-2 c = plain-put _ _ _ _ _ _ (c .before .before .before .before .before .before .before .before .before .before .before .before .before .pre) _ _ _ _ _ _ _ (c .before .before .before .before .before .before .before .before .before .enum-told2 .given .1) (c .before .before .before .before .before .before .before .before .bags .ensures) (c .before .before .before .before .before .before .data-head .ensures) (c .before .before .bags2 .ensures)
+returns-2 c =
+    let a = c .before .before in
+    let b = a .before .before .before .before in
+    let d = b .before .before in
+    let e = d .before in
+    let f = e .before .before .before .before in
+    plain-put _ _ _ _ _ _ (f .pre) _ _ _ _ _ _ _ (e .enum-told2 .given .1) (d .bags .ensures) (b .data-head .ensures)
+    (a .bags2 .ensures)
 
 same-length-2 : tie.Need-same-length-2
 same-length-2 c = search needs
 
 returns-3 : tie.Need-returns-3
-returns-3 c = encrypted-safe-put _ _ _ _ _ _ (c .before .before .before .before .before .before .before .before .before .pre) _ _ _ _ (c .before .before .before .before .before .enum-told3 .given .1) (c .before .before .encrypted-safe .ensures)
+returns-3 c =
+    let a = c .before .before in
+    let b = a .before .before .before in
+    let d = b .before .before .before .before in
+    encrypted-safe-put _ _ _ _ _ _ (d .pre) _ _ _ _ (b .enum-told3 .given .1) (a .encrypted-safe .ensures)
 
 pub safe-spec : {M : Type 1} → statement M
 safe-spec =

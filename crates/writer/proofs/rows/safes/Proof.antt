@@ -6,7 +6,8 @@ use Rattle.writer.proofs.rows.safes.Statement.{statement}
 use Rattle.writer.proofs.rows.safes.Tie as tie
 
 abbrev Inv-loop : tie.InvT-loop
-Inv-loop out₀ at bytes table end so-far₀ k₀ out so-far k = SafesPutting table bytes end out₀ (so-far₀ .at) out so-far k
+Inv-loop out₀ at bytes table end so-far₀ k₀ out so-far k =
+    SafesPutting table bytes end out₀ (so-far₀ .at) out so-far k
 
 abbrev μ-loop : tie.MeasureT-loop
 μ-loop out₀ at bytes table end so-far₀ k₀ out so-far k = end - k
@@ -30,7 +31,11 @@ same-length : tie.Need-same-length Inv-loop μ-loop
 same-length c = search needs
 
 returns : tie.Need-returns Inv-loop μ-loop
-returns c = safes-no-safe _ _ _ _ _ _ _ _ (c .before .before .before .before .loop .inv) (c .before .before .before .loop-test .taken) _ (c .before .is-empty-safe .ensures) (c .if1 .taken)
+returns c =
+    let a = c .before .before .before in
+    let b = a .before in
+    safes-no-safe _ _ _ _ _ _ _ _ (b .loop .inv) (a .loop-test .taken) _ (c .before .is-empty-safe .ensures)
+    (c .if1 .taken)
 
 safe-requires : tie.Need-safe-requires Inv-loop μ-loop
 safe-requires c κs = search needs
@@ -42,7 +47,14 @@ loop-less : tie.Need-loop-less Inv-loop μ-loop
 loop-less c = search needs
 
 loop-again : tie.Need-loop-again Inv-loop μ-loop
-loop-again c = safes-one-more _ _ _ _ _ _ _ _ (c .before .before .before .before .before .before .before .before .loop .inv) (c .before .before .before .before .before .before .before .loop-test .taken) _ (c .before .before .before .before .before .is-empty-safe .ensures) _ _ (c .before .before .before .before .if1 .left) (c .before .before .safe .ensures) (search needs)
+loop-again c =
+    let a = c .before .before in
+    let b = a .before .before in
+    let d = b .before in
+    let e = d .before .before in
+    let f = e .before in
+    safes-one-more _ _ _ _ _ _ _ _ (f .loop .inv) (e .loop-test .taken) _ (d .is-empty-safe .ensures) _ _
+    (b .if1 .left) (a .safe .ensures) (search needs)
 
 same-length-2 : tie.Need-same-length-2 Inv-loop μ-loop
 same-length-2 c = search needs

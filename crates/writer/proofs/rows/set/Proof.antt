@@ -7,7 +7,8 @@ use Rattle.writer.proofs.rows.set.Statement.{statement}
 use Rattle.writer.proofs.rows.set.Tie as tie
 
 abbrev Inv-loop : tie.InvT-loop
-Inv-loop out₀ at bytes has-set bag from body table end to₀ next₀ out to next = SetPutting table bytes bag from end out₀ to₀ out to next
+Inv-loop out₀ at bytes has-set bag from body table end to₀ next₀ out to next =
+    SetPutting table bytes bag from end out₀ to₀ out to next
 
 abbrev μ-loop : tie.MeasureT-loop
 μ-loop out₀ at bytes has-set bag from body table end to₀ next₀ out to next = end - next
@@ -22,7 +23,10 @@ header-requires : tie.Need-header-requires Inv-loop μ-loop
 header-requires c κs = search needs
 
 loop-holds : tie.Need-loop-holds Inv-loop μ-loop
-loop-holds c = set-begins _ _ (c .before .before .before .before .before .before .before .before .args .has-set) _ _ _ _ _ (c .before .before .before .before .fewer .ensures)
+loop-holds c =
+    let a = c .before .before .before .before in
+    let b = a .before .before .before .before in
+    set-begins _ _ (b .args .has-set) _ _ _ _ _ (a .fewer .ensures)
 
 mul-row : tie.Need-mul-row Inv-loop μ-loop
 mul-row c = search needs
@@ -37,7 +41,14 @@ same-length : tie.Need-same-length Inv-loop μ-loop
 same-length c = search needs
 
 returns-2 : tie.Need-returns-2 Inv-loop μ-loop
-returns-2 c = set-leave _ _ _ _ _ _ _ _ _ _ _ (c .before .before .before .before .loop .inv) _ _ _ (on _ (c .before .before .before .before .before .before .before .before .before .before .if1 .left)) (c .before .before .before .before .before .before .before .before .before .before .before .before .before .pre) (c .before .before .before .before .before .before .before .header .ensures) (c .before .before .before .loop-test .taken) (c .if2 .taken)
+returns-2 c =
+    let a = c .before .before .before in
+    let b = a .before in
+    let d = b .before .before .before in
+    let e = d .before .before .before in
+    let f = e .before .before .before in
+    set-leave _ _ _ _ _ _ _ _ _ _ _ (b .loop .inv) _ _ _ (on _ (e .if1 .left)) (f .pre) (d .header .ensures)
+    (a .loop-test .taken) (c .if2 .taken)
 
 attribute-requires : tie.Need-attribute-requires Inv-loop μ-loop
 attribute-requires c κs = search needs
@@ -49,13 +60,25 @@ loop-less : tie.Need-loop-less Inv-loop μ-loop
 loop-less c = search needs
 
 loop-again : tie.Need-loop-again Inv-loop μ-loop
-loop-again c = set-more _ _ (c .before .before .before .before .before .before .before .before .before .before .before .before .before .before .before .before .before .args .has-set) _ _ _ _ _ _ _ _ (c .before .before .before .before .before .before .before .before .loop .inv) _ _ (search needs) (c .before .before .before .before .before .before .before .loop-test .taken) (c .before .before .before .before .if2 .left) (c .before .before .attribute .ensures)
+loop-again c =
+    let a = c .before .before in
+    let b = a .before .before in
+    let d = b .before .before .before in
+    let e = d .before in
+    let f = e .before .before .before .before .before .before .before .before .before in
+    set-more _ _ (f .args .has-set) _ _ _ _ _ _ _ _ (e .loop .inv) _ _ (search needs) (d .loop-test .taken)
+    (b .if2 .left) (a .attribute .ensures)
 
 same-length-2 : tie.Need-same-length-2 Inv-loop μ-loop
 same-length-2 c = search needs
 
 returns-3 : tie.Need-returns-3 Inv-loop μ-loop
-returns-3 c = set-all _ _ _ _ _ _ _ _ _ _ _ (c .before .loop .inv) _ _ _ (on _ (c .before .before .before .before .before .before .before .if1 .left)) (c .before .before .before .before .before .before .before .before .before .before .pre) (c .before .before .before .before .header .ensures) (c .loop-test .left)
+returns-3 c =
+    let a = c .before .before .before .before in
+    let b = a .before .before .before in
+    let d = b .before .before .before in
+    set-all _ _ _ _ _ _ _ _ _ _ _ (c .before .loop .inv) _ _ _ (on _ (b .if1 .left)) (d .pre) (a .header .ensures)
+    (c .loop-test .left)
 
 pub set-spec : {M : Type 1} → statement M
 set-spec =

@@ -1,0 +1,11 @@
+-- Ranges of bytes, and what writing into a lent buffer does.
+pub mod Numbers
+pub mod Numbered
+pub mod Bytes
+pub mod Range
+pub mod Placed
+pub mod BigEndian
+pub mod Text
+pub mod Decimal
+pub mod Written
+pub mod Report

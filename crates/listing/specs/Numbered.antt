@@ -1,0 +1,11 @@
+-- The size of this crate, beside the name that the definitions use for it.
+use mathlib.Core.List.{List, [], _∷_}
+use Prim.Native.Nat.{ℕ}
+use Rattle.der.specs.Named.{Named}
+use Rattle.listing.specs.Listed.{listingBytes}
+
+unfoldable pub namedSizes : List (ℕ × ℕ)
+namedSizes = (listingBytes, 65_536) ∷ []
+
+pub record NumbersNamed : Type 0 where
+  pub sizes : Named namedSizes

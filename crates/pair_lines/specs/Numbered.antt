@@ -1,0 +1,11 @@
+-- The size of this crate, beside the name that the definitions use for it.
+use mathlib.Core.List.{List, [], _∷_}
+use Prim.Native.Nat.{ℕ}
+use Rattle.der.specs.Named.{Named}
+use Rattle.pair_lines.specs.Listed.{pairsBytes}
+
+unfoldable pub namedSizes : List (ℕ × ℕ)
+namedSizes = (pairsBytes, 4_288) ∷ []
+
+pub record NumbersNamed : Type 0 where
+  pub sizes : Named namedSizes

@@ -1,2 +1,0 @@
--- That a listing is handed on whole.
-pub mod Handed
