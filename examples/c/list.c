@@ -7,7 +7,7 @@
 
 #include <stdio.h>
 
-static uint8_t file[P12_FILE_BYTES + 1];    /* one byte more than the longest file, so that a longer one is told */
+static uint8_t file[P12_FILE_BYTES + 1];    /* one byte more than the longest file, so that a longer one is refused */
 static uint8_t text[P12_LISTING_BYTES];     /* the longer of the two texts */
 static struct p12_table table;
 

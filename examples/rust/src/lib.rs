@@ -10,62 +10,18 @@
 #![deny(unsafe_op_in_unsafe_fn)]
 #![deny(unsafe_code)]
 
+mod numbers;
 #[allow(unsafe_code)]
 mod sys;
 mod table;
 
-pub use table::{Attribute, Bag, BagKind, Parts, Range, Safe, SafeKind, Table, ATTRIBUTE_ROWS, BAG_ROWS, SAFE_ROWS};
+pub use numbers::{Number, ATTRIBUTE_ROWS, BAG_ROWS, FILE_BYTES, LEVELS, LISTING_BYTES, OPAQUE_LEVELS, PAIRS_BYTES, SAFE_ROWS};
+pub use table::{Attribute, Bag, BagKind, Parts, Range, Safe, SafeKind, Table};
 
+use numbers::{DONE, OK};
 use std::fmt;
 
-/// The longest file.
-pub const FILE_BYTES: usize = 65535;
-/// Every listing fits into this.
-pub const LISTING_BYTES: usize = 65536;
-/// Every text of `pairs` fits into this.
-pub const PAIRS_BYTES: usize = 4288;
-
-const OK: u8 = 0;
-const DONE: u8 = 255;
-
-/// Why something was refused. The numbers are those of p12.h.
-#[derive(Clone, Copy, Debug, PartialEq, Eq)]
-#[repr(u8)]
-pub enum Number {
-    Cut = 1,
-    TagForm = 2,
-    LengthForm = 3,
-    OtherTag = 4,
-    Content = 5,
-    LeftOver = 6,
-    NotServed = 7,
-    TooMany = 8,
-    TooLong = 9,
-    NoRoom = 10,
-    NotSound = 11,
-    NoRow = 12,
-    NoCertificate = 13,
-    MoreCertificates = 14,
-}
-
 impl Number {
-    const ALL: [Number; 14] = [
-        Number::Cut,
-        Number::TagForm,
-        Number::LengthForm,
-        Number::OtherTag,
-        Number::Content,
-        Number::LeftOver,
-        Number::NotServed,
-        Number::TooMany,
-        Number::TooLong,
-        Number::NoRoom,
-        Number::NotSound,
-        Number::NoRow,
-        Number::NoCertificate,
-        Number::MoreCertificates,
-    ];
-
     fn of(number: u8) -> Number {
         *Number::ALL.iter().find(|one| **one as u8 == number).expect("a number of p12.h")
     }
@@ -106,20 +62,21 @@ pub fn read_into(file: &[u8], table: &mut Table) -> Result<(), Refusal> {
     answer(number, offset, ())
 }
 
-/// The part of a file that its MAC is computed over. The offset of a refusal isn't told: it is 0.
+/// The part of a file that its MAC is computed over. The offset of a refusal isn't reported: it is 0.
 pub fn mac_input(file: &[u8]) -> Result<&[u8], Refusal> {
     let (number, start, end) = sys::mac_input(file);
     answer(number, 0, &file[start..end])
 }
 
-/// Writes the listing of a file to the front of the buffer, and gives its length. Refused files are listed too. `NoRoom` leaves the buffer as it was.
+/// Writes the listing of a file to the front of the buffer, and gives its length. Refused files are
+/// listed too. `ShortBuffer` leaves the buffer as it was.
 pub fn list(file: &[u8], out: &mut [u8]) -> Result<usize, Refusal> {
     let (number, written) = sys::list(file, out);
     answer(number, 0, written)
 }
 
 /// Writes the pairs of a file to the front of the buffer, and gives the length: a line for each key bag. A refused file
-/// has the line of its refusal. `NoRoom` leaves the buffer as it was.
+/// has the line of its refusal. `ShortBuffer` leaves the buffer as it was.
 pub fn pairs(file: &[u8], out: &mut [u8]) -> Result<usize, Refusal> {
     let (number, written) = sys::pairs(file, out);
     answer(number, 0, written)

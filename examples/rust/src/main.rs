@@ -9,7 +9,7 @@ use std::fs::File;
 use std::io::{self, Read, Write};
 use std::process::ExitCode;
 
-/// At most one byte more than the longest file has, so that a longer one is told.
+/// At most one byte more than the longest file has, so that a longer one is refused.
 fn contents(path: Option<&str>) -> io::Result<Vec<u8>> {
     let mut file = Vec::new();
     let most = p12::FILE_BYTES as u64 + 1;

@@ -1,8 +1,6 @@
 //! The table of a file: the structs of p12.h, member by member.
 
-pub const SAFE_ROWS: usize = 16;
-pub const BAG_ROWS: usize = 64;
-pub const ATTRIBUTE_ROWS: usize = 128;
+use crate::numbers::{ATTRIBUTE_ROWS, BAG_ROWS, SAFE_ROWS};
 
 /// Bytes `start` up to `end - 1` of a file.
 #[repr(C)]
@@ -78,7 +76,7 @@ pub struct Bag {
     /// 0 for none, else the row of the enclosing bag and 1.
     pub enclosing: u32,
     pub parts: Parts,
-    /// Whether a set of attributes stands there, 0 or 1.
+    /// Whether the bag has a set of attributes, 0 or 1.
     pub has_set: u32,
 }
 

@@ -104,8 +104,9 @@ fn reads_a_key() {
 fn refused_reading_leaves_the_empty_table() {
     let mut version_4 = M;
     version_4[4] = 4;
+    let longer = [M.as_slice(), &[0]].concat();
     let cases: [(&[u8], Number, usize); 4] =
-        [(&[], Number::Cut, 0), (&M[..46], Number::Cut, 0), (&[M.as_slice(), &[0]].concat(), Number::LeftOver, 47), (&version_4, Number::Content, 2)];
+        [(&[], Number::Missing, 0), (&M[..46], Number::Missing, 0), (&longer, Number::LeftOver, 47), (&version_4, Number::Content, 2)];
     for (file, number, offset) in cases {
         let mut table = painted();
         assert_eq!(p12::read_into(file, &mut table), refusal(number, offset));
@@ -116,10 +117,10 @@ fn refused_reading_leaves_the_empty_table() {
 }
 
 #[test]
-fn refused_writing_leaves_the_room() {
+fn refused_writing_leaves_the_buffer() {
     let table = p12::read(&M).unwrap();
     let mut out = [0xEE; 46];
-    assert_eq!(table.write(&M, &mut out), refusal(Number::NoRoom, 0));
+    assert_eq!(table.write(&M, &mut out), refusal(Number::ShortBuffer, 0));
     assert_eq!(out, [0xEE; 46]);
 
     let mut unsound = table;
@@ -133,9 +134,9 @@ fn refused_writing_leaves_the_room() {
 }
 
 #[test]
-fn refused_listing_leaves_the_room() {
+fn refused_listing_leaves_the_buffer() {
     let mut out = vec![0xEE; LISTING.len() - 1];
-    assert_eq!(p12::list(&M, &mut out), refusal(Number::NoRoom, 0));
+    assert_eq!(p12::list(&M, &mut out), refusal(Number::ShortBuffer, 0));
     assert!(out.iter().all(|byte| *byte == 0xEE));
     out.push(0xEE);
     assert_eq!(p12::list(&M, &mut out), Ok(LISTING.len()));
@@ -146,7 +147,7 @@ fn refused_listing_leaves_the_room() {
 fn refused_pairs_leave_the_buffer() {
     let (file, due) = (with_key(), "key bag 0: refused 13\n");
     let mut out = vec![0xEE; due.len() - 1];
-    assert_eq!(p12::pairs(&file, &mut out), refusal(Number::NoRoom, 0));
+    assert_eq!(p12::pairs(&file, &mut out), refusal(Number::ShortBuffer, 0));
     assert!(out.iter().all(|byte| *byte == 0xEE));
     out.push(0xEE);
     assert_eq!(p12::pairs(&file, &mut out), Ok(due.len()));
