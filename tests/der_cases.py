@@ -1,14 +1,14 @@
 #!/usr/bin/env python3
-"""Writes crates/der_cases/stdin and stdout from two lists of cases: tests/der_cases.txt, whose answers are written by hand, and
-tests/der_generated.txt, whose answers are the model's (tests/der_model.py).
+"""Writes the stored input and output of the program over `der` (stored.DER) from two lists of
+cases: der_cases.txt, whose answers are written by hand, and der_generated.txt, whose answers are
+the model's (models/der.py).
 
-    tests/der_cases.py            # writes both files
-    tests/der_cases.py --check    # says whether they are what the cases give
+    tests/der_cases.py            writes both files
+    tests/der_cases.py --check    says whether they are what the cases give
 """
-import pathlib
 import sys
 
-ROOT = pathlib.Path(__file__).resolve().parent.parent
+import stored
 
 
 def octets(words):
@@ -29,7 +29,7 @@ def frame(line):
 
 
 def main():
-    lines = [x for name in ("der_cases.txt", "der_generated.txt") for x in (ROOT / "tests" / name).read_text().splitlines()]
+    lines = [x for name in ("der_cases.txt", "der_generated.txt") for x in (stored.TESTS / name).read_text().splitlines()]
     cases = [frame(x) for x in lines if x.strip() and not x.startswith("#")]
     made = {
         "stdin": b"".join(c[0] for c in cases),
@@ -37,7 +37,7 @@ def main():
     }
     differs = 0
     for name, data in made.items():
-        path = ROOT / "crates/der_cases" / name
+        path = stored.DER / name
         if "--check" in sys.argv:
             differs += path.read_bytes() != data
         else:

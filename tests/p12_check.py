@@ -1,5 +1,5 @@
 #!/usr/bin/env python3
-"""Checks p12_reader.py: against the answers that p12_make.py states, and, for
+"""Checks models/reader.py: against the answers that p12_make.py states, and, for
 accepted files, against `openssl asn1parse`.
 
     p12_check.py [FILE ..]     FILE: further files, such as the sources' ones
@@ -14,9 +14,10 @@ from collections import Counter
 
 import p12_make
 import p12_pairs_make
-import p12_reader
 import p12_tools
 import p12_vectors
+from models import reader
+from stored import FILES
 
 LINE = re.compile(r" *(\d+):d=(\d+) +hl=(\d+) +l= *(\d+) (cons|prim): (.*)")
 
@@ -102,10 +103,10 @@ def main(arguments):
     wrong, numbers, with_openssl = 0, Counter(), 0
     files = [(pathlib.Path(name).name, pathlib.Path(name).read_bytes(), "none")
              for name in arguments]
-    # damaged files have no answer of their own: of those that are accepted, the places are compared
+    # damaged files have no answer of their own: of those that are accepted, the offsets are compared
     files += [(name, data, "damaged") for name, data
               in p12_make.damaged(1, 200) + p12_make.mended(1, 200) + list(p12_pairs_make.damaged(1, 2))]
-    stored = [path.read_bytes() for path in sorted(p12_tools.FILES.glob("source-*.p12"))]
+    stored = [path.read_bytes() for path in sorted(FILES.glob("source-*.p12"))]
     stored += [data for _, data, _ in p12_tools.stored()]
     files += [("stored_damaged_%d" % n, data, "damaged")
               for n, data in enumerate(p12_vectors.changed(stored))]
@@ -113,8 +114,8 @@ def main(arguments):
         print("openssl isn't here: nothing to compare with")
         return 2
     for name, data, expected in p12_make.cases() + files:
-        result = p12_reader.read(data)
-        refused = isinstance(result, p12_reader.Refusal)
+        result = reader.read(data)
+        refused = isinstance(result, reader.Refusal)
         got = tuple(result) if refused else None
         numbers[got[0] if got else "accepted"] += 1
         if expected not in ("none", "damaged") and got != expected:

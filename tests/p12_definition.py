@@ -1,11 +1,11 @@
 #!/usr/bin/env python3
-"""Holds the definition `readFile` of the crate pkcs12 against the reader p12_reader.py, by proof.
+"""Compares the definition `readFile` of the crate pkcs12 with the reader models/reader.py, by proof.
 
     p12_definition.py [--damaged SEED COUNT] [--longest BYTES] [FILE ..]
 
 For each FILE, and for every file of p12_make.py, COUNT damaged and COUNT mended ones of at most BYTES bytes (3000 if not said), one theorem
-says that `readFile` of its bytes is the answer that p12_reader.py gives: the number and the place, or every field of the table. The
-theorems are proved by computing the definition. They are written to a crate of their own beside copies of der and pkcs12, in
+says that `readFile` of its bytes is the answer that models/reader.py gives: the number and the offset, or every field of the table. The
+theorems are proved by computing the definition. They are written to a crate of their own beside copies of der, buffer and pkcs12, in
 target/definition, and `rt check` proves them. The last line is 'N files, all as the reader says', or names the theorems that aren't proved,
 with the first error before it.
 """
@@ -16,10 +16,10 @@ import subprocess
 import sys
 
 import p12_make
-import p12_reader
+from models import reader
+from stored import TOP
 
-ROOT = pathlib.Path(__file__).resolve().parent.parent
-PLACE = ROOT / "target" / "definition"
+PLACE = TOP / "target" / "definition"
 A_MODULE = 20  # theorems in a module
 
 KINDS = {"key": "Key", "shrouded key": "ShroudedKey", "certificate": "Certificate", "crl": "Crl", "secret": "Secret", "nested": "Nested"}
@@ -57,8 +57,8 @@ def attribute_term(row):
 
 
 def reading_term(reading):
-    if isinstance(reading, p12_reader.Refusal):
-        return "refused (fault %d %d)" % (reading.number, reading.place)
+    if isinstance(reading, reader.Refusal):
+        return "refused (fault %d %d)" % (reading.number, reading.offset)
     rows = "(record { safes = %s; bags = %s; attributes = %s; input = range %d %d; count = %d })" % (
         listed([safe_term(r) for r in reading.safes]),
         listed([bag_term(r, r.has_set) for r in reading.bags]),
@@ -71,8 +71,8 @@ def reading_term(reading):
 
 def bench_header():
     """The `use` lines and the list of definitions to compute, as proofs/Bench.antt has them."""
-    text = (ROOT / "crates/pkcs12/proofs/Bench.antt").read_text()
-    unfold = re.search(r"^unfolding .*$", text, re.M).group(0).replace(" benchCases", "").replace(" slipCases", "")
+    text = (TOP / "crates/pkcs12/proofs/Bench.antt").read_text()
+    unfold = re.search(r"^unfolding .*(\n +.*)*$", text, re.M).group(0).replace(" benchCases", "").replace(" slipCases", "")
     uses = [line for line in text.split("\n") if line.startswith("use ") and "Bench" not in line]
     own = "Rattle.pkcs12.specs."
     more = [
@@ -80,23 +80,24 @@ def bench_header():
         "use mathlib.Core.Path.{_≡_}",
         "use mathlib.Core.List.{[], _∷_}",
         "use Rattle.der.specs.Element.{fault}",
-        "use %sTable.{range, noRange, noParts, safeRow, bagRow, attributeRow, macFields}" % own,
+        "use Rattle.buffer.specs.Range.{range, noRange}",
+        "use %sTable.{noParts, safeRow, bagRow, attributeRow, macFields}" % own,
         "use %sTable as table" % own,
         "use %sWalk.{refused}" % own,
-        "use %sdeclared.SafeKind.the-variants.{Plain, Encrypted}" % own,
-        "use %sdeclared.BagKind.the-variants.{Key, ShroudedKey, Certificate, Crl, Secret, Nested}" % own,
-        "use %sdeclared.Enclosing.{Enclosing}" % own,
-        "use %sdeclared.Enclosing.the-variants.{Bag}" % own,
-        "use %sdeclared.Answer.the-variants.{Accepted}" % own,
+        "use %sdeclared.kind.SafeKind.the-variants.{Plain, Encrypted}" % own,
+        "use %sdeclared.kind.BagKind.the-variants.{Key, ShroudedKey, Certificate, Crl, Secret, Nested}" % own,
+        "use %sdeclared.row.Enclosing.{Enclosing}" % own,
+        "use %sdeclared.row.Enclosing.the-variants.{Bag}" % own,
+        "use %sdeclared.answers.Answer.the-variants.{Accepted}" % own,
     ]
     return "\n".join(uses + more).replace(own, "Rattle.pkcs12.specs."), unfold
 
 
 def write(cases):
     shutil.rmtree(PLACE, ignore_errors=True)
-    for name in ("der", "pkcs12"):
-        shutil.copytree(ROOT / "crates" / name, PLACE / "crates" / name)
-    (PLACE / "crates.txt").write_text("der:\npkcs12: der\ntried: der pkcs12\n")
+    for name in ("der", "buffer", "pkcs12"):
+        shutil.copytree(TOP / "crates" / name, PLACE / "crates" / name)
+    (PLACE / "crates.txt").write_text("der:\nbuffer: der\npkcs12: der buffer\ntried: der buffer pkcs12\n")
     crate = PLACE / "crates" / "tried"
     (crate / "src").mkdir(parents=True)
     (crate / "proofs").mkdir()
@@ -109,7 +110,7 @@ def write(cases):
         text = "-- Files, and what reading each gives.\n" + uses + "\n"
         for number, (name, data) in enumerate(cases[start:start + A_MODULE], start):
             text += "\n-- %s\nfile%d : readFile (%s) ≡ %s\n%s\nfile%d = refl\n" % (
-                name, number, listed([str(b) for b in data]), reading_term(p12_reader.read(data)).replace("(parts ", "(table.parts "), unfold, number)
+                name, number, listed([str(b) for b in data]), reading_term(reader.read(data)).replace("(parts ", "(table.parts "), unfold, number)
         (crate / "proofs" / (module + ".antt")).write_text(text)
     (crate / "proofs" / "Lib.antt").write_text("-- Files.\n" + "".join("pub mod %s\n" % m for m in modules))
 

@@ -1,12 +1,12 @@
 #!/usr/bin/env python3
-"""Makes test files for PKCS #12 readers, from the scope (document 01) and RFC 7292.
+"""Makes test files for PKCS #12 readers, from the rules (document 01) and RFC 7292.
 
     p12_make.py FOLDER [SEED COUNT]    writes NAME.p12 for every file, and with
                                        SEED COUNT the damaged ones too
 
-cases()               a list of Case: name, file, and the answer that 01 asks
-                      for (None: accepted; otherwise number and place), worked
-                      out from the tree and not by any reader
+cases()               a list of Case: name, file, and the answer that 01
+                      requires (None: accepted; otherwise number and offset),
+                      worked out from the tree and not by any reader
 files()               a list of (name, bytes)
 damaged(seed, count)  accepted files with one byte changed or put in, or cut short
 mended(seed, count)   one node of an accepted tree changed, and the lengths of
@@ -142,7 +142,7 @@ def limits():
                pfx(plain(nested(key(rows[:100]), attributes=rows[100:128]))))
     yield case("attributes_129_nested_first", pfx(plain(
         nested(key(rows[:100]), attributes=rows[100:]))), 8, "at", rows[-1])
-    # room comes after the tag due and before the content
+    # whether a row is left comes after the tag due and before the content
     for tag, number in ((0x31, 4), (0x1F, 2), (0x30, 8)):
         rows = [plain() for _ in range(16)] + [seq(NULL)]
         rows[-1].tag = tag
@@ -179,8 +179,8 @@ def limits():
         value=depth(17, E(0x04, name="deep"))))), 8, "at", "deep")
     for size in (65535, 65536):
         tree = pfx(encrypted(cipher=bytes(60000)))  # all lengths of form 82
-        room = size - len(tree.encode())
-        tree.get("cipher").parts = [bytes(60000 + room)]
+        more = size - len(tree.encode())
+        tree.get("cipher").parts = [bytes(60000 + more)]
         yield case("bytes_%d" % size, tree, *((9,) if size > 65535 else ()))
     yield case("bytes_65535_no_pfx", E(None, bytes(65535), name="file"),
                2, "at", "file")
@@ -405,7 +405,7 @@ def accepted(most=4096):
 
 
 def damaged(seed, count):
-    """Accepted files of up to 4,096 bytes, each damaged at one place."""
+    """Accepted files of up to 4,096 bytes, each damaged at one offset."""
     dice, good, result = random.Random(seed), accepted(), []
     for number in range(count):
         one, _ = dice.choice(good)

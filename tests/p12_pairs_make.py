@@ -1,6 +1,7 @@
-"""Makes test files for the pairing of keys with certificates, from the scope (document 01). p12_make.py has them among its files.
+"""Makes test files for the pairing of keys with certificates, from the rules (document 01). p12_make.py has them among its files.
 
-pairings()            each case with its tree; all files are accepted. p12_pairs.py has what pairing gives for each, worked out by hand
+pairings()            each case with its tree; all files are accepted. p12_pairs_check.py has what
+                      pairing gives for each, worked out by hand
 damaged(seed, each)   (name, bytes): copies of them with one bit of an attribute that is no friendlyName changed
 """
 import random

@@ -3,6 +3,8 @@ parts of a PFX, and a case with its answer.  For p12_make.py and p12_pairs_make.
 """
 from collections import namedtuple
 
+from models.numbers import TOO_LONG
+
 Case = namedtuple("Case", "name data expected")
 
 
@@ -36,7 +38,7 @@ class E:
         return bytes([self.tag]) + length + body
 
     def nodes(self, at=0):
-        """(node, place of its tag, place of its end), each one within."""
+        """(node, offset of its tag, offset of its end), each one within."""
         end = at + len(self.encode())
         yield self, at, end
         place = end - len(self.body())
@@ -194,13 +196,13 @@ def nest(level):
 
 
 # ---- A case states its answer: none, or a number and a node with
-# "at" (the place of its tag, or of the leftover) or "end" (a parent's end).
+# "at" (the offset of its tag, or of the leftover) or "end" (a parent's end).
 
 def case(name, tree, number=None, side="at", node=None):
     if number is None:
         return Case(name, tree.encode(), None), tree
-    if number == 9:
-        return Case(name, tree.encode(), (9, 0)), tree
+    if number == TOO_LONG:
+        return Case(name, tree.encode(), (TOO_LONG, 0)), tree
     at, end = next((at, end) for one, at, end in tree.nodes()
                    if one is node or one.name == node)
     place = at if side == "at" else end

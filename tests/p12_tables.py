@@ -1,26 +1,28 @@
 #!/usr/bin/env python3
-"""Writes crates/tables/stdin, a frame for each table, crates/tables/stdout, the answers that p12_writer.py gives, and tests/tables.txt,
-the name and the answer of each frame, in order.
+"""Writes the stored input and output of the program over tables (stored.TEST_TABLES), a frame for
+each table and the answers that models/writer.py gives, and tests/tables.txt, the name and the
+answer of each frame, in order.
 
-    p12_tables.py            # writes these files
-    p12_tables.py --check    # says whether they are what the tables give
+    p12_tables.py            writes these files
+    p12_tables.py --check    says whether they are what the tables give
 
-Every answer is also held against p12_reader.py, but for files of more than 65,535 bytes, which it doesn't read: a table whose ranges lie in
-the bytes is sound exactly if the file that is written with nothing asked reads back as what the table shows. docs/TESTS.md has the frame. The element count and the MAC input range aren't in it.
+Every answer is also compared with models/reader.py, but for files of more than 65,535 bytes, which
+it doesn't read: a table whose ranges lie in the bytes is sound if and only if the file that is
+written without any test is read back as what the table shows. docs/TESTS.md has the frame. The element
+count and the MAC input range aren't in it.
 """
-import pathlib
 import sys
 from collections import Counter
 
-import p12_reader
 import p12_tables_make
-import p12_writer
-from p12_reader import FILE_BYTES
+import stored
+from models import reader, writer
+from models.numbers import FILE_BYTES, NOT_SOUND, SHORT_BUFFER, TOO_LONG
+from models.writer import Table
 from p12_tables_make import ranges_of
 from p12_tables_random import at_random
-from p12_writer import Table
 
-ROOT = pathlib.Path(__file__).resolve().parent.parent
+NUMBERS = (TOO_LONG, SHORT_BUFFER, NOT_SOUND)   # those that writing gives
 GROUPS = p12_tables_make.GROUPS + (at_random,)
 
 
@@ -29,12 +31,12 @@ def pair(*numbers):
 
 
 def safe_row(row):
-    return bytes([p12_writer.SAFE_KINDS.index(row.kind)]) + pair(*row.identifier, *row.parameters, *row.value)
+    return bytes([writer.SAFE_KINDS.index(row.kind)]) + pair(*row.identifier, *row.parameters, *row.value)
 
 
 def bag_row(row):
     enclosing = bytes(3) if row.enclosing is None else b"\x01" + pair(row.enclosing)
-    return (bytes([p12_writer.BAG_KINDS.index(row.kind)]) + pair(row.safe) + enclosing
+    return (bytes([writer.BAG_KINDS.index(row.kind)]) + pair(row.safe) + enclosing
             + pair(*row.identifier, *row.parameters, *row.value) + bytes([row.has_set]))
 
 
@@ -48,7 +50,7 @@ def mac_fields(mac):
 
 def frame(case):
     table = case.table
-    body = case.room.to_bytes(4, "big") + pair(table.safe_count, table.bag_count, table.attribute_count)
+    body = case.capacity.to_bytes(4, "big") + pair(table.safe_count, table.bag_count, table.attribute_count)
     body += bytes([len(table.safes), len(table.bags), len(table.attributes)])
     body += b"".join([*map(safe_row, table.safes), *map(bag_row, table.bags), *map(attribute_row, table.attributes)])
     body += mac_fields(table.mac) + case.data
@@ -66,13 +68,13 @@ def by_reader(table, data):
     """Whether a table is sound as the reader sees it; None of a file that is too long for it."""
     if any(not start <= end <= len(data) for start, end in used_ranges(table)):
         return False
-    file = p12_writer.unasked(table, data)
+    file = writer.unasked(table, data)
     if len(file) > FILE_BYTES:
         return None
-    reading = p12_reader.read(file)
-    if isinstance(reading, p12_reader.Refusal):
+    reading = reader.read(file)
+    if isinstance(reading, reader.Refusal):
         return False
-    return p12_writer.values(p12_writer.of_reading(reading), file) == p12_writer.values(table, data)
+    return writer.values(writer.of_reading(reading), file) == writer.values(table, data)
 
 
 def used_ranges(table):
@@ -91,8 +93,8 @@ def main(arguments):
         cases = list(group())
         print("%s: %d" % (group.__name__.replace("_", " "), len(cases)))
         for case in cases:
-            answer = p12_writer.write(case.table, case.data, case.room)
-            if by_reader(case.table, case.data) not in (None, answer != ("refused", 11)):
+            answer = writer.write(case.table, case.data, case.capacity)
+            if by_reader(case.table, case.data) not in (None, answer != ("refused", NOT_SOUND)):
                 wrong += 1
                 print("%s: the reader says otherwise than %s" % (case.name, answer[1]))
             frames.append(frame(case))
@@ -103,15 +105,16 @@ def main(arguments):
     frames.append(CUT)
     answers.append("cut\n")
     names.append("a row more than the frame has: cut\n")
-    for path, data in ((ROOT / "crates/tables/stdin", b"".join(frames)), (ROOT / "crates/tables/stdout", "".join(answers).encode()),
-                       (ROOT / "tests/tables.txt", "".join(names).encode())):
+    for path, data in ((stored.TEST_TABLES / "stdin", b"".join(frames)),
+                       (stored.TEST_TABLES / "stdout", "".join(answers).encode()),
+                       (stored.TESTS / "tables.txt", "".join(names).encode())):
         if arguments == ["--check"]:
             wrong += path.read_bytes() != data
         else:
             path.write_bytes(data)
     print("frames: %d, written: %d, refused: %s, cut: 1" % (
-        len(frames), numbers["length"], ", ".join("%d: %d" % (n, numbers[n]) for n in (9, 10, 11))))
-    wrong += sum(not numbers[n] for n in ("length", 9, 10, 11))
+        len(frames), numbers["length"], ", ".join("%d: %d" % (n, numbers[n]) for n in NUMBERS)))
+    wrong += sum(not numbers[n] for n in ("length", *NUMBERS))
     if wrong:
         print("wrong: %d" % wrong)
     return 1 if wrong else 0

@@ -1,35 +1,37 @@
-"""Tables for the writer: those of files, and such that each clause of soundness, each size and each header is met and missed.
+"""Tables for the writer: those of files, and such that each clause of soundness, each size and each
+header is met and missed.
 
-GROUPS are the functions that give the cases, one after another. A case has a name, a table, the bytes that its ranges point into, and the room.
+GROUPS are the functions that give the cases, one after another. A case has a name, a table, the
+bytes that its ranges point into, and the capacity of the buffer.
 """
 import copy
 import random
 from collections import namedtuple
 
 import p12_make
-import p12_reader
-import p12_tools
-import p12_writer
+from models import reader, writer
+from models.numbers import ATTRIBUTE_ROWS, BAG_ROWS, FILE_BYTES, SAFE_ROWS
+from models.writer import AttributeRow, BagRow, SafeRow, Table
 from p12_make import E, NULL, key, nested, octets, pfx, plain, seq
-from p12_reader import ATTRIBUTE_ROWS, BAG_ROWS, SAFE_ROWS
-from p12_writer import AttributeRow, BagRow, SafeRow, Table
+from stored import FILES
 
 SEED = 1
 LONGEST = 3000  # of the files whose tables are written back
-SHORT = 1000  # of those that are written with other room too
-ROOM = 65536  # the most that the program has
+SHORT = 1000  # of those that are written into other buffers too
+LARGEST = FILE_BYTES + 1  # of the program's buffers
 
-Case = namedtuple("Case", "name table data room")
+Case = namedtuple("Case", "name table data capacity")
 
 
 # ---- Tables to start from.
 
 class Sketch:
-    """A table and its bytes, to be changed. The room is that of the file and three bytes more, where no other is given."""
+    """A table and its bytes, to be changed. The buffer has three bytes more than the file, where no
+    other capacity is given."""
 
     def __init__(self, file=b"", table=None):
-        self.data, self.room = file, None
-        self.table = table or p12_writer.of_reading(p12_reader.read(file))
+        self.data, self.capacity = file, None
+        self.table = table or writer.of_reading(reader.read(file))
 
     def put(self, data):
         """The range of bytes that are put behind the others."""
@@ -38,10 +40,10 @@ class Sketch:
         return start, len(self.data)
 
     def case(self, name):
-        room = self.room
-        if room is None:
-            room = min(len(p12_writer.unasked(self.table, self.data)) + 3, ROOM)
-        return Case(name, self.table, self.data, room)
+        capacity = self.capacity
+        if capacity is None:
+            capacity = min(len(writer.unasked(self.table, self.data)) + 3, LARGEST)
+        return Case(name, self.table, self.data, capacity)
 
 
 MADE = dict(p12_make.files())
@@ -52,9 +54,9 @@ def made(name):
     return Sketch(MADE[name])
 
 
-def in_room(name, sketch, room):
-    """A case with room of that size."""
-    sketch.room = room
+def into(capacity, name, sketch):
+    """A case with a buffer of that capacity."""
+    sketch.capacity = capacity
     return sketch.case(name)
 
 
@@ -66,7 +68,7 @@ def changed(name, base, change):
 
 
 def at(sketch, place):
-    """What stands at a place of the table, as ("bags", 2, "value")."""
+    """What the table has at `place`, a path such as ("bags", 2, "value")."""
     row = sketch.table
     for step in place:
         row = row[step] if isinstance(step, int) else getattr(row, step)
@@ -74,7 +76,7 @@ def at(sketch, place):
 
 
 def store(place, value):
-    """A change: the value, or what value(sketch) gives, at a place of the table."""
+    """A change: the value, or what value(sketch) returns, at `place` of the table."""
     def change(sketch):
         setattr(at(sketch, place[:-1]), place[-1], value(sketch) if callable(value) else value)
     return change
@@ -102,26 +104,27 @@ FREE = ("encrypted safe value", "shrouded key value", "MAC value", "MAC salt", "
 
 
 def places(parts):
-    """(name, place) of each range."""
+    """(name, path in the table) of each range."""
     return [("%s %s" % (row, part), WHOLE[row] + (part,)) for row, names in parts.items() for part in names.split()]
 
 
 # ---- (a) Tables of files.
 
 def of_files():
-    """Tables that reading gives, with room that is exact, one short and larger; and with the parts elsewhere in the bytes."""
+    """Tables that reading gives, into a buffer that is exact, one short and larger; and with the
+    parts elsewhere in the bytes."""
     # the files for pairs have no other parts than the rest, and the output has to stay short
     files = [("file " + name, data) for name, data in MADE.items() if not name.startswith("pairs_")]
-    files += [("file " + path.stem, path.read_bytes()) for path in sorted(p12_tools.FILES.glob("*.p12"))]
+    files += [("file " + path.stem, path.read_bytes()) for path in sorted(FILES.glob("*.p12"))]
     for name, data in files:
-        if len(data) > LONGEST or isinstance(p12_reader.read(data), p12_reader.Refusal):
+        if len(data) > LONGEST or isinstance(reader.read(data), reader.Refusal):
             continue
-        for room, size in (("exact", 0), ("one short", -1), ("larger", 20)):
+        for how, size in (("exact", 0), ("one short", -1), ("larger", 20)):
             if size == 0 or len(data) <= SHORT:
-                yield in_room("%s, room %s" % (name, room), Sketch(data), len(data) + size)
-    for room in (0, 1, 46):
-        yield in_room("M, room %d" % room, made("bench_a"), room)
-    yield in_room("M, all the room", made("bench_a"), ROOM)
+                yield into(len(data) + size, "%s, buffer %s" % (name, how), Sketch(data))
+    for capacity in (0, 1, 46):
+        yield into(capacity, "M, buffer of %d" % capacity, made("bench_a"))
+    yield into(LARGEST, "M, the largest buffer", made("bench_a"))
     for name in ("whole", "two_in_nested_then_one", "parameters_absent", "empty_bodies"):
         yield scattered("parts of %s in another order" % name, made(name), 1)
         yield scattered("parts of %s overlap" % name, made(name), 0)
@@ -130,7 +133,7 @@ def of_files():
 def ranges_of(table):
     """(row, name of its range) of each range that is used."""
     for row in table.safes + table.bags:
-        for part in p12_writer.USED.get(row.kind, ()):
+        for part in writer.USED.get(row.kind, ()):
             yield row, part
     for row in table.attributes:
         yield from ((row, part) for part in ("identifier", "values"))
@@ -414,7 +417,7 @@ def of_size(size):
     table = sketch.table
     table.safes = [SafeRow("encrypted", table.mac.identifier, (start, start), (start, end)) for _ in range(SAFE_ROWS)]
     table.safe_count = SAFE_ROWS
-    more = size - len(p12_writer.unasked(table, sketch.data))
+    more = size - len(writer.unasked(table, sketch.data))
     sketch.data += bytes(more)
     table.safes[-1].value = (start, end + more)
     return sketch
@@ -439,17 +442,17 @@ def over(rows, size):
 
 def sizes():
     """A file of 65,535 bytes is written, one of 65,536 isn't; 11 before 9 before 10."""
-    for what, room in (("room exact", 65535), ("room one larger", 65536), ("room one short", 65534), ("no room", 0)):
-        yield in_room("file of 65535 bytes, %s" % what, of_size(65535), room)
+    for more, how in ((0, "exact"), (1, "one larger"), (-1, "one short"), (-FILE_BYTES, "of 0")):
+        yield into(FILE_BYTES + more, "file of %d bytes, buffer %s" % (FILE_BYTES, how), of_size(FILE_BYTES))
     for size in (65536, 65537, 65600):
-        for what, room in (("room of 65536", 65536), ("no room", 0)):
-            yield in_room("file of %d bytes, %s" % (size, what), of_size(size), room)
-            yield in_room("file of %d bytes, not sound, %s" % (size, what), unsound(of_size(size)), room)
-    yield in_room("not sound, no room", unsound(made("whole")), 0)
+        for capacity in (LARGEST, 0):
+            yield into(capacity, "file of %d bytes, buffer of %d" % (size, capacity), of_size(size))
+            yield into(capacity, "file of %d bytes, not sound, buffer of %d" % (size, capacity), unsound(of_size(size)))
+    yield into(0, "not sound, buffer of 0", unsound(made("whole")))
     for rows, size in (("safes", 300), ("safes", 5000), ("bags", 200), ("bags", 5000), ("attributes", 150), ("attributes", 5000),
                        ("attributes", 60000)):
-        yield in_room("all %s over one element of %d bytes" % (rows, size), over(rows, size), 65536)
-    yield in_room("all bags over one element of 5000 bytes, not sound", unsound(over("bags", 5000)), 0)
+        yield into(LARGEST, "all %s over one element of %d bytes" % (rows, size), over(rows, size))
+    yield into(0, "all bags over one element of 5000 bytes, not sound", unsound(over("bags", 5000)))
 
 
 def unsound(sketch):
@@ -469,7 +472,7 @@ def headers():
     for name, place, make in GROWN:
         base = made(name)
         grown = [changed("%s %s of %d bytes" % (name, " ".join(map(str, place)), n), base, put_at(place, make(n))) for n in range(300)]
-        lengths = [len(p12_writer.unasked(case.table, case.data)) for case in grown]
+        lengths = [len(writer.unasked(case.table, case.data)) for case in grown]
         for n in range(299):
             if lengths[n + 1] > lengths[n] + 1:
                 yield from grown[n:n + 2]

@@ -2,7 +2,7 @@
 import copy
 import random
 
-import p12_writer
+from models import writer
 from p12_tables_make import SEED, made, ranges_of
 
 RANDOM = 400
@@ -33,14 +33,14 @@ def change_range(dice, table, data):
 def change_bag(dice, table, data):
     number = dice.randrange(len(table.bags))
     row, how = table.bags[number], dice.choice(("kind", "safe", "enclosing", "has_set"))
-    choices = {"kind": p12_writer.BAG_KINDS, "safe": range(4), "enclosing": (None, *range(len(table.bags) + 1)), "has_set": (False, True)}
+    choices = {"kind": writer.BAG_KINDS, "safe": range(4), "enclosing": (None, *range(len(table.bags) + 1)), "has_set": (False, True)}
     setattr(row, how, dice.choice([one for one in choices[how] if one != getattr(row, how)]))
     return "bag %d, %s made %s" % (number, how.replace("_", " "), getattr(row, how))
 
 
 def change_safe(dice, table, data):
     number = dice.randrange(len(table.safes))
-    kind = dice.choice([kind for kind in p12_writer.SAFE_KINDS if kind != table.safes[number].kind])
+    kind = dice.choice([kind for kind in writer.SAFE_KINDS if kind != table.safes[number].kind])
     table.safes[number].kind = kind
     return "safe %d made %s" % (number, kind)
 

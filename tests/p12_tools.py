@@ -18,9 +18,9 @@ import subprocess
 import sys
 import tempfile
 
-import p12_reader
-
-FILES = pathlib.Path(__file__).resolve().parent / "files"
+from models import reader
+from models.numbers import CONTENT, LENGTH_FORM, NOT_SERVED
+from stored import FILES
 
 OPENSSL = "openssl pkcs12 -export -inkey KEY -in CERT -name test -passout pass:test -out FILE"
 CERTTOOL = "certtool --to-p12 --load-privkey KEY --load-certificate CERT --p12-name test --outder --outfile FILE"
@@ -33,7 +33,7 @@ TOOLS = (
     ("openssl-legacy", OPENSSL + " -legacy", None),
     ("openssl-unencrypted", OPENSSL + " -keypbe NONE -certpbe NONE", None),
     ("openssl-iterations-absent", OPENSSL + " -nomaciter", None),
-    ("openssl-no-mac", OPENSSL + " -nomac", 7),
+    ("openssl-no-mac", OPENSSL + " -nomac", NOT_SERVED),
     ("gnutls-default", CERTTOOL + " --password test", None),
     ("gnutls-3des", CERTTOOL + " --password test --pkcs-cipher 3des-pkcs12", None),
     ("gnutls-empty-password", CERTTOOL + " --empty-password", None),
@@ -41,11 +41,12 @@ TOOLS = (
     ("java-legacy", KEYTOOL + PAIR + " -J-Dkeystore.pkcs12.legacy", None),
     ("java-secret", KEYTOOL + " -genseckey -keyalg AES -keysize 128", None),
     ("java-certificate", KEYTOOL + " -importcert -noprompt -file CERT", None),
-    ("java-iterations-1", KEYTOOL + PAIR + " -J-Dkeystore.pkcs12.macIterationCount=1", 5),
-    ("java-no-mac", KEYTOOL + PAIR + " -J-Dkeystore.pkcs12.macAlgorithm=NONE -J-Dkeystore.pkcs12.certProtectionAlgorithm=NONE", 7),
+    ("java-iterations-1", KEYTOOL + PAIR + " -J-Dkeystore.pkcs12.macIterationCount=1", CONTENT),
+    ("java-no-mac", KEYTOOL + PAIR + " -J-Dkeystore.pkcs12.macAlgorithm=NONE -J-Dkeystore.pkcs12.certProtectionAlgorithm=NONE",
+     NOT_SERVED),
 )
 # Made of another file: its outermost SEQUENCE with an indefinite length, which is BER and not DER.
-BER = ("openssl-ber", "openssl-default", 3)
+BER = ("openssl-ber", "openssl-default", LENGTH_FORM)
 
 
 def run(command, names):
@@ -54,7 +55,7 @@ def run(command, names):
 
 
 def indefinite(data):
-    outer = p12_reader.Parent(data, p12_reader.empty_reading(len(data)), 0, len(data)).element(0x30)
+    outer = reader.Parent(data, reader.empty_reading(len(data)), 0, len(data)).element(0x30)
     return b"\x30\x80" + data[outer.body[0]:] + b"\x00\x00"
 
 
@@ -82,8 +83,8 @@ def main(arguments):
         make()
     wrong = 0
     for name, data, number in stored():
-        result = p12_reader.read(data)
-        got = result.number if isinstance(result, p12_reader.Refusal) else None
+        result = reader.read(data)
+        got = result.number if isinstance(result, reader.Refusal) else None
         wrong += got != number
         answer = "refused %d at %d" % result if got else "accepted"
         print("%s: %d bytes, %s%s" % (name, len(data), answer, "" if got == number else ", NOT as due"))

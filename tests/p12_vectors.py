@@ -1,15 +1,20 @@
 #!/usr/bin/env python3
-"""Writes crates/vectors/stdin, a frame for each file, and crates/vectors/stdout, the listings that p12_reader.py gives,
-each of an accepted file with the pairs that p12_pairs.py gives, what p12_runs.py gives for calls on its table, and the
-line that it is written back the same; crates/list/stdin and stdout, M and its listing; crates/rewrite/stdin and stdout,
-a file of a common tool, twice; and crates/pairs/stdin and stdout, a file and its pairs.
+"""Writes the stored input and output of four programs. stored.py has their folders:
 
-    p12_vectors.py                       # writes these files
-    p12_vectors.py --check               # says whether they are what the files give
-    p12_vectors.py --sources DOCUMENT .. # takes the files out of the documents first, and keeps them as tests/files/source-N.p12
+    TEST_FILES  a frame for each file; its listing by models/reader.py and, if it is accepted, its
+                pairs by models/pairs.py, what models/runs.py gives for calls on its table, and the
+                line that it is written back the same
+    LIST        M, and its listing
+    REWRITE     a file of a common tool, twice
+    PAIRS       a file, and its pairs
 
-A frame is the file's length in four bytes, high first, and its bytes. The last lines count the kinds of file and the answers; it
-fails unless every number from 1 to 9 is among them.
+    p12_vectors.py                          writes these files
+    p12_vectors.py --check                  says whether they are what the files give
+    p12_vectors.py --sources DOCUMENT ..    takes the files out of the documents first, and keeps
+                                            them as tests/files/source-N.p12
+
+A frame is the file's length in four bytes, high first, and its bytes. The last lines count the
+kinds of file and the answers; it fails unless every number from 1 to 9 is among them.
 """
 import pathlib
 import random
@@ -17,15 +22,15 @@ import sys
 from collections import Counter
 
 import p12_make
-import p12_pairs
 import p12_pairs_make
-import p12_reader
-import p12_runs
 import p12_sources
 import p12_tools
+import stored
+from models import pairs, reader, runs
+from models.numbers import MISSING, TOO_LONG
+from stored import FILES
 
-ROOT = pathlib.Path(__file__).resolve().parent.parent
-FILES = p12_tools.FILES
+NUMBERS = range(MISSING, TOO_LONG + 1)  # those that reading gives
 SEED, DAMAGED = 1, 200  # as many damaged and as many mended ones
 EACH = 6  # damaged copies of each stored file
 EACH_PAIRED = 2  # damaged copies of each file for pairs
@@ -41,7 +46,7 @@ def keep_sources(documents):
 
 
 def changed(files):
-    """Copies of each file with one byte changed, at places that a fixed seed gives."""
+    """Copies of each file with one byte changed, at offsets that a fixed seed gives."""
     dice = random.Random(SEED)
     for data in files:
         for _ in range(EACH):
@@ -68,26 +73,23 @@ def kinds():
 
 
 def lines(data, result):
-    """What `vectors` prints of a file. Reading and writing undo each other, so an accepted one comes back as it was."""
-    listed = p12_reader.listing(result)
-    if isinstance(result, p12_reader.Refusal):
+    """What the program prints of a file. Reading and writing undo each other, so an accepted one
+    comes back as it was."""
+    listed = reader.listing(result)
+    if isinstance(result, reader.Refusal):
         return listed
-    return listed + p12_pairs.pairs(data, result) + p12_runs.lines(data, result) + "written back, the same\n"
+    return listed + pairs.pairs(data, result) + runs.lines(data, result) + "written back, the same\n"
 
 
-def stored(frames, listings):
-    """(the path below crates/, its bytes) for each stored file"""
+def contents(frames, listings):
+    """(the folder, its input, its output) of each program"""
     made = dict(p12_make.files())
     m, paired = made["bench_a"], made[PAIRED]
     tool = (FILES / (REWRITTEN + ".p12")).read_bytes()
-    yield "vectors/stdin", b"".join(frames)
-    yield "vectors/stdout", "".join(listings).encode()
-    yield "list/stdin", m
-    yield "list/stdout", p12_reader.listing(p12_reader.read(m)).encode()
-    yield "rewrite/stdin", tool
-    yield "rewrite/stdout", tool
-    yield "pairs/stdin", paired
-    yield "pairs/stdout", p12_pairs.pairs(paired, p12_reader.read(paired)).encode()
+    yield stored.TEST_FILES, b"".join(frames), "".join(listings).encode()
+    yield stored.LIST, m, reader.listing(reader.read(m)).encode()
+    yield stored.REWRITE, tool, tool
+    yield stored.PAIRS, paired, pairs.pairs(paired, reader.read(paired)).encode()
 
 
 def main(arguments):
@@ -97,21 +99,21 @@ def main(arguments):
     for what, files in kinds():
         print("%s: %d" % (what, len(files)))
         for data in files:
-            result = p12_reader.read(data)
-            answers[result.number if isinstance(result, p12_reader.Refusal) else "accepted"] += 1
+            result = reader.read(data)
+            answers[result.number if isinstance(result, reader.Refusal) else "accepted"] += 1
             frames.append(len(data).to_bytes(4, "big") + data)
             listings.append(lines(data, result))
     differs = 0
-    for name, data in stored(frames, listings):
-        path = ROOT / "crates" / name
-        if arguments == ["--check"]:
-            differs += path.read_bytes() != data
-        else:
-            path.parent.mkdir(exist_ok=True)
-            path.write_bytes(data)
+    for folder, given, due in contents(frames, listings):
+        for path, data in ((folder / "stdin", given), (folder / "stdout", due)):
+            if arguments == ["--check"]:
+                differs += path.read_bytes() != data
+            else:
+                path.parent.mkdir(exist_ok=True)
+                path.write_bytes(data)
     print("files: %d, accepted: %d" % (len(frames), answers["accepted"]))
-    print("refused: " + ", ".join("%d: %d" % (n, answers[n]) for n in range(1, 10)))
-    missing = [n for n in range(1, 10) if not answers[n]]
+    print("refused: " + ", ".join("%d: %d" % (n, answers[n]) for n in NUMBERS))
+    missing = [n for n in NUMBERS if not answers[n]]
     if missing or differs:
         print("missing: %s" % missing if missing else "the stored files differ")
     return 1 if missing or differs else 0

@@ -17,16 +17,16 @@ void check_nothing(void)
     uint32_t *words = painted(sizeof(struct p12_table));
     size_t a = 1, b = 1;
 
-    check(p12_read(NULL, 0, NULL, 0, &a) == P12_NO_ROOM && a == 0, "no file and no words: read");
+    check(p12_read(NULL, 0, NULL, 0, &a) == P12_SHORT_BUFFER && a == 0, "no file and no words: read");
     a = 1;
-    check(p12_read(NULL, 0, words, P12_TABLE_WORDS, &a) == P12_CUT && a == 0, "no file: read");
+    check(p12_read(NULL, 0, words, P12_TABLE_WORDS, &a) == P12_MISSING && a == 0, "no file: read");
     release(words, sizeof(struct p12_table));
-    check(p12_list(NULL, 0, NULL, 0, &a) == P12_NO_ROOM && a == 0, "no file: list");
+    check(p12_list(NULL, 0, NULL, 0, &a) == P12_SHORT_BUFFER && a == 0, "no file: list");
     a = 1;
-    check(p12_pairs(NULL, 0, NULL, 0, &a) == P12_NO_ROOM && a == 0, "no file: pairs");
+    check(p12_pairs(NULL, 0, NULL, 0, &a) == P12_SHORT_BUFFER && a == 0, "no file: pairs");
     check(p12_element(NULL, 0, 0, 0, 0, &a, &b) == 0 && a == 0 && b == 0, "no bytes: element");
     a = b = 1;
-    check(p12_mac_input(NULL, 0, &a, &b) == P12_CUT && a == 0 && b == 0, "no file: mac input");
+    check(p12_mac_input(NULL, 0, &a, &b) == P12_MISSING && a == 0 && b == 0, "no file: mac input");
     a = b = 1;
     check(p12_write(NULL, 0, NULL, 0, NULL, 0, &a) == P12_NOT_SOUND && a == 0, "no words: write");
     check(p12_certificate_for(NULL, 0, NULL, 0, 0, &b) == P12_NOT_SOUND && b == 0, "no words: certificate");
@@ -41,7 +41,7 @@ static void check_fewer_words(const struct lent *lent, size_t count)
     uint32_t *fewer = painted(count * WORD);
     size_t at = 1;
 
-    check(p12_read(lent->file, lent->length, fewer, count, &at) == P12_NO_ROOM && at == 0,
+    check(p12_read(lent->file, lent->length, fewer, count, &at) == P12_SHORT_BUFFER && at == 0,
         "read into fewer words: number or offset");
     check(as_before(fewer, 0, count * WORD), "read into fewer words: they changed");
     release(fewer, count * WORD);
@@ -68,7 +68,7 @@ static void check_short_text(text_call *call, const uint8_t *file, size_t length
     uint8_t *out = painted(size);
     size_t got = 1;
 
-    check(call(file, length, out, size, &got) == P12_NO_ROOM && got == 0, "text into a short buffer: number or length");
+    check(call(file, length, out, size, &got) == P12_SHORT_BUFFER && got == 0, "text into a short buffer: number or length");
     check(as_before(out, 0, size), "text into a short buffer: it changed");
     release(out, size);
 }
@@ -93,7 +93,7 @@ void check_attribute(const struct lent *lent, size_t bag, size_t i, unsigned num
 {
     size_t size = sizeof(struct p12_attribute);
     uint32_t *fewer = painted(size - WORD), *more = painted(size + MORE * WORD);
-    unsigned due = number == P12_OK ? P12_NO_ROOM : number;
+    unsigned due = number == P12_OK ? P12_SHORT_BUFFER : number;
 
     check(p12_attribute(lent->words, P12_TABLE_WORDS, lent->file, lent->length, bag, i, fewer, P12_ATTRIBUTE_WORDS - 1) == due,
         "attribute into fewer words: number");

@@ -1,13 +1,13 @@
-"""Damages PKCS #12 files at one place.
+"""Damages PKCS #12 files, each at one offset or in one node.
 
     flat(dice, data, headers)     (how, bytes): bytes changed with nothing else made to fit
     mended(dice, tree, nodes)     (how, bytes): a node changed, and the lengths of all that enclose it made to fit; the tree is as before
     aimed(dice, tree, nodes)      the same, with a change that meets one rule. Both give None for bytes where no file can be made of it
-    headers_of(data)              (place of the tag, place of the body, the tag) of each element of an accepted file
+    headers_of(data)              (offset of the tag, of the body, the tag) of each element of an accepted file
     tree_of(data)                 its tree, of elements as in p12_parts.py
     nodes_of(tree)                each node of a tree
 """
-import p12_reader
+from models import reader
 from p12_parts import BAG, DATA, DIGESTED, ENCRYPTED, ENVELOPED, KEY_ID, OTHER, SDSI_CERT, SIGNED, X509_CERT, E
 
 TAGS = (0x02, 0x04, 0x06, 0x30, 0x31, 0x80, 0xA0, 0x24, 0x05, 0x00, 0x1F)
@@ -33,7 +33,7 @@ def holds_elements(element, level):
 
 
 def walk_of(data, span):
-    return p12_reader.Parent(data, p12_reader.empty_reading(len(data)), *span)
+    return reader.Parent(data, reader.empty_reading(len(data)), *span)
 
 
 def taken_apart(data, span, level):
@@ -44,7 +44,7 @@ def taken_apart(data, span, level):
             element = walk.element()
             inside = taken_apart(data, element.body, level + 1) if holds_elements(element, level) else None
             parts.append(E(element.tag, *(walk.bytes_of(element),) if inside is None else inside))
-    except p12_reader.Refused:
+    except reader.Refused:
         return None
     return parts
 
@@ -62,7 +62,7 @@ def headers_of(data):
                 element = walk.element()
                 found.append((element.at, element.body[0], element.tag))
                 spans += [(*element.body, level + 1)] if holds_elements(element, level) else []
-        except p12_reader.Refused:
+        except reader.Refused:
             pass    # an OCTET STRING that holds other bytes
     return found
 

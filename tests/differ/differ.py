@@ -1,5 +1,5 @@
 #!/usr/bin/env python3
-"""Holds the library against the models: feeds files to driver.c and compares its records with those of expect.py.
+"""Compares the library with the models: feeds files to driver.c and compares its records with those of expect.py.
 
     differ.py --driver COMMAND [--seed N | --random-seed] [--seconds N | --files N] [--made-only]
 
@@ -20,13 +20,15 @@ import time
 from collections import Counter
 
 sys.dont_write_bytecode = True
-import files        # noqa: E402  (sets the path of the models)
-import expect       # noqa: E402
-import p12_reader   # noqa: E402
+import files                # noqa: E402  (sets the path of the models)
+import expect               # noqa: E402
+from models import reader   # noqa: E402
+from models.numbers import MISSING, OK, TOO_LONG   # noqa: E402
 
 BATCH_FILES, BATCH_BYTES = 2000, 8_000_000      # for one run of the driver
 MADE = 5000
 TIMEOUT = 900       # seconds for a batch
+NUMBERS = range(MISSING, TOO_LONG + 1)          # those that reading gives
 
 
 class Differs(Exception):
@@ -109,7 +111,7 @@ def explain(command, batch):
 
 def answer(result):
     """The number of a refusal, 0 for an accepted file."""
-    return result.number if isinstance(result, p12_reader.Refusal) else 0
+    return result.number if isinstance(result, reader.Refusal) else OK
 
 
 class Tally:
@@ -125,9 +127,9 @@ class Tally:
     def show(self, seconds):
         total = sum(self.files.values())
         print("files: %d (%s), %.0f a second" % (total, ", ".join("%s: %d" % pair for pair in self.files.items()), total / seconds))
-        print("accepted: %d, written and read again: %d" % (self.answers[0], self.again))
-        print("refused: " + ", ".join("%d: %d" % (n, self.answers[n]) for n in range(1, 10)))
-        return [n for n in range(1, 10) if not self.answers[n]]
+        print("accepted: %d, written and read again: %d" % (self.answers[OK], self.again))
+        print("refused: " + ", ".join("%d: %d" % (n, self.answers[n]) for n in NUMBERS))
+        return [n for n in NUMBERS if not self.answers[n]]
 
 
 def hold(command, kind, source, tally):

@@ -92,7 +92,7 @@ static inline void *copied(const void *bytes, size_t size)
     return memory;
 }
 
-/* Whether painted memory is as before from a place up to its end. */
+/* Whether painted memory is as before from an offset up to its end. */
 static inline int as_before(const void *memory, size_t from, size_t size)
 {
     return from == size || memcmp((const uint8_t *)memory + from, paint() + from, size - from) == 0;

@@ -1,18 +1,16 @@
-"""The record that driver.c should write of a file, by the models alone: rows and listing by p12_reader.py, pairs by p12_pairs.py, and attributes
-and elements worked out here from the reader's rows. driver.c has the form of the lines.
+"""The record that driver.c should write of a file, by the models alone: rows and listing by
+models/reader.py, pairs by models/pairs.py, and attributes and elements worked out here from the
+reader's rows. driver.c has the form of the lines.
 
 record(number, data) gives the text and the reader's result.
 """
 from itertools import groupby
 
-import p12_pairs
-import p12_reader
-import p12_writer
-from p12_reader import ATTRIBUTE_ROWS, BAG_ROWS, SAFE_ROWS
-from p12_writer import BAG_KINDS, SAFE_KINDS
+from models import pairs, reader, writer
+from models.numbers import ATTRIBUTE_ROWS, BAG_ROWS, DONE, NO_ROW, OK, SAFE_ROWS
+from models.writer import BAG_KINDS, SAFE_KINDS
 
 SHOWN = 32      # of many elements the first and the last so many
-DONE, NO_ROW = 255, 12
 TABLE_WORDS = 1407
 WRITTEN = "written and read again\n"
 
@@ -28,9 +26,9 @@ def padded(rows, size, count):
 
 def words(result):
     """Every word of the table, in the order of struct p12_table; for a refused file 1,407 zeros."""
-    if isinstance(result, p12_reader.Refusal):
+    if isinstance(result, reader.Refusal):
         return [0] * TABLE_WORDS
-    table = p12_writer.of_reading(result)
+    table = writer.of_reading(result)
     mac = table.mac
     safes = [[SAFE_KINDS.index(row.kind), *parts(row)] for row in table.safes]
     bags = [[BAG_KINDS.index(row.kind), row.safe, 0 if row.enclosing is None else row.enclosing + 1, *parts(row), int(row.has_set)]
@@ -47,7 +45,7 @@ def words_line(result):
 
 def elements(data, values):
     """The range of each element, header included."""
-    walk, found = p12_reader.Parent(data, p12_reader.empty_reading(len(data)), *values), []
+    walk, found = reader.Parent(data, reader.empty_reading(len(data)), *values), []
     while walk.left():
         found.append(walk.element().whole)
     return found
@@ -63,8 +61,8 @@ def attribute_line(data, bag, i, row):
 def certificate_line(data, result, bag):
     number, row = NO_ROW, 0
     if bag < len(result.bags) and result.bags[bag].kind in ("key", "shrouded key"):
-        answer = p12_pairs.answer(data, result, bag)
-        number, row = (0, int(answer.split()[-1])) if answer.startswith("certificate bag ") else (int(answer.split()[-1]), 0)
+        answer = pairs.answer(data, result, bag)
+        number, row = (OK, int(answer.split()[-1])) if answer.startswith("certificate bag ") else (int(answer.split()[-1]), 0)
     return "bag %d certificate: %d, bag %d\n" % (bag, number, row)
 
 
@@ -84,13 +82,13 @@ def accepted_lines(data, result):
 
 
 def record(number, data):
-    result = p12_reader.read(data)
-    refused = isinstance(result, p12_reader.Refusal)
-    answer, place = result if refused else (0, 0)
-    listing, pairs = p12_reader.listing(result), p12_pairs.pairs(data, result)
+    result = reader.read(data)
+    refused = isinstance(result, reader.Refusal)
+    answer, offset = result if refused else (OK, 0)
+    listing, paired = reader.listing(result), pairs.pairs(data, result)
     lines = ["= %d, %d bytes\n" % (number, len(data)),
-             "read: %d at %d\n" % (answer, place),
+             "read: %d at %d\n" % (answer, offset),
              "mac input: %d, %d..%d\n" % (answer, *((0, 0) if refused else result.mac_input)),
-             "list: 0, %d bytes\n" % len(listing), listing,
-             "pairs: 0, %d bytes\n" % len(pairs), pairs, words_line(result)]
+             "list: %d, %d bytes\n" % (OK, len(listing)), listing,
+             "pairs: %d, %d bytes\n" % (OK, len(paired)), paired, words_line(result)]
     return "".join(lines + ([] if refused else accepted_lines(data, result))), result

@@ -1,6 +1,6 @@
 """The files of the differential tests.
 
-    stored()        (name, bytes): the frames of crates/vectors/stdin, the files of tests/files, M
+    stored()        (name, bytes): the test files (stored.TEST_FILES), the files of tests/files, M
     prefixes()      (name, bytes): every prefix of M and of each file of tests/files, shorter than the whole
     made(seed)      (name, bytes), without end: random files by generate.py, each with damaged copies by damage.py; damaged copies of stored files
     allowed(name)   the answers that a file of this name may get, by how it was made: refusal numbers, or 0 for an accepted one
@@ -14,13 +14,14 @@ import pathlib
 import random
 import sys
 
-ROOT = pathlib.Path(__file__).resolve().parents[2]
-sys.path.insert(0, str(ROOT / "tests"))
+sys.path.insert(0, str(pathlib.Path(__file__).resolve().parents[1]))
 sys.dont_write_bytecode = True
-import damage       # noqa: E402
-import generate     # noqa: E402
-import p12_parts    # noqa: E402
-import p12_reader   # noqa: E402
+import damage               # noqa: E402
+import generate             # noqa: E402
+import p12_parts            # noqa: E402
+from models import reader   # noqa: E402
+from models.numbers import MISSING, OK, TOO_LONG, TOO_MANY   # noqa: E402
+from stored import FILES, TEST_FILES   # noqa: E402
 
 SEED = 1
 FLAT, MENDED, AIMED = 4, 4, 3   # damaged copies of a made file
@@ -41,13 +42,13 @@ def frames(data):
 def samples():
     """M and the files of tests/files."""
     yield "M", p12_parts.pfx().encode()
-    for path in sorted((ROOT / "tests" / "files").glob("*.p12")):
+    for path in sorted(FILES.glob("*.p12")):
         yield path.name, path.read_bytes()
 
 
 def stored():
-    vectors = (ROOT / "crates" / "vectors" / "stdin").read_bytes()
-    yield from (("frame %d of vectors" % n, data) for n, data in enumerate(frames(vectors)))
+    held = (TEST_FILES / "stdin").read_bytes()
+    yield from (("test file %d" % n, data) for n, data in enumerate(frames(held)))
     yield from samples()
 
 
@@ -75,7 +76,7 @@ def damaged(dice, tree, flat, mended, aimed=0):
 
 def trees():
     """Those of the samples that are accepted."""
-    return [(name, damage.tree_of(data)) for name, data in samples() if not isinstance(p12_reader.read(data), p12_reader.Refusal)]
+    return [(name, damage.tree_of(data)) for name, data in samples() if not isinstance(reader.read(data), reader.Refusal)]
 
 
 def group(dice, known):
@@ -109,10 +110,11 @@ def allowed(name):
     """Whoever made the file knows; no reader is asked."""
     how = name.split(": ", 1)[-1]
     if how in ("made", "paired") or how.startswith("limit of "):
-        return (0,)
+        return (OK,)
     if how.startswith("past the limit of "):
-        return (9,) if how.endswith(" bytes") else (8,)
-    return range(1, 10) if " bytes of " in name else range(10)      # a prefix, or anything
+        return (TOO_LONG,) if how.endswith(" bytes") else (TOO_MANY,)
+    refused = range(MISSING, TOO_LONG + 1)
+    return refused if " bytes of " in name else (OK, *refused)      # a prefix, or anything
 
 
 def main():

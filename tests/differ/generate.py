@@ -7,11 +7,10 @@
 """
 import p12_parts
 from damage import nodes_of
+from models.numbers import ATTRIBUTE_ROWS, BAG_ROWS, FILE_BYTES, LEVELS, OPAQUE_LEVELS, SAFE_ROWS
 from p12_pairs_make import A, B, NO_IDS, OTHER_TYPES, ids, local
 from p12_parts import (DATA, KEY_ID, NAME, NULL, OTHER, PBES2, SDSI_CERT, SHA256, X509_CERT, X509_CRL, E, algorithm, bag, cert, crl, depth, encrypted,
                        key, mac, nest, nested, num, octets, oid, pfx, plain, seq, typed)
-
-FILE_BYTES, SAFES, BAGS, ATTRIBUTES, CONTENTS_LEVELS, OPAQUE_LEVELS = 65535, 16, 64, 128, 8, 16
 
 EDGES = (0x7E, 0x7F, 0x80, 0x81, 0xFE, 0xFF, 0x100, 0x101)      # of body lengths
 TAGS = (0x01, 0x02, 0x03, 0x04, 0x05, 0x06, 0x0C, 0x13, 0x17, 0x1E, 0x30, 0x31, 0x80, 0xA0, 0xA1)
@@ -23,7 +22,7 @@ ITERATIONS = (None, None, 2, 127, 128, 255, 256, 2048, 0x7FFF, 0x8000, 0x7FFFFF,
 class Maker:
     """Makes parts by dice. `wild` is how often a value is anything that the rules allow, and not what tools write there."""
 
-    def __init__(self, dice, wild, bags=BAGS, attributes=ATTRIBUTES):
+    def __init__(self, dice, wild, bags=BAG_ROWS, attributes=ATTRIBUTE_ROWS):
         self.dice, self.wild = dice, wild
         self.bags, self.attributes = bags, attributes     # rows that are left
 
@@ -98,7 +97,7 @@ class Maker:
     def bag(self, level):
         self.bags -= 1
         kind = self.dice.choice((1, 2, 2, 3, 3, 4, 5, 6, 6))
-        if kind == 6 and level < CONTENTS_LEVELS:
+        if kind == 6 and level < LEVELS:
             return nested(*self.contents(level + 1, self.dice.choice((0, 1, 1, 2, 3))), attributes=self.set())
         if kind == 2:
             return bag(2, seq(self.algorithm(PBES2), octets(self.body())), self.set(), "shrouded")
@@ -249,15 +248,15 @@ def opaque_deep(dice, levels):
 
 def limits(dice, more):
     return dice.choice((
-        ("safes", lambda: rows(dice, safes=SAFES + more)), ("bags", lambda: rows(dice, bags=BAGS + more)),
-        ("attributes", lambda: rows(dice, bags=dice.choice((1, 8, BAGS)), attributes=ATTRIBUTES + more)),
-        ("bytes", lambda: long(dice, FILE_BYTES + more)), ("levels", lambda: deep(dice, CONTENTS_LEVELS + more)),
+        ("safes", lambda: rows(dice, safes=SAFE_ROWS + more)), ("bags", lambda: rows(dice, bags=BAG_ROWS + more)),
+        ("attributes", lambda: rows(dice, bags=dice.choice((1, 8, BAG_ROWS)), attributes=ATTRIBUTE_ROWS + more)),
+        ("bytes", lambda: long(dice, FILE_BYTES + more)), ("levels", lambda: deep(dice, LEVELS + more)),
         ("opaque levels", lambda: opaque_deep(dice, OPAQUE_LEVELS + more))))
 
 
 def at_limit(dice):
     if dice.random() < 0.1:
-        return "all rows", within(lambda: rows(dice, SAFES, BAGS, ATTRIBUTES))
+        return "all rows", within(lambda: rows(dice, SAFE_ROWS, BAG_ROWS, ATTRIBUTE_ROWS))
     what, make = limits(dice, 0)
     return what, within(make)
 

@@ -69,29 +69,29 @@ static uint32_t seed_of(const struct lent *lent)
     return sum;
 }
 
-/* Whether these words over these bytes are written as the file, into room with so many bytes more. */
+/* Whether these words over these bytes are written as the file, into a buffer with so many bytes more. */
 static int is_written(const struct lent *lent, const uint32_t *words, size_t count, const uint8_t *bytes, size_t length, size_t more)
 {
-    size_t room = lent->length + more, written = 1;
-    uint8_t *out = painted(room);
-    unsigned number = p12_write(words, count, bytes, length, out, room, &written);
-    int kept = number == P12_OK && written == lent->length && memcmp(out, lent->file, lent->length) == 0 && as_before(out, written, room);
+    size_t capacity = lent->length + more, written = 1;
+    uint8_t *out = painted(capacity);
+    unsigned number = p12_write(words, count, bytes, length, out, capacity, &written);
+    int kept = number == P12_OK && written == lent->length && memcmp(out, lent->file, lent->length) == 0 && as_before(out, written, capacity);
 
-    release(out, room);
+    release(out, capacity);
     return kept;
 }
 
 static void check_room(const struct lent *lent)
 {
-    size_t room = lent->length - 1, written = 1;
-    uint8_t *out = painted(room);
+    size_t capacity = lent->length - 1, written = 1;
+    uint8_t *out = painted(capacity);
 
-    check(is_written(lent, lent->words, P12_TABLE_WORDS, lent->file, lent->length, 0), "write into exact room");
-    check(is_written(lent, lent->words, P12_TABLE_WORDS, lent->file, lent->length, 100), "write into more room");
-    check(p12_write(lent->words, P12_TABLE_WORDS, lent->file, lent->length, out, room, &written) == P12_NO_ROOM && written == 0,
+    check(is_written(lent, lent->words, P12_TABLE_WORDS, lent->file, lent->length, 0), "write into an exact buffer");
+    check(is_written(lent, lent->words, P12_TABLE_WORDS, lent->file, lent->length, 100), "write into a longer buffer");
+    check(p12_write(lent->words, P12_TABLE_WORDS, lent->file, lent->length, out, capacity, &written) == P12_SHORT_BUFFER && written == 0,
         "write into a byte less: number or length");
-    check(as_before(out, 0, room), "write into a byte less: the room changed");
-    release(out, room);
+    check(as_before(out, 0, capacity), "write into a byte less: the buffer changed");
+    release(out, capacity);
 }
 
 static int is_read_again(const struct lent *lent)
@@ -142,11 +142,11 @@ static void check_refused(const uint32_t *words, const uint8_t *bytes, size_t le
     size_t written = 1;
 
     check(p12_write(words, P12_TABLE_WORDS, bytes, length, out, LITTLE, &written) == due && written == 0, what);
-    check(as_before(out, 0, LITTLE), "write that is refused: the room changed");
+    check(as_before(out, 0, LITTLE), "write that is refused: the buffer changed");
     release(out, LITTLE);
 }
 
-/* A digest and a salt that no file has room for: 9 before 10, and 11 before 9. */
+/* A digest and a salt that are too long for any file: 9 before 10, and 11 before 9. */
 static void check_too_long(const struct lent *lent)
 {
     size_t length = lent->length > LONG ? lent->length : LONG;
@@ -204,7 +204,7 @@ void check_unsound(const struct lent *lent, const uint32_t *words, size_t count)
 
     check(p12_write(words, count, lent->file, lent->length, out, lent->length, &written) == P12_NOT_SOUND && written == 0,
         "write of a table that isn't sound: number or length");
-    check(as_before(out, 0, lent->length), "write of a table that isn't sound: the room changed");
+    check(as_before(out, 0, lent->length), "write of a table that isn't sound: the buffer changed");
     for (size_t i = 0; i <= P12_BAG_ROWS; i += P12_BAG_ROWS)
         check(p12_attribute(words, count, lent->file, lent->length, i, 0, row, P12_ATTRIBUTE_WORDS) == P12_NOT_SOUND,
             "attribute of a table that isn't sound");

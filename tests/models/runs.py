@@ -1,26 +1,27 @@
-"""What `vectors` prints of the calls on the table of an accepted file, by the models alone: rows by p12_reader.py, ids
-by p12_pairs.py, soundness by p12_writer.py. docs/TESTS.md has the form of the lines; the comments quote the scope
-(document 01).
+"""What the program over the test files prints of the calls on the table of an accepted file, by
+the models alone: rows by reader.py, ids by pairs.py, soundness by writer.py. docs/TESTS.md has the
+form of the lines; the comments quote the rules (document 01).
 
-    lines(data, result)     for a file and what p12_reader.read gave for it
+    lines(data, result)     for a file and what reader.read gave for it
 """
-import p12_pairs
-import p12_writer
+from models import pairs, writer
+from models.numbers import FILE_BYTES, NO_ROW, NOT_SOUND
 
 CALLS = 3
 DIVISOR = 65521
 
 
 def is_sound(result, lent):
-    return p12_writer.write(p12_writer.of_reading(result), lent, p12_writer.FILE_BYTES) != ("refused", 11)
+    return writer.write(writer.of_reading(result), lent, FILE_BYTES) != ("refused", NOT_SOUND)
 
 
 def refusal(result, lent, bag):
     """What a bag's row is refused by, or None."""
-    # "Opening it with a table not sound for the lent bytes is 11, then on a row that isn't there 12."
+    # "Opening it with a table not sound for the lent bytes is 11, then on a row that isn't there
+    # 12."
     if not is_sound(result, lent):
-        return "refused 11"
-    return None if bag < len(result.bags) else "refused 12"
+        return "refused %d" % NOT_SOUND
+    return None if bag < len(result.bags) else "refused %d" % NO_ROW
 
 
 def own(result, bag):
@@ -41,14 +42,15 @@ def id_text(result, lent, bag):
     if refused:
         return refused
     # "identity rows: kind, whether an id is there, and the id's bytes"
-    span = p12_pairs.id_range(lent, result, bag)
-    kind = p12_writer.BAG_KINDS.index(result.bags[bag].kind)
+    span = pairs.id_range(lent, result, bag)
+    kind = writer.BAG_KINDS.index(result.bags[bag].kind)
     return "%s, kind %d, filled" % ("none" if span is None else "%d..%d" % span, kind)
 
 
 def fill(result, lent):
     # 11 as above; the array has as many rows as a table has bags, so that 10 is never due
-    return "%s, rest as before" % ("rows %d" % len(result.bags) if is_sound(result, lent) else "refused 11")
+    answer = "rows %d" % len(result.bags) if is_sound(result, lent) else "refused %d" % NOT_SOUND
+    return answer + ", rest as before"
 
 
 def type_lines(data, result, bag):

@@ -1,70 +1,16 @@
 #!/usr/bin/env python3
-"""A model of the pairing of keys with certificates in a PKCS #12 file.
+"""Compares the model models/pairs.py with answers by hand, for the files of p12_pairs_make.py and
+some others of p12_make.py.
 
-Written from the scope (document 01, "Attributes and pairs") alone; the comments quote it. Files are read by p12_reader.py.
-
-    p12_pairs.py FILE ..    the pairs of each file
-    p12_pairs.py --check    holds the model against the answers below, which were worked out by hand
-
-pairs(data, result) gives the lines for a file and what p12_reader.read gave for it: one for each key bag, in the order of the bag rows,
-    key bag 1: certificate bag 0
-    key bag 1: refused 13
-or the line of the refusal. The numbers are those of the bag rows.
+    tests/p12_pairs_check.py
 """
-import pathlib
 import sys
 
 import p12_make
-import p12_reader
+from models import reader
+from models.pairs import pairs
 
-# The table of names.
-LOCAL_KEY_ID = bytes.fromhex("2A864886F70D010915")
-
-
-def elements(data, span):
-    """The elements in a range."""
-    walk, found = p12_reader.Parent(data, p12_reader.empty_reading(len(data)), *span), []
-    while walk.left():
-        found.append(walk.element())
-    return found
-
-
-def id_range(data, result, number):
-    """The range of a bag's id, or None."""
-    # "A bag's id comes from its first localKeyID attribute": of the rows that name this bag, which stand in file order
-    for row in result.attributes:
-        if row.bag == number and data[slice(*row.type)] == LOCAL_KEY_ID:
-            found = elements(data, row.values)
-            # "if that holds exactly one element and it is an OCTET STRING; otherwise the bag has none". "OCTET STRING is tag 04 only"
-            return found[0].body if len(found) == 1 and found[0].tag == 0x04 else None
-    return None
-
-
-def id_of(data, result, number):
-    """The id of a bag, or None."""
-    span = id_range(data, result, number)
-    return None if span is None else data[slice(*span)]
-
-
-def answer(data, result, number):
-    own = id_of(data, result, number)
-    # "the only certificate row with an equal id". "Ids of length 0 are equal to each other."
-    equal = [n for n, row in enumerate(result.bags) if row.kind == "certificate" and own is not None and id_of(data, result, n) == own]
-    # "13 exactly if there is none or the key has none; 14 exactly if there are two or more"
-    return "certificate bag %d" % equal[0] if len(equal) == 1 else "refused %d" % (14 if equal else 13)
-
-
-def pairs(data, result):
-    if isinstance(result, p12_reader.Refusal):
-        return "refused %d at %d\n" % result
-    # "For a key row (kinds 01 and 02) the answer is"
-    return "".join("key bag %d: %s\n" % (n, answer(data, result, n))
-                   for n, row in enumerate(result.bags) if row.kind in ("key", "shrouded key"))
-
-
-# ---- Answers by hand, for the files of p12_pairs_make.py and some others of p12_make.py. Short: 1:0 is "key bag 1: certificate bag 0",
-# 1!13 is "key bag 1: refused 13".
-
+# Short: 1:0 is "key bag 1: certificate bag 0", 1!13 is "key bag 1: refused 13".
 BY_HAND = {
     # one to one
     "pairs_key_then_cert": "0:1",
@@ -200,7 +146,7 @@ def spelled(short):
 def check():
     made, agree = dict(p12_make.files()), 0
     for name, short in BY_HAND.items():
-        got = pairs(made[name], p12_reader.read(made[name]))
+        got = pairs(made[name], reader.read(made[name]))
         agree += got == spelled(short)
         if got != spelled(short):
             print("%s: by hand\n%sby the model\n%s" % (name, spelled(short), got))
@@ -209,14 +155,5 @@ def check():
     return 1 if without or agree != len(BY_HAND) else 0
 
 
-def main(arguments):
-    if arguments == ["--check"]:
-        return check()
-    for name in arguments:
-        data = pathlib.Path(name).read_bytes()
-        sys.stdout.write(pairs(data, p12_reader.read(data)))
-    return 0
-
-
 if __name__ == "__main__":
-    sys.exit(main(sys.argv[1:]))
+    sys.exit(check())

@@ -1,14 +1,13 @@
-#!/usr/bin/env python3
 """An independent reader for PKCS #12 files (password integrity mode, DER).
 
-Written from two documents alone, the scope (document 01, the exact rules) and
-RFC 7292, with the choices that docs/DECISIONS.md lists where 01 is open.  The
-functions stand in the order of 01; the comments quote it.
+Written from two documents alone, the rules (document 01) and RFC 7292, with the
+choices that docs/DECISIONS.md lists where 01 leaves one.  The functions are in
+the order of 01; the comments quote it.
 
-    p12_reader.py FILE ..      the listing of each file
-    p12_reader.py --hex HEX    the listing of the bytes that HEX spells
+    python3 -m models.reader FILE ..      the listing of each file
+    python3 -m models.reader --hex HEX    the listing of the bytes HEX spells
 
-read(data) gives a Refusal (number, place) or a reading: an object with size,
+read(data) gives a Refusal (number, offset) or a reading: an object with size,
 opened, mac (algorithm, parameters, digest, salt, iterations), mac_input, and
 the rows safes, bags, attributes.  A range is a pair (a, b) of offsets into the
 file; it has bytes a up to b-1.
@@ -18,10 +17,10 @@ import sys
 from collections import namedtuple
 from types import SimpleNamespace
 
-# "a file has at most 65,535 bytes. One table holds 16 safe rows, 64 bag rows
-# and 128 attribute rows" .. "Safe contents nest to level 8"
-FILE_BYTES, SAFE_ROWS, BAG_ROWS, ATTRIBUTE_ROWS = 65535, 16, 64, 128
-CONTENTS_LEVELS, OPAQUE_LEVELS = 8, 16
+from models.numbers import (
+    ATTRIBUTE_ROWS, BAG_ROWS, CONTENT, FILE_BYTES, LEFT_OVER, LENGTH_FORM,
+    LEVELS, MISSING, NOT_SERVED, OPAQUE_LEVELS, OTHER_TAG, SAFE_ROWS, TAG_FORM,
+    TOO_LONG, TOO_MANY)
 
 INTEGER, OCTET_STRING, IDENTIFIER = 0x02, 0x04, 0x06
 SEQUENCE, SET, CONTEXT_0, CIPHERTEXT = 0x30, 0x31, 0xA0, 0x80
@@ -36,13 +35,13 @@ BAG_PREFIX = bytes.fromhex("2A864886F70D010C0A01")
 BAG_KINDS = {1: "key", 2: "shrouded key", 3: "certificate", 4: "crl",
              5: "secret", 6: "nested"}
 
-Refusal = namedtuple("Refusal", "number place")     # what read() gives back
+Refusal = namedtuple("Refusal", "number offset")    # what read() gives back
 class Refused(Exception):
     pass    # carries the same pair out of the walk: "The first fault answers"
 
-def need(kept, number, place):
+def need(kept, number, offset):
     if not kept:
-        raise Refused(number, place)
+        raise Refused(number, offset)
 
 # ---- The table. "Rows hold these as ranges"; "fields that a row's kind
 # doesn't use hold 0 or none". An identifier, an OCTET STRING, the ciphertext
@@ -50,8 +49,8 @@ def need(kept, number, place):
 def new_row(ranges, **fields):
     return SimpleNamespace(**fields, **dict.fromkeys(ranges.split(), (0, 0)))
 
-def add_row(rows, room, element, ranges, **fields):
-    need(len(rows) < room, 8, element.at)       # "a row too many"
+def add_row(rows, size, element, ranges, **fields):
+    need(len(rows) < size, TOO_MANY, element.at)    # "a row too many"
     rows.append(new_row(ranges, **fields))
     return rows[-1]
 
@@ -65,7 +64,7 @@ def empty_reading(size):
 Element = namedtuple("Element", "tag at body whole")
 
 class Parent:
-    # A body walked "front to back": the next place in it, and its end.
+    # A body walked "front to back": the next offset in it, and its end.
     def __init__(self, data, table, at, end):
         self.data, self.table, self.at, self.end = data, table, at, end
 
@@ -76,14 +75,15 @@ class Parent:
         # "At each element: tag form, length form, body within parent, tag due"
         at = self.at
         # "no byte left": "the parent's end where a whole element is missing"
-        need(self.left(), 1, self.end)
+        need(self.left(), MISSING, self.end)
         tag = self.data[at]
         # "00 and any byte whose low five bits are all ones are refused (2)"
-        need(tag != 0x00 and tag & 0x1F != 0x1F, 2, at)
+        need(tag != 0x00 and tag & 0x1F != 0x1F, TAG_FORM, at)
         start, size = self.length(at)
         end = start + size
-        need(end <= self.end, 1, at)        # "must end within its parent (1)"
-        need(due in (None, tag), 4, at)     # "another tag than the one due"
+        need(end <= self.end, MISSING, at)  # "must end within its parent (1)"
+        # "another tag than the one due"
+        need(due in (None, tag), OTHER_TAG, at)
         self.table.opened += 1
         self.at = end       # "moves on past one whole element"
         return Element(tag, at, (start, end), (at, end))
@@ -91,17 +91,17 @@ class Parent:
     def length(self, at):
         # "Length: 00..7F; 81 with 80..FF; 82 with 0100..FFFF. Any other form
         # is refused (3)". "any other header with a byte missing is 1"
-        need(at + 1 < self.end, 1, at)
+        need(at + 1 < self.end, MISSING, at)
         first = self.data[at + 1]
         if first < 0x80:
             return at + 2, first
         # "a first length byte 80, or 83 and above, is 3 at once"
-        need(first in (0x81, 0x82), 3, at)
+        need(first in (0x81, 0x82), LENGTH_FORM, at)
         start = at + 2 + (first - 0x80)
-        need(start <= self.end, 1, at)
+        need(start <= self.end, MISSING, at)
         size = int.from_bytes(self.data[at + 2:start], "big")
         # "a length that a shorter form could give"
-        need(size >= (0x80 if first == 0x81 else 0x100), 3, at)
+        need(size >= (0x80 if first == 0x81 else 0x100), LENGTH_FORM, at)
         return start, size
 
     def inside(self, element):
@@ -116,14 +116,14 @@ class Parent:
 
     def finish(self):
         # "bytes left over in a parent after its last element"
-        need(not self.left(), 6, self.at)
+        need(not self.left(), LEFT_OVER, self.at)
 
 def opaque(parent, due=None, level=1):
     # "where tag bit 20 (hex) is set its body is zero or more complete
     # elements, otherwise the body isn't looked at. The opaque element itself
     # is level 1; an element of level 17 is refused (8)."
     element = parent.element(due)
-    need(level <= OPAQUE_LEVELS, 8, element.at)
+    need(level <= OPAQUE_LEVELS, TOO_MANY, element.at)
     if element.tag & 0x20:
         body = parent.inside(element)
         while body.left():
@@ -135,10 +135,10 @@ def identifier(parent):
     # beginning with byte 80 hex."
     element = parent.element(IDENTIFIER)
     body = parent.bytes_of(element)
-    need(body and body[-1] < 0x80, 5, element.at)
+    need(body and body[-1] < 0x80, CONTENT, element.at)
     begins = True                   # does a part begin at this byte?
     for byte in body:
-        need(not (begins and byte == 0x80), 5, element.at)
+        need(not (begins and byte == 0x80), CONTENT, element.at)
         begins = byte < 0x80
     return element, body
 
@@ -146,8 +146,8 @@ def integer(parent):
     # "INTEGER (02): 1 to 4 body bytes, minimal, not negative."
     element = parent.element(INTEGER)
     body = parent.bytes_of(element)
-    need(1 <= len(body) <= 4 and body[0] < 0x80, 5, element.at)
-    need(len(body) == 1 or body[0] > 0 or body[1] >= 0x80, 5, element.at)
+    need(1 <= len(body) <= 4 and body[0] < 0x80, CONTENT, element.at)
+    need(len(body) == 1 or body[0] > 0 or body[1] >= 0x80, CONTENT, element.at)
     return element, int.from_bytes(body, "big")
 
 # ---- The file from outside in.
@@ -155,9 +155,9 @@ def pfx(file):
     # "PFX is SEQUENCE (30): version INTEGER 3; ContentInfo; MacData."
     body = file.enter(SEQUENCE)
     element, version = integer(body)
-    need(version == 3, 5, element.at)
+    need(version == 3, CONTENT, element.at)
     outer_content_info(body)
-    need(body.left(), 7, body.end)          # "no MacData"
+    need(body.left(), NOT_SERVED, body.end)          # "no MacData"
     mac_data(body)
     body.finish()
 
@@ -167,8 +167,8 @@ def outer_content_info(parent):
     # body is one AuthenticatedSafe and nothing more."
     body = parent.enter(SEQUENCE)
     element, kind = identifier(body)
-    need(kind != SIGNED_DATA, 7, element.at)    # "outer signedData"
-    need(kind == DATA, 5, element.at)
+    need(kind != SIGNED_DATA, NOT_SERVED, element.at)    # "outer signedData"
+    need(kind == DATA, CONTENT, element.at)
     content = body.enter(CONTEXT_0)
     safes = content.enter(OCTET_STRING)
     # "That body is the MAC input", "without the OCTET STRING's tag and length"
@@ -191,8 +191,9 @@ def safe(parent):
                   "algorithm parameters ciphertext", kind="")
     body = parent.inside(element)
     element, kind = identifier(body)
-    need(kind != ENVELOPED_DATA, 7, element.at)     # "safe of envelopedData"
-    need(kind in (DATA, ENCRYPTED_DATA), 5, element.at)
+    # "safe of envelopedData"
+    need(kind != ENVELOPED_DATA, NOT_SERVED, element.at)
+    need(kind in (DATA, ENCRYPTED_DATA), CONTENT, element.at)
     content = body.enter(CONTEXT_0)
     if kind == DATA:
         plain_safe(content, row, len(rows) - 1)
@@ -215,13 +216,14 @@ def encrypted_safe(parent, row):
     row.kind = "encrypted"
     body = parent.enter(SEQUENCE)
     element, version = integer(body)
-    need(version != 2, 7, element.at)       # "EncryptedData version 2"
-    need(version == 0, 5, element.at)
+    # "EncryptedData version 2"
+    need(version != 2, NOT_SERVED, element.at)
+    need(version == 0, CONTENT, element.at)
     info = body.enter(SEQUENCE)
     element, kind = identifier(info)
-    need(kind == DATA, 5, element.at)
+    need(kind == DATA, CONTENT, element.at)
     row.algorithm, row.parameters = algorithm_identifier(info)
-    need(info.left(), 7, info.end)          # "no ciphertext"
+    need(info.left(), NOT_SERVED, info.end)          # "no ciphertext"
     row.ciphertext = info.element(CIPHERTEXT).body
     info.finish()
     body.finish()
@@ -238,7 +240,7 @@ def algorithm_identifier(parent):
 def safe_contents(parent, safe_number, enclosing, level):
     # "SafeContents: SEQUENCE of zero or more SafeBag."
     element = parent.element(SEQUENCE)
-    need(level <= CONTENTS_LEVELS, 8, element.at)   # "contents of level 9"
+    need(level <= LEVELS, TOO_MANY, element.at)   # "contents of level 9"
     body = parent.inside(element)
     while body.left():
         safe_bag(body, safe_number, enclosing, level)
@@ -271,7 +273,8 @@ def safe_bag(parent, safe_number, enclosing, level):
 def bag_kind(parent):
     element, body = identifier(parent)
     # "well-formed bagId of another kind"
-    need(body[:-1] == BAG_PREFIX and body[-1] in BAG_KINDS, 7, element.at)
+    need(body[:-1] == BAG_PREFIX and body[-1] in BAG_KINDS,
+         NOT_SERVED, element.at)
     return BAG_KINDS[body[-1]]
 
 def shrouded_key(parent, row):
@@ -297,7 +300,7 @@ def typed_value(parent, row):
 def attribute_set(parent, row, number):
     # 6 is "any tag byte but 31 where an attribute set may stand". "An absent
     # set and an empty one differ in the reading."
-    need(parent.data[parent.at] == SET, 6, parent.at)
+    need(parent.data[parent.at] == SET, LEFT_OVER, parent.at)
     body = parent.enter(SET)
     row.has_set = True
     while body.left():
@@ -333,9 +336,10 @@ def mac_data(parent):
 
 def iterations(parent):
     # 6 is any tag byte "but 02 where iterations may"
-    need(parent.data[parent.at] == INTEGER, 6, parent.at)
+    need(parent.data[parent.at] == INTEGER, LEFT_OVER, parent.at)
     element, number = integer(parent)
-    need(2 <= number <= 2147483647, 5, element.at)  # "if present it is 2 to"
+    # "if present it is 2 to 2,147,483,647"
+    need(2 <= number <= 2147483647, CONTENT, element.at)
     return number
 
 # ---- The reading, and its listing.
@@ -345,7 +349,7 @@ def read(data):
     table = empty_reading(len(data))
     file = Parent(data, table, 0, len(data))
     try:
-        need(len(data) <= FILE_BYTES, 9, 0)
+        need(len(data) <= FILE_BYTES, TOO_LONG, 0)
         pfx(file)
         file.finish()
     except Refused as refused:

@@ -1,17 +1,19 @@
-"""An independent writer for PKCS #12 files, to hold the proved one against.
+"""An independent writer for PKCS #12 files, to compare the proved one with.
 
-Written from the scope (document 01, the exact rules); the comments quote it.  Elements of DER are taken apart by p12_reader.py.
+Written from the rules (document 01); the comments quote them.  Elements of DER are taken apart by
+reader.py.
 
-    write(table, data, room)    ("length", the file's bytes) or ("refused", 11, 9 or 10)
-    unasked(table, data)        the file with nothing asked of the table, for a reader to judge
-    of_reading(reading)         the table of what p12_reader.read gives for an accepted file
-    values(table, data)         what a table shows: its rows with bytes in place of ranges
+    write(table, data, capacity)    ("length", the file's bytes) or ("refused", the number)
+    unasked(table, data)            the file with no test of the table, for a reader to judge
+    of_reading(reading)             the table of what reader.read gives for an accepted file
+    values(table, data)             what a table shows: its rows with bytes in place of ranges
 """
 from dataclasses import dataclass, field, replace
 
-import p12_reader
-from p12_reader import (ATTRIBUTE_ROWS, BAG_PREFIX, BAG_ROWS, CONTENTS_LEVELS, DATA, ENCRYPTED_DATA, FILE_BYTES, SAFE_ROWS,
-                        X509_CERTIFICATE)
+from models import reader
+from models.numbers import (ATTRIBUTE_ROWS, BAG_ROWS, FILE_BYTES, LEVELS, NOT_SOUND, SAFE_ROWS,
+                            SHORT_BUFFER, TOO_LONG)
+from models.reader import BAG_PREFIX, DATA, ENCRYPTED_DATA, X509_CERTIFICATE
 
 EMPTY = (0, 0)
 SAFE_KINDS = ("none", "plain", "encrypted")
@@ -75,7 +77,8 @@ class Unsound(Exception):
 # ---- DER, to be written.
 
 def length_of(size):
-    # "82 with 0100..FFFF" is the longest that a file has. What has a longer body is refused by 9, whatever stands here.
+    # "82 with 0100..FFFF" is the longest that a file has. What has a longer body is refused by 9,
+    # whatever stands here.
     if size < 0x80:
         return bytes([size])
     octets = size.to_bytes((size.bit_length() + 7) // 8, "big")
@@ -105,14 +108,14 @@ def content(*parts):
 
 
 def opaques(data):
-    """The tags of the opaque elements that the bytes are a row of; None if they aren't such a row."""
+    """The tags of the opaque elements that the bytes are a row of; None if they are no such row."""
     # "checked through to the bottom, 16 levels at most"
-    parent = p12_reader.Parent(data, p12_reader.empty_reading(len(data)), 0, len(data))
+    parent = reader.Parent(data, reader.empty_reading(len(data)), 0, len(data))
     tags = []
     try:
         while parent.left():
-            tags.append(p12_reader.opaque(parent).tag)
-    except p12_reader.Refused:
+            tags.append(reader.opaque(parent).tag)
+    except reader.Refused:
         return None
     return tags
 
@@ -126,7 +129,8 @@ def is_identifier(body):
 # ---- The file of a table.
 
 class Writer:
-    """Writes the tree that the rows make, and notes the rows in the order in which a reading would meet them."""
+    """Writes the tree that the rows make, and notes the rows in the order in which a reading would
+    meet them."""
 
     def __init__(self, table, data, asks=True):
         self.table, self.data, self.asks = table, data, asks
@@ -183,7 +187,7 @@ class Writer:
 
     def contents(self, safe, enclosing, level):
         """The SafeContents of the bags that name this safe and this enclosing bag."""
-        self.need(level <= CONTENTS_LEVELS)  # "Safe contents nest to level 8"
+        self.need(level <= LEVELS)  # "Safe contents nest to level 8"
         own = [n for n, row in enumerate(self.bags) if (row.safe, row.enclosing) == (safe, enclosing)]
         return sequence(*[self.bag(n, self.bags[n], level) for n in own])
 
@@ -220,7 +224,8 @@ class Writer:
         return sequence(self.identifier(row.identifier), element(0x31, self.opaque(row.values, lambda tags: True)))
 
     def mac_data(self, mac):
-        # "DigestInfo .., salt OCTET STRING, and optionally INTEGER iterations. Absent means 1; if present it is 2 to 2,147,483,647"
+        # "DigestInfo .., salt OCTET STRING, and optionally INTEGER iterations. Absent means 1; if
+        # present it is 2 to 2,147,483,647"
         digest = sequence(self.algorithm(mac), element(0x04, self.part(mac.value)))
         self.need(1 <= mac.iterations <= 2147483647)
         last = b"" if mac.iterations == 1 else integer(mac.iterations)
@@ -228,21 +233,21 @@ class Writer:
 
 
 def below(rows, count, size, empty):
-    """The rows below the count, as far as the table has room for them."""
+    """The rows below the count, as many of them as the table holds."""
     padded = rows + [empty] * (size - len(rows))
     return padded[:min(count, size)]
 
 
-def write(table, data, room):
+def write(table, data, capacity):
     # "Order: 11, 9, 10."
     try:
         file = Writer(table, data).file()
     except Unsound:
-        return "refused", 11
+        return "refused", NOT_SOUND
     if len(file) > FILE_BYTES:
-        return "refused", 9
-    if room < len(file):
-        return "refused", 10
+        return "refused", TOO_LONG
+    if capacity < len(file):
+        return "refused", SHORT_BUFFER
     return "length", file
 
 
@@ -271,7 +276,8 @@ def bag_of(row):
 
 
 def values(table, data):
-    """The counts, and of each row below them the kind, the names and the bytes of the ranges that its kind uses."""
+    """The counts, and of each row below them the kind, the names and the bytes of the ranges that
+    its kind uses."""
     def shown(row, names):
         return [data[slice(*getattr(row, name))] for name in names]
 

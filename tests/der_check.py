@@ -1,104 +1,22 @@
 #!/usr/bin/env python3
-"""A model of reading one DER element, written from the text of the rules, to compare the program der_cases with.
+"""Compares the model models/der.py with answers by hand, and the program over `der` with the
+model.
 
-    tests/der_model.py                        # every line of tests/der_cases.txt against the model
-    tests/der_model.py --random N --seed S    # N random frames, the program's lines against the model's
-    tests/der_model.py --store N --seed S     # prints N short random cases in the format of tests/der_cases.txt
+    tests/der_check.py                        the model against every line of der_cases.txt
+    tests/der_check.py --random N --seed S    the program against the model, on N random frames
+    tests/der_check.py --store N --seed S     prints N short random cases, as der_cases.txt has them
 """
 import argparse
 import collections
 import itertools
-import pathlib
 import random
 import subprocess
 import sys
 
-ROOT = pathlib.Path(__file__).resolve().parent.parent
+import stored
+from models.der import answer
+
 BATCH = 65535  # bytes at most that the program is given at once
-
-# -- the model
-
-class Refused(Exception):
-    """Its arguments: the number and the place."""
-
-def need(holds, number, place):
-    if not holds:
-        raise Refused(number, place)
-
-def byte_left(data, at, end):
-    return at < end <= len(data)
-
-def element(data, at, end, due=None):
-    """Tag and range of the body of the element at `at` in a parent that ends at `end`; `due` is the tag due, if any."""
-    need(byte_left(data, at, end), 1, end)
-    tag = data[at]
-    need(tag != 0x00 and tag & 0x1F != 0x1F, 2, at)
-    need(at + 1 < end, 1, at)
-    first = data[at + 1]
-    need(first <= 0x7F or first in (0x81, 0x82), 3, at)
-    more = 0 if first <= 0x7F else first - 0x80  # length bytes after the first
-    body = at + 2 + more
-    need(body <= end, 1, at)
-    size = int.from_bytes(data[at + 2:body], "big") if more else first
-    need(size >= (0, 0x80, 0x100)[more], 3, at)  # no shorter form could give it
-    need(body + size <= end, 1, at)
-    need(due is None or tag == due, 4, at)
-    return tag, body, body + size
-
-def identifier(data, at, end):
-    tag, body, past = element(data, at, end, 0x06)
-    need(body < past and data[past - 1] < 0x80, 5, at)
-    for k in range(body, past):
-        begins_part = k == body or data[k - 1] < 0x80
-        need(not (begins_part and data[k] == 0x80), 5, at)
-    return tag, body, past
-
-def integer(data, at, end):
-    """The value of the INTEGER at `at` and the place past it."""
-    _, body, past = element(data, at, end, 0x02)
-    octets = data[body:past]
-    need(1 <= len(octets) <= 4, 5, at)
-    need(octets[0] < 0x80, 5, at)  # not negative
-    need(len(octets) == 1 or octets[0] != 0x00 or octets[1] >= 0x80, 5, at)  # minimal
-    return int.from_bytes(octets, "big"), past
-
-def opaque(data, at, end, levels):
-    """How many elements the opaque element at `at` is, itself and all inside it, and the place past it."""
-    tag, body, past = element(data, at, end)
-    need(levels > 0, 8, at)
-    inside = run(data, body, past, levels - 1)[0] if tag & 0x20 else 0
-    return 1 + inside, past
-
-def run(data, at, end, levels):
-    """The same for zero or more opaque elements up to `end`."""
-    count = 0
-    while at < end:
-        more, at = opaque(data, at, end, levels)
-        count += more
-    return count, at
-
-def answer(letter, argument, at, end, data) -> str:
-    try:
-        if letter == "w":
-            return f"cursor 0..{len(data)}"
-        if letter == "t":
-            return f"tag {data[at] if byte_left(data, at, end) else 0:02x}"
-        if letter == "f":
-            need(at >= end, 6, at)
-            return f"passed 0, next {at}..{end}"
-        if letter == "n":
-            value, past = integer(data, at, end)
-            return f"value {value}, next {past}..{end}"
-        if letter in "or":
-            count, past = (opaque if letter == "o" else run)(data, at, end, argument)
-            return f"passed {count}, next {past}..{end}"
-        if letter == "i":
-            tag, body, past = identifier(data, at, end)
-        else:
-            tag, body, past = element(data, at, end, {"e": None, "d": argument, "s": 0x04}[letter])
-        return f"found {tag:02x}, body {body}..{past}, next {past}..{end}"
-    except Refused as fault:
-        return "refused {} at {}".format(*fault.args)
 
 # -- random cases
 
@@ -185,7 +103,7 @@ def kind(line):
     return line.split(" at ")[0] if line.startswith("refused") else line.split()[0]
 
 def check_cases():
-    lines = [x for x in (ROOT / "tests/der_cases.txt").read_text().splitlines() if x.strip() and not x.startswith("#")]
+    lines = [x for x in (stored.TESTS / "der_cases.txt").read_text().splitlines() if x.strip() and not x.startswith("#")]
     differing = 0
     for line in lines:
         call, due = line.split("=", 1)
@@ -207,7 +125,7 @@ def check_random(count, rng, seed):
             batch.append(cases.popleft())
             size += 8 + len(batch[-1][4])
         frames = b"".join(frame(*case) for case in batch)
-        done = subprocess.run([ROOT / "target/bin/der_cases"], input=frames, capture_output=True)
+        done = subprocess.run([stored.program(stored.DER)], input=frames, capture_output=True)
         given = done.stdout.decode("latin-1").splitlines()
         if done.returncode != 0 or len(given) != len(batch):
             differing += 1
