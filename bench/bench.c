@@ -78,17 +78,17 @@ static void as_library(const struct table *t, struct p12_table *out)
     out->mac = parts(t->mac_algorithm, t->mac_parameters, t->mac_digest);
     out->mac_salt = wide(t->mac_salt);
     out->mac_iterations = t->mac_iterations;
-    for (int i = 0; i < SAFE_ROWS; i++) {
+    for (int i = 0; i < P12_SAFE_ROWS; i++) {
         const struct safe_row *row = &t->safes[i];
 
         out->safes[i] = (struct p12_safe){ row->kind, parts(row->algorithm, row->parameters, row->ciphertext) };
     }
-    for (int i = 0; i < BAG_ROWS; i++) {
+    for (int i = 0; i < P12_BAG_ROWS; i++) {
         const struct bag_row *row = &t->bags[i];
 
         out->bags[i] = (struct p12_bag){ row->kind, row->safe, row->inside, parts(row->type, row->more, row->value), row->has_set };
     }
-    for (int i = 0; i < ATTRIBUTE_ROWS; i++) {
+    for (int i = 0; i < P12_ATTRIBUTE_ROWS; i++) {
         const struct attribute_row *row = &t->attributes[i];
 
         out->attributes[i] = (struct p12_attribute){ row->bag, wide(row->type), wide(row->values) };
@@ -106,7 +106,7 @@ static int agree(const uint8_t *file, size_t n)
     number = p12_read(file, n, p12_words(&table), P12_TABLE_WORDS, &offset);
     walk(file, n, &walked, &fault);
     as_library(&walked, &other);
-    return number == fault.number && offset == fault.place && memcmp(&table, &other, sizeof table) == 0;
+    return number == fault.number && offset == fault.offset && memcmp(&table, &other, sizeof table) == 0;
 }
 
 static int time_file(const char *name, const uint8_t *file, size_t n)

@@ -1,6 +1,7 @@
 /* See common.h. */
 #define _GNU_SOURCE
 #include "common.h"
+#include "../include/p12.h"
 
 #include <pthread.h>
 #include <stdlib.h>
@@ -11,7 +12,7 @@
 #define REPEATS 15 /* many short ones: what else runs spoils whole repeats */
 #define SECONDS 0.3
 
-enum { LOADED_BYTES = 65536, STACK_BYTES = 8 << 20, PATTERN = 0xA5, OWN_BYTES = 128 };
+enum { LOADED_BYTES = P12_FILE_BYTES + 1, STACK_BYTES = 8 << 20, PATTERN = 0xA5, OWN_BYTES = 128 };
 
 static volatile size_t sink;
 
@@ -26,18 +27,18 @@ static void stop(const char *what)
 /* The bytes of a file, in memory of exactly that size. */
 static uint8_t *load(const char *path, size_t *n)
 {
-    static uint8_t room[LOADED_BYTES];
+    static uint8_t buffer[LOADED_BYTES];
     FILE *in = fopen(path, "rb");
     uint8_t *file;
 
     if (!in)
         stop(path);
-    *n = fread(room, 1, sizeof room, in);
+    *n = fread(buffer, 1, sizeof buffer, in);
     fclose(in);
     file = malloc(*n ? *n : 1);
     if (!file)
         stop(path);
-    return memcpy(file, room, *n);
+    return memcpy(file, buffer, *n);
 }
 
 static const char *base(const char *path)

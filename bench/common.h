@@ -25,7 +25,7 @@ enum { PEERS = 8 };
    SECONDS / REPEATS each time; the best time counts. 0 where the peer is NULL. */
 void best(const peer *peers, int count, const uint8_t *file, size_t n, double *ns);
 
-/* The bytes of stack that one call uses, beside those of a call that does nothing. Painted: room that the deepest frame
+/* The bytes of stack that one call uses, beside those of a call that does nothing. Painted: stack that the deepest frame
    reserves and never writes isn't seen. */
 size_t stack_of(peer call, const uint8_t *file, size_t n);
 

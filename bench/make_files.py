@@ -10,10 +10,9 @@ import sys
 here = pathlib.Path(__file__).resolve().parent
 sys.path.insert(0, str(here.parent / "tests"))
 sys.dont_write_bytecode = True
+from models.numbers import FILE_BYTES, LEVELS, OPAQUE_LEVELS  # noqa: E402
 from p12_make import (E, KEY_ID, NULL, attribute, cert, depth, friendly, key, mac, nested, pfx, plain, seq,  # noqa: E402
                       shrouded)
-
-FILE_BYTES, CONTENTS_LEVELS, OPAQUE_LEVELS = 65535, 8, 16
 
 
 def bench_m():
@@ -43,7 +42,7 @@ def opaque(size, unit):
 def deep():
     """Safe contents of level 8, and in its bag an opaque element of 16 levels: as deep as a file can be."""
     inner = key([attribute(KEY_ID, depth(OPAQUE_LEVELS))])
-    for _ in range(CONTENTS_LEVELS - 1):
+    for _ in range(LEVELS - 1):
         inner = nested(inner, attributes=[attribute()])
     return pfx(plain(inner)).encode()
 

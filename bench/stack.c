@@ -2,7 +2,7 @@
 
        stack FILE ..    one row a file
 
-   p12_attribute and p12_certificate_for are asked for what calls.c says. A '-': there is no table, attribute or key. */
+   p12_attribute and p12_certificate_for are called for what calls.c says. A '-': there is no table, attribute or key. */
 #include "common.h"
 #include "peers.h"
 #include "walker.h"

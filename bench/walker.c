@@ -1,10 +1,10 @@
-/* See walker.h. A file from outside in; the functions stand in the order of document 01. */
+/* See walker.h. A file from outside in; the functions are in the order of document 01. */
 #include "walker_elements.h"
 
 /* The last bytes of the content types' identifiers. */
 enum { DATA = 1, SIGNED = 2, ENVELOPED = 3, ENCRYPTED = 6 };
 
-/* A contentType and the place of its tag. */
+/* A contentType and the offset of its tag. */
 static int content_type(struct walker *w, struct cursor *c, unsigned *type, uint32_t *at)
 {
     struct element e;
@@ -41,8 +41,8 @@ static int attribute_set(struct walker *w, struct cursor *c, uint32_t bag)
     while (set.body.at != set.body.end) {
         if (!element(w, &set.body, SEQUENCE, &e))
             return 0;
-        if (t->attribute_count == ATTRIBUTE_ROWS)
-            return refuse(w, 8, e.at);
+        if (t->attribute_count == P12_ATTRIBUTE_ROWS)
+            return refuse(w, P12_TOO_MANY, e.at);
         row = &t->attributes[t->attribute_count++];
         row->bag = (uint16_t)bag;
         if (!identifier_range(w, &e.body, &row->type) || !element(w, &e.body, SET, &values))
@@ -95,8 +95,8 @@ static int safe_bag(struct walker *w, struct cursor *c, uint32_t safe, uint32_t 
 
     if (!element(w, c, SEQUENCE, &e))
         return 0;
-    if (t->bag_count == BAG_ROWS)
-        return refuse(w, 8, e.at);
+    if (t->bag_count == P12_BAG_ROWS)
+        return refuse(w, P12_TOO_MANY, e.at);
     number = t->bag_count++;
     row = &t->bags[number];
     row->safe = (uint16_t)safe;
@@ -105,7 +105,7 @@ static int safe_bag(struct walker *w, struct cursor *c, uint32_t safe, uint32_t 
         return 0;
     row->kind = (uint8_t)after(w, &id, PKCS "\x0C\x0A\x01", 10);
     if (row->kind < BAG_KEY || row->kind > BAG_NESTED)
-        return refuse(w, 7, id.at);
+        return refuse(w, P12_NOT_SERVED, id.at);
     if (!element(w, &e.body, CONTEXT_0, &content))
         return 0;
     switch (row->kind) {
@@ -127,7 +127,7 @@ static int safe_bag(struct walker *w, struct cursor *c, uint32_t safe, uint32_t 
     if (e.body.at == e.body.end)
         return 1;
     if (w->file[e.body.at] != SET)
-        return refuse(w, 6, e.body.at);
+        return refuse(w, P12_LEFT_OVER, e.body.at);
     row->has_set = 1;
     return attribute_set(w, &e.body, number) && ended(w, &e.body);
 }
@@ -138,8 +138,8 @@ static int safe_contents(struct walker *w, struct cursor *c, uint32_t safe, uint
 
     if (!element(w, c, SEQUENCE, &e))
         return 0;
-    if (level > CONTENTS_LEVELS)
-        return refuse(w, 8, e.at);
+    if (level > P12_LEVELS)
+        return refuse(w, P12_TOO_MANY, e.at);
     while (e.body.at != e.body.end)
         if (!safe_bag(w, &e.body, safe, inside, level))
             return 0;
@@ -162,15 +162,15 @@ static int encrypted_safe(struct walker *w, struct cursor *c, struct safe_row *r
     if (!element(w, c, SEQUENCE, &e) || !integer(w, &e.body, &version, &value))
         return 0;
     if (value != 0)
-        return refuse(w, value == 2 ? 7 : 5, version.at);
+        return refuse(w, value == 2 ? P12_NOT_SERVED : P12_CONTENT, version.at);
     if (!element(w, &e.body, SEQUENCE, &info) || !content_type(w, &info.body, &type, &at))
         return 0;
     if (type != DATA)
-        return refuse(w, 5, at);
+        return refuse(w, P12_CONTENT, at);
     if (!algorithm(w, &info.body, &row->algorithm, &row->parameters))
         return 0;
     if (info.body.at == info.body.end)
-        return refuse(w, 7, info.body.end);
+        return refuse(w, P12_NOT_SERVED, info.body.end);
     if (!element(w, &info.body, CIPHERTEXT, &cipher))
         return 0;
     row->ciphertext = body_of(&cipher);
@@ -187,14 +187,14 @@ static int safe(struct walker *w, struct cursor *c)
 
     if (!element(w, c, SEQUENCE, &e))
         return 0;
-    if (t->safe_count == SAFE_ROWS)
-        return refuse(w, 8, e.at);
+    if (t->safe_count == P12_SAFE_ROWS)
+        return refuse(w, P12_TOO_MANY, e.at);
     number = t->safe_count++;
     row = &t->safes[number];
     if (!content_type(w, &e.body, &type, &at))
         return 0;
     if (type != DATA && type != ENCRYPTED)
-        return refuse(w, type == ENVELOPED ? 7 : 5, at);
+        return refuse(w, type == ENVELOPED ? P12_NOT_SERVED : P12_CONTENT, at);
     row->kind = type == DATA ? SAFE_PLAIN : SAFE_ENCRYPTED;
     if (!element(w, &e.body, CONTEXT_0, &content))
         return 0;
@@ -212,7 +212,7 @@ static int outer(struct walker *w, struct cursor *c)
     if (!element(w, c, SEQUENCE, &e) || !content_type(w, &e.body, &type, &at))
         return 0;
     if (type != DATA)
-        return refuse(w, type == SIGNED ? 7 : 5, at);
+        return refuse(w, type == SIGNED ? P12_NOT_SERVED : P12_CONTENT, at);
     if (!element(w, &e.body, CONTEXT_0, &content) || !element(w, &content.body, OCTETS, &string))
         return 0;
     w->table->mac_input = body_of(&string);
@@ -230,7 +230,7 @@ static int mac_data(struct walker *w, struct cursor *c)
     struct element e, info, number;
 
     if (c->at == c->end)
-        return refuse(w, 7, c->end);
+        return refuse(w, P12_NOT_SERVED, c->end);
     if (!element(w, c, SEQUENCE, &e) || !element(w, &e.body, SEQUENCE, &info)
         || !algorithm(w, &info.body, &t->mac_algorithm, &t->mac_parameters)
         || !octets(w, &info.body, &t->mac_digest) || !ended(w, &info.body)
@@ -240,11 +240,11 @@ static int mac_data(struct walker *w, struct cursor *c)
     if (e.body.at == e.body.end)
         return 1;
     if (w->file[e.body.at] != INTEGER)
-        return refuse(w, 6, e.body.at);
+        return refuse(w, P12_LEFT_OVER, e.body.at);
     if (!integer(w, &e.body, &number, &t->mac_iterations))
         return 0;
     if (t->mac_iterations < 2)
-        return refuse(w, 5, number.at);
+        return refuse(w, P12_CONTENT, number.at);
     return ended(w, &e.body);
 }
 
@@ -256,7 +256,7 @@ static int pfx(struct walker *w, struct cursor *c)
     if (!element(w, c, SEQUENCE, &e) || !integer(w, &e.body, &version, &value))
         return 0;
     if (value != 3)
-        return refuse(w, 5, version.at);
+        return refuse(w, P12_CONTENT, version.at);
     return outer(w, &e.body) && mac_data(w, &e.body) && ended(w, &e.body) && ended(w, c);
 }
 
@@ -267,7 +267,7 @@ int walk(const uint8_t *file, size_t n, struct table *t, struct fault *f)
     int kept;
 
     memset(t, 0, sizeof *t);
-    kept = n > FILE_BYTES ? refuse(&w, 9, 0) : pfx(&w, &c);
+    kept = n > P12_FILE_BYTES ? refuse(&w, P12_TOO_LONG, 0) : pfx(&w, &c);
     if (kept)
         t->elements = w.elements;
     else

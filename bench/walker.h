@@ -1,13 +1,12 @@
 /* A plain reader of PKCS #12 files, in C: the peer that the proved reader is measured against.
-   It keeps every rule of the scope, and the choices of docs/DECISIONS.md where the scope is open. */
+   It keeps every rule of docs/RULES.md, and the choices of docs/DECISIONS.md where the rules leave one. */
 #ifndef WALKER_H
 #define WALKER_H
 
+#include "../include/p12.h" /* numbers and sizes, nothing else */
+
 #include <stddef.h>
 #include <stdint.h>
-
-enum { FILE_BYTES = 65535, SAFE_ROWS = 16, BAG_ROWS = 64, ATTRIBUTE_ROWS = 128 };
-enum { CONTENTS_LEVELS = 8, OPAQUE_LEVELS = 16 };
 
 /* Bytes start up to end-1 of the file. */
 struct range {
@@ -43,20 +42,20 @@ struct table {
     struct range mac_input, mac_algorithm, mac_parameters, mac_digest, mac_salt;
     uint32_t mac_iterations;
     uint32_t elements;
-    struct safe_row safes[SAFE_ROWS];
-    struct bag_row bags[BAG_ROWS];
-    struct attribute_row attributes[ATTRIBUTE_ROWS];
+    struct safe_row safes[P12_SAFE_ROWS];
+    struct bag_row bags[P12_BAG_ROWS];
+    struct attribute_row attributes[P12_ATTRIBUTE_ROWS];
 };
 
-/* The number and the place of the first fault. */
+/* The number and the offset of the first fault. */
 struct fault {
-    uint32_t number, place;
+    uint32_t number, offset;
 };
 
 /* 1: accepted, t is the reading, f is 0 at 0. 0: refused, t is all zero, f is the fault. */
 int walk(const uint8_t *file, size_t n, struct table *t, struct fault *f);
 
 /* The listing of a file (docs/TESTS.md), with a final 0; t is as walk leaves it. The listing's length, also where it doesn't fit. */
-size_t walker_list(const uint8_t *file, size_t n, struct table *t, char *out, size_t room);
+size_t walker_list(const uint8_t *file, size_t n, struct table *t, char *out, size_t capacity);
 
 #endif

@@ -37,10 +37,10 @@ struct element {
     struct cursor body;
 };
 
-static int refuse(struct walker *w, uint32_t number, uint32_t place)
+static int refuse(struct walker *w, uint32_t number, uint32_t offset)
 {
     w->fault.number = number;
-    w->fault.place = place;
+    w->fault.offset = offset;
     return 0;
 }
 
@@ -59,36 +59,36 @@ static struct range body_of(const struct element *e)
 static inline int any_element(struct walker *w, struct cursor *c, struct element *e)
 {
     const uint8_t *p = w->file + c->at;
-    uint32_t room = c->end - c->at, header = 2, length;
+    uint32_t left = c->end - c->at, header = 2, length;
 
-    if (room == 0)
-        return refuse(w, 1, c->at);
+    if (left == 0)
+        return refuse(w, P12_MISSING, c->at);
     if (p[0] == 0 || (p[0] & 0x1F) == 0x1F)
-        return refuse(w, 2, c->at);
-    if (room == 1)
-        return refuse(w, 1, c->at);
+        return refuse(w, P12_TAG_FORM, c->at);
+    if (left == 1)
+        return refuse(w, P12_MISSING, c->at);
     length = p[1];
     if (length >= 0x80) {
         if (length == 0x81) {
-            if (room < 3)
-                return refuse(w, 1, c->at);
+            if (left < 3)
+                return refuse(w, P12_MISSING, c->at);
             length = p[2];
             if (length < 0x80)
-                return refuse(w, 3, c->at);
+                return refuse(w, P12_LENGTH_FORM, c->at);
             header = 3;
         } else if (length == 0x82) {
-            if (room < 4)
-                return refuse(w, 1, c->at);
+            if (left < 4)
+                return refuse(w, P12_MISSING, c->at);
             length = (uint32_t)p[2] << 8 | p[3];
             if (length < 0x100)
-                return refuse(w, 3, c->at);
+                return refuse(w, P12_LENGTH_FORM, c->at);
             header = 4;
         } else {
-            return refuse(w, 3, c->at);
+            return refuse(w, P12_LENGTH_FORM, c->at);
         }
     }
-    if (length > room - header)
-        return refuse(w, 1, c->at);
+    if (length > left - header)
+        return refuse(w, P12_MISSING, c->at);
     w->elements++;
     e->at = c->at;
     e->tag = p[0];
@@ -102,18 +102,18 @@ static inline int element(struct walker *w, struct cursor *c, uint8_t tag, struc
 {
     if (!any_element(w, c, e))
         return 0;
-    return e->tag == tag ? 1 : refuse(w, 4, e->at);
+    return e->tag == tag ? 1 : refuse(w, P12_OTHER_TAG, e->at);
 }
 
 static inline int ended(struct walker *w, const struct cursor *c)
 {
-    return c->at == c->end ? 1 : refuse(w, 6, c->at);
+    return c->at == c->end ? 1 : refuse(w, P12_LEFT_OVER, c->at);
 }
 
-/* What stands inside an opaque element, to the bottom. */
+/* What is inside an opaque element, to the bottom. */
 static int inside_opaque(struct walker *w, const struct element *top)
 {
-    uint32_t ends[OPAQUE_LEVELS + 1]; /* of the open bodies, by the level of their element */
+    uint32_t ends[P12_OPAQUE_LEVELS + 1]; /* of the open bodies, by the level of their element */
     uint32_t level = 1;
     struct cursor c = top->body;
     struct element e;
@@ -129,8 +129,8 @@ static int inside_opaque(struct walker *w, const struct element *top)
         }
         if (!any_element(w, &c, &e))
             return 0;
-        if (level == OPAQUE_LEVELS)
-            return refuse(w, 8, e.at);
+        if (level == P12_OPAQUE_LEVELS)
+            return refuse(w, P12_TOO_MANY, e.at);
         if (e.tag & CONSTRUCTED) {
             c = e.body;
             ends[++level] = c.end;
@@ -168,10 +168,10 @@ static int identifier(struct walker *w, struct cursor *c, struct element *e)
     p = w->file + e->body.at;
     end = w->file + e->body.end;
     if (p == end || end[-1] >= 0x80)
-        return refuse(w, 5, e->at);
+        return refuse(w, P12_CONTENT, e->at);
     for (; p < end; p++) {
         if (*p == 0x80 && before < 0x80)
-            return refuse(w, 5, e->at);
+            return refuse(w, P12_CONTENT, e->at);
         before = *p;
     }
     return 1;
@@ -221,7 +221,7 @@ static int integer(struct walker *w, struct cursor *c, struct element *e, uint32
     p = w->file + e->body.at;
     size = e->body.end - e->body.at;
     if (size < 1 || size > 4 || p[0] >= 0x80 || (size > 1 && p[0] == 0 && p[1] < 0x80))
-        return refuse(w, 5, e->at);
+        return refuse(w, P12_CONTENT, e->at);
     while (size--)
         v = v << 8 | *p++;
     *value = v;

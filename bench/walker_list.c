@@ -6,7 +6,7 @@
 
 struct text {
     char *out;
-    size_t room, length;
+    size_t capacity, length;
 };
 
 #define RANGE "%d..%d"
@@ -14,11 +14,11 @@ struct text {
 
 static void put(struct text *text, const char *format, ...)
 {
-    size_t used = text->length < text->room ? text->length : text->room;
+    size_t used = text->length < text->capacity ? text->length : text->capacity;
     va_list arguments;
 
     va_start(arguments, format);
-    text->length += (size_t)vsnprintf(text->out + used, text->room - used, format, arguments);
+    text->length += (size_t)vsnprintf(text->out + used, text->capacity - used, format, arguments);
     va_end(arguments);
 }
 
@@ -75,13 +75,13 @@ static void put_attribute(struct text *text, const struct attribute_row *row, in
     put(text, "attribute %d: bag %d, type " RANGE ", values " RANGE "\n", number, row->bag, OF(row->type), OF(row->values));
 }
 
-size_t walker_list(const uint8_t *file, size_t n, struct table *t, char *out, size_t room)
+size_t walker_list(const uint8_t *file, size_t n, struct table *t, char *out, size_t capacity)
 {
-    struct text text = { out, room, 0 };
+    struct text text = { out, capacity, 0 };
     struct fault fault;
 
     if (!walk(file, n, t, &fault)) {
-        put(&text, "refused %u at %u\n", fault.number, fault.place);
+        put(&text, "refused %u at %u\n", fault.number, fault.offset);
         return text.length;
     }
     put_file(&text, t, n);
