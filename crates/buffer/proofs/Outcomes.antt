@@ -1,4 +1,4 @@
--- The outcomes of a call that writes into a lent buffer.
+-- The outcomes of a call that writes into a caller's buffer.
 use mathlib.Core.Path.{_≡_, refl, sym, ap, _∙_}
 use mathlib.Core.List.{List, _++_}
 use Prim.Native.Nat.{ℕ, _+_, _≤_, _<_}

@@ -1,4 +1,4 @@
--- Strings of bytes are told to be the same exactly if they are.
+-- The test of two strings of bytes is true if and only if they are the same.
 use mathlib.Core.Bool.{Bool, true, false}
 use mathlib.Core.Path.{_≡_, refl, sym, _∙_}
 use mathlib.Core.List.{List, [], _∷_}

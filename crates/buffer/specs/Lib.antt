@@ -1,4 +1,4 @@
--- Ranges of bytes, and what writing into a lent buffer does.
+-- Ranges of bytes, and what writing into a caller's buffer does.
 pub mod Numbers
 pub mod Numbered
 pub mod Bytes

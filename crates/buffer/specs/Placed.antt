@@ -1,4 +1,4 @@
--- What a function that writes into a lent buffer does, of bytes as of wider words.
+-- What a function that writes into a caller's buffer does, of bytes as of wider words.
 use mathlib.Core.Path.{_≡_}
 use mathlib.Core.List.{List, [], _++_}
 use Prim.Native.Nat.{ℕ, zero, suc, _+_, _-_, _≤_, min}

@@ -1,4 +1,4 @@
--- What a call that writes into a lent buffer leaves: its answer, and the buffer afterwards.
+-- What a call that writes into a caller's buffer leaves: its answer, and the buffer afterwards.
 use mathlib.Core.List.{List, _++_}
 use Prim.Native.Nat.{ℕ}
 use lib.Dec.{ltb}

@@ -1,5 +1,5 @@
 // What every crate that reads or writes bytes shares: ranges of bytes, the answer of a call that
-// writes, and bytes and numbers written into a lent buffer.
+// writes, and bytes and numbers written into a caller's buffer.
 ghost use mathlib.Core.Path.{_≡_};
 ghost use Prim.Native.Nat.{min};
 ghost use lib.Seq.{slice};

@@ -1,4 +1,4 @@
-// Reads bytes and numbers at an offset of lent bytes, past their end as 0.
+// Reads bytes and numbers at an offset of a caller's bytes, past their end as 0.
 ghost use mathlib.Core.Path.{_≡_};
 ghost use Rattle.buffer.specs.BigEndian.{byteAt, u16At, u32At};
 

@@ -1,5 +1,6 @@
-// Writes into a lent buffer at an offset, and returns the offset behind what was written. What lies past the end of
-// the buffer is not written, but counted: so the same functions measure, on an empty buffer.
+// Writes into a caller's buffer at an offset, and returns the offset behind what was written. What
+// lies past the end of the buffer is not written, but counted: so the same functions measure, on an
+// empty buffer.
 ghost use mathlib.Core.Path.{_≡_};
 ghost use mathlib.Core.List.{[], _∷_};
 ghost use Rattle.buffer.specs.Placed.{behind, Placed};

@@ -6,7 +6,7 @@ use Rattle.der.specs.Choice.{if_then_else_}
 use Rattle.der.specs.Octets.{lengthOctets}
 use Rattle.buffer.specs.Numbers.{fileBytes}
 
--- a size, told as one byte more than the longest file has if it is any more
+-- a size, or one byte more than the longest file has if it is more than that
 unfoldable pub capped : ℕ → ℕ
 capped n = if leb n fileBytes then n else fileBytes + 1
 

@@ -1,4 +1,4 @@
-// Elements, headers and INTEGERs of DER: measured, and written into a lent buffer.
+// Elements, headers and INTEGERs of DER: measured, and written into a caller's buffer.
 pub mod size;
 pub mod write;
 

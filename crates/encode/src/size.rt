@@ -1,5 +1,5 @@
-// Sizes of what is written, without writing it. A size past that of the longest file is told as `PAST`, so that no sum
-// can wrap.
+// Sizes of what is written, without writing it. A size past that of the longest file is returned
+// as `PAST`, so that no sum can wrap.
 ghost use mathlib.Core.Path.{_≡_};
 ghost use Prim.Native.Nat.{_+_};
 ghost use lib.ListN.{length};

@@ -1,4 +1,5 @@
-// Writes into a lent buffer at an offset, and returns the offset behind what was written, as `buffer::write` does.
+// Writes into a caller's buffer at an offset, and returns the offset behind what was written, as
+// `buffer::write` does.
 ghost use Rattle.der.specs.Octets.{digits, integerOctets, tlv, integer};
 ghost use Rattle.buffer.specs.Placed.{Placed};
 ghost use Rattle.buffer.specs.Range.{bytesIn};

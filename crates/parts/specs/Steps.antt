@@ -1,6 +1,6 @@
 -- Pieces of the definitions of parts, as the private functions take them. Nothing here has to be
--- believed: contracts of public functions name the definitions of `pkcs12`, and each piece is proved
--- to be a part of one.
+-- believed: contracts of public functions name the definitions of `pkcs12`, and each piece is
+-- proved to be a part of one.
 use mathlib.Core.Bool.{Bool}
 use mathlib.Core.List.{List}
 use Prim.Native.Nat.{ℕ, _+_}
@@ -17,7 +17,7 @@ use Rattle.pkcs12.specs.Walk.{rangeOf, onParts, algorithmAt, withValue, valueAt
 use Rattle.pkcs12.specs.declared.row.Parts.{Parts}
 use Rattle.pkcs12.specs.declared.answers.PartsAt.{PartsAt}
 
--- the parameters that stand at m, of the algorithm with identifier i; n is past its SEQUENCE
+-- the parameters that are at m, of the algorithm with identifier i; n is past its SEQUENCE
 unfoldable pub someParametersAt : List ℕ → Cursor → Cursor → Cursor → PartsAt
 someParametersAt s i m n =
     onChecked (opaqueAt opaqueLevels s m) PartsAt.Refused

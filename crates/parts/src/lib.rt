@@ -1,6 +1,6 @@
 // What is read at a cursor and makes no row: algorithms, ciphertexts, and the values of bags. Each
-// function returns the ranges of what is at the cursor with the number of its elements, or the first
-// fault. Bytes that are longer than a file are refused (9).
+// function returns the ranges of what is at the cursor with the number of its elements, or the
+// first fault. Bytes that are longer than a file are refused (9).
 ghost use mathlib.Core.Path.{_≡_};
 ghost use Rattle.der.specs.Content.{bytesOf};
 ghost use Rattle.der.specs.Element.{fault};

@@ -1,6 +1,5 @@
 // Parts of a file that make no row: algorithms, ciphertexts, and the values of bags. Each function
-// gives the ranges of what stands at the cursor with the number of its elements, or the first
-// fault.
+// returns the ranges of what is at the cursor with the number of its elements, or the first fault.
 ghost use mathlib.Core.Bool.{false};
 ghost use mathlib.Core.Path.{_≡_};
 ghost use Prim.Native.Nat.{_≤_};
@@ -26,7 +25,7 @@ use pkcs12::Parts;
 use pkcs12::PartsAt;
 use pkcs12::X509_CERTIFICATE;
 
-// The places a up to b.
+// The range a..b.
 pub(crate) fn range(a: usize, b: usize) -> Range
     requires { ⌜ (a ≤ fileBytes) × (b ≤ fileBytes) ⌝ }
     ensures { λ r. ⌜ r ≡ range a b ⌝ }
@@ -36,7 +35,7 @@ pub(crate) fn range(a: usize, b: usize) -> Range
     Range { start, end }
 }
 
-// A body's places.
+// The range of a body.
 pub(crate) fn range_of(c: Cursor) -> Range
     requires { ⌜ (c .at ≤ fileBytes) × (c .end ≤ fileBytes) ⌝ }
     ensures { λ r. ⌜ r ≡ rangeOf c ⌝ }
@@ -46,7 +45,7 @@ pub(crate) fn range_of(c: Cursor) -> Range
     range(start, end)
 }
 
-// The parameters that stand at m, of an algorithm whose identifier is i; they end its SEQUENCE, and
+// The parameters that are at m, of an algorithm whose identifier is i; they end its SEQUENCE, and
 // n is past it.
 fn some_parameters(s: &[u8], i: Cursor, m: Cursor, n: Cursor) -> PartsAt
     requires { ⌜ (length (now s) ≤ fileBytes) × (i .at ≤ fileBytes) × (i .end ≤ fileBytes) ⌝ }

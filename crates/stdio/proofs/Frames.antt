@@ -1,4 +1,4 @@
--- A frame that was read stands in the buffer; one that was not has no bytes.
+-- A frame that was read is in the buffer; one that was not has no bytes.
 use mathlib.Core.Path.{_≡_}
 use mathlib.Core.List.{List, _++_}
 use Prim.Native.Nat.{ℕ, _≤_}

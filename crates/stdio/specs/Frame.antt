@@ -6,6 +6,6 @@ use Rattle.io.specs.Counts.{Counts}
 use Rattle.stdio.specs.declared.Frame.{Frame}
 use Rattle.stdio.specs.declared.Frame.the-variants.{Bytes}
 
--- the bytes of a frame that was read stand at the front of the buffer, which has at least as many
+-- the bytes of a frame that was read are at the front of the buffer, which has at least as many
 abbrev pub InBuffer : List ℕ → Frame → Type 0
 InBuffer buffer frame = (n : ℕ) → frame ≡ Bytes n → Counts n buffer

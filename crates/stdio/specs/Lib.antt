@@ -1,4 +1,4 @@
--- What can be promised of standard input and output: a frame in a buffer (`Frame`), numbers in a
--- frame (`Numbers`), bytes handed on (`Handed`).
+-- What can be promised of standard input and output: a frame in a buffer (`Frame`), bytes handed on
+-- (`Handed`).
 pub mod Frame
 pub mod Handed

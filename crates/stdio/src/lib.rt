@@ -1,5 +1,5 @@
 // What programs do with standard input and standard output. No contract can say what the operating
-// system read or wrote: a function that reads promises to stay within the lent buffer, and one that
+// system read or wrote: a function that reads promises to stay within the buffer, and one that
 // writes how many bytes it handed on.
 ghost use mathlib.Core.Path.{_≡_};
 ghost use lib.ListN.{length};
@@ -19,7 +19,7 @@ pub enum Frame {
     End,
     // The frame is cut, or longer than the buffer.
     Cut,
-    // So many bytes stand at the front of the buffer.
+    // So many bytes are at the front of the buffer.
     Bytes(usize),
 }
 
