@@ -70,17 +70,19 @@ def reading_term(reading):
 
 
 def bench_header():
-    """The `use` lines and the list of definitions to compute, as proofs/Bench.antt has them."""
-    text = (TOP / "crates/pkcs12/proofs/Bench.antt").read_text()
-    unfold = re.search(r"^unfolding .*(\n +.*)*$", text, re.M).group(0).replace(" benchCases", "").replace(" slipCases", "")
-    uses = [line for line in text.split("\n") if line.startswith("use ") and "Bench" not in line]
+    """The `use` lines and the list of definitions to compute, as proofs/Bench.antt has them, without
+    those of the files there."""
+    text = (TOP / "crates/cases/proofs/Bench.antt").read_text()
+    unfold = re.search(r"^unfolding .*(\n +.*)*$", text, re.M).group(0)
+    unfold = re.sub(r"\s(benchCases|slipCases|numberCases|times|deep|nests)\b", "", unfold)
+    uses = [line for line in text.split("\n") if line.startswith("use ") and "Rattle.cases" not in line]
     own = "Rattle.pkcs12.specs."
     more = [
         "use mathlib.Core.Bool.{true, false}",
         "use mathlib.Core.Path.{_≡_}",
         "use mathlib.Core.List.{[], _∷_}",
         "use Rattle.der.specs.Element.{fault}",
-        "use Rattle.buffer.specs.Range.{range, noRange}",
+        "use Rattle.range.specs.Range.{range, noRange}",
         "use %sTable.{noParts, safeRow, bagRow, attributeRow, macFields}" % own,
         "use %sTable as table" % own,
         "use %sWalk.{refused}" % own,
@@ -90,14 +92,14 @@ def bench_header():
         "use %sdeclared.row.Enclosing.the-variants.{Bag}" % own,
         "use %sdeclared.answers.Answer.the-variants.{Accepted}" % own,
     ]
-    return "\n".join(uses + more).replace(own, "Rattle.pkcs12.specs."), unfold
+    return "\n".join(uses + more), unfold
 
 
 def write(cases):
     shutil.rmtree(PLACE, ignore_errors=True)
-    for name in ("der", "buffer", "pkcs12"):
+    for name in ("der", "range", "buffer", "pkcs12"):
         shutil.copytree(TOP / "crates" / name, PLACE / "crates" / name)
-    (PLACE / "crates.txt").write_text("der:\nbuffer: der\npkcs12: der buffer\ntried: der buffer pkcs12\n")
+    (PLACE / "crates.txt").write_text("der:\nrange: der\nbuffer: der range\npkcs12: der range buffer\ntried: der range buffer pkcs12\n")
     crate = PLACE / "crates" / "tried"
     (crate / "src").mkdir(parents=True)
     (crate / "proofs").mkdir()

@@ -6,7 +6,6 @@ pub mod Theorems
 pub mod Rules
 pub mod First
 pub mod Runs
-pub mod Siblings
 pub mod Listed
 pub mod Sets
 pub mod Shown

@@ -13,12 +13,12 @@ use Rattle.der.proofs.Header.{header-then}
 use Rattle.der.proofs.Spans.{span-slice, slice-span, span-split}
 use Rattle.der.proofs.Trees.{tree-long, tree-some}
 use Rattle.pkcs12.specs.Sound.{Lies}
-use Rattle.buffer.specs.Range.{noRange, bytesIn}
+use Rattle.range.specs.Range.{noRange, bytesIn}
 use Rattle.pkcs12.specs.Valid.{Opaques}
-use Rattle.buffer.specs.declared.Range.{Range}
-use Rattle.attributes.specs.Elements.{elementsFrom, elementRanges, countedOf}
+use Rattle.range.specs.declared.Range.{Range}
+use Rattle.elements.specs.Elements.{elementsFrom, elementRanges, countedOf}
 use Rattle.attributes.specs.Own.{each, Chain}
-use Rattle.attributes.proofs.Siblings.{run-end, run-more}
+use Rattle.elements.proofs.Siblings.{run-end, run-more}
 
 -- what a tree is written as is found as one element: k is told so
 tree-then : {P : Type 0} (s : List ℕ) (x : Tree) (at e end : ℕ) → Formed x → Span s at e (encode x)

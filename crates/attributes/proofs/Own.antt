@@ -16,7 +16,7 @@ use Rattle.pkcs12.specs.Numbers.{noRow}
 use Rattle.pkcs12.specs.Values.{bagsOfSafes}
 use Rattle.pkcs12.specs.Valid.{Opaques, bagsInSafes}
 use Rattle.pkcs12.specs.Table.{noAttribute, rowsIn}
-use Rattle.buffer.specs.Range.{bytesIn, lies}
+use Rattle.range.specs.Range.{bytesIn, lies}
 use Rattle.der.specs.Named.{Each}
 use Rattle.pkcs12.specs.Sound.{Lies, Sound}
 use Rattle.der.specs.Choice.{both}

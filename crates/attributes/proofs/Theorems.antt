@@ -15,14 +15,14 @@ use Rattle.pkcs12.specs.Numbers.{noRow}
 use Rattle.pkcs12.specs.Syntax.{Safe}
 use Rattle.pkcs12.specs.Valid.{Opaques, bagsInSafes}
 use Rattle.pkcs12.specs.Values.{BagValue, stands, bagsOfSafes, attributesOfSafes}
-use Rattle.buffer.specs.Range.{bytesIn}
+use Rattle.range.specs.Range.{bytesIn}
 use Rattle.pkcs12.specs.Table.{noAttribute}
 use Rattle.pkcs12.specs.Sound.{Sound, Lies}
-use Rattle.buffer.specs.declared.Range.{Range}
+use Rattle.range.specs.declared.Range.{Range}
 use Rattle.pkcs12.specs.declared.row.AttributeRow.{AttributeRow}
 use Rattle.pkcs12.specs.declared.table.Table.{Table}
 use Rattle.attributes.specs.Reader.{openingOf, itemAfter}
-use Rattle.attributes.specs.Elements.{elementRanges, countedOf}
+use Rattle.elements.specs.Elements.{elementRanges, countedOf}
 use Rattle.attributes.specs.Own.{attributesOf, ownRows, ownIn, setInSafes, listed, Gives, each, Chain}
 use Rattle.attributes.specs.declared.Item.{Item}
 use Rattle.attributes.specs.declared.Item.the-variants.{Ready, Done}

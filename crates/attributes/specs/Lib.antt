@@ -1,5 +1,4 @@
--- The attribute reader: its positions, what it gives, and the elements of an attribute.
+-- The attribute reader: its positions, and what it returns.
 pub mod Reader
 pub mod Report
-pub mod Elements
 pub mod Own

@@ -13,7 +13,7 @@ use Rattle.pkcs12.specs.Valid.{bagsIn, bagsInSafe}
 use Rattle.pkcs12.specs.Values.{AttributeValue}
 use Rattle.pkcs12.specs.Table.{attributeShown}
 use Rattle.pkcs12.specs.declared.row.AttributeRow.{AttributeRow}
-use Rattle.buffer.specs.declared.Range.{Range}
+use Rattle.range.specs.declared.Range.{Range}
 use Rattle.pkcs12.specs.declared.table.Table.{Table}
 use Rattle.attributes.specs.Reader.{names, itemAfter}
 use Rattle.attributes.specs.declared.Item.{Item}

@@ -1,19 +1,15 @@
 // Gives the attributes of one bag in turn. `Attributes` keeps the file and a position; the work is
 // done on the position, which is plain.
 ghost use mathlib.Core.Path.{_≡_};
-ghost use Prim.Native.Nat.{_+_};
 ghost use Rattle.der.specs.Span.{Bytes};
-ghost use Rattle.buffer.specs.Range.{bytesIn};
+ghost use Rattle.range.specs.Range.{bytesIn};
 ghost use Rattle.attributes.specs.Report.{itemReport};
 ghost use Rattle.attributes.specs.Reader.{refusedBy, openingOf, nextRow, movedTo, nextOf};
 ghost use Rattle.attributes.specs.Reader.{itemAfter, readerOf, isLast};
-ghost use Rattle.attributes.specs.Elements.{elementRanges, countedOf, chosenOf};
-use buffer::Range;
-use der::Cursor;
-use der::Element;
 use der::Fault;
 use pkcs12::AttributeRow;
 use pkcs12::Table;
+use range::Range;
 use sound::Measured;
 
 // What a call gave: nothing yet, an attribute, the word that there are no more, or the refusal of
@@ -39,12 +35,6 @@ pub struct Position {
 pub struct Attributes<'a> {
     pub file: &'a [u8],
     pub position: Position,
-}
-
-// The number of elements of an attribute, and one of them.
-pub struct Counted {
-    pub count: usize,
-    pub element: Range,
 }
 
 // A refused opening has no row.
@@ -89,7 +79,7 @@ pub fn opening(table: Table, file: &[u8], bag: usize) -> Position
 fn next_row(p: Position) -> usize
     ensures { λ r. ⌜ r ≡ nextRow p ⌝ }
 {
-    let end = buffer::fewer(p.count, pkcs12::ATTRIBUTE_ROWS);
+    let end = range::fewer(p.count, pkcs12::ATTRIBUTE_ROWS);
     let bag = p.bag;
     let mut i = p.at;
     while i < end {
@@ -111,7 +101,7 @@ fn moved(p: Position) -> Position
     let count = p.count;
     let bag = p.bag;
     let i = next_row(p);
-    let end = buffer::fewer(count, pkcs12::ATTRIBUTE_ROWS);
+    let end = range::fewer(count, pkcs12::ATTRIBUTE_ROWS);
     if i < end {
         let row = rows[i];
         let at = i + 1;
@@ -214,56 +204,4 @@ pub fn attribute(table: Table, file: &[u8], bag: usize, i: usize) -> Item
         left = left - 1;
     }
     position.item
-}
-
-// The range that is looked for, once it is met.
-fn chosen(n: usize, i: usize, found: Range, here: Range) -> Range
-    ensures { λ r. ⌜ r ≡ chosenOf n i found here ⌝ }
-{
-    if n == i {
-        return here;
-    }
-    found
-}
-
-// The number of elements in an attribute's values, and element i, whole; 0..0 where there is none.
-pub fn element(bytes: &[u8], values: Range, i: usize) -> Counted
-    ensures { λ r. ⌜ r ≡ countedOf (elementRanges (now (bytes .entry)) values) i ⌝ }
-    ensures { λ _. ⌜ Bytes (now (bytes .entry)) ⌝ }
-{
-    let end = values.end as usize;
-    let mut at = values.start as usize;
-    let mut count: usize = 0;
-    let mut found = Range::EMPTY;
-    while at < end {
-        let here = Cursor { at, end };
-        match here.element(bytes) {
-            Element::Refused(_) => {
-                return Counted {
-                    count,
-                    element: found,
-                };
-            }
-            Element::Found {
-                tag: _,
-                body: _,
-                next,
-            } => {
-                let stop = next.at;
-                let start16 = at as u16;
-                let stop16 = stop as u16;
-                let met = Range {
-                    start: start16,
-                    end: stop16,
-                };
-                found = chosen(count, i, found, met);
-                count = count + 1;
-                at = stop;
-            }
-        }
-    }
-    Counted {
-        count,
-        element: found,
-    }
 }

@@ -1,6 +1,4 @@
--- Laws of comparing bytes, of the parts that ranges name, and of writing into a buffer.
-pub mod SameBytes
-pub mod Cut
+-- Laws of writing into a buffer.
 pub mod Placing
 pub mod Rows
 pub mod Past

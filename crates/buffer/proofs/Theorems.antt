@@ -1,22 +1,14 @@
--- What is proved of bytes, ranges and numbers in a buffer, beside the contracts.
-use mathlib.Core.Bool.{true}
+-- What is proved of numbers in a buffer, beside the contracts.
 use mathlib.Core.List.{List}
-use mathlib.Core.Logic.{_↔_}
 use mathlib.Core.Path.{_≡_, sym}
 use Prim.Native.Nat.{ℕ, _+_, _*_, _/_, _%_, _<_}
 use native.Mathlib.Omega.{arith}
 use Rattle.buffer.specs.BigEndian.{u16Octets, u32Octets, u16At, u32At}
-use Rattle.buffer.specs.Bytes.{sameBytes}
 use Rattle.buffer.specs.Decimal.{numberOf}
 use Rattle.buffer.specs.Numbered.{NumbersNamed}
 use Rattle.buffer.specs.Text.{decimal}
 use Rattle.buffer.proofs.Decimal.{decimal-read}
 use Rattle.buffer.proofs.Numbered as numbered
-use Rattle.buffer.proofs.SameBytes.{same-self, same-is}
-
--- two strings of bytes are the same if and only if they are equal
-pub same-iff : (x y : List ℕ) → sameBytes x y ≡ true ↔ x ≡ y
-same-iff x y = (same-is x y, λ e. rw e (same-self y))
 
 -- what is written as a number of two or four bytes is read as that number
 pub u16-back : (n : ℕ) → u16At (u16Octets n) 0 ≡ n

@@ -1,8 +1,6 @@
--- Ranges of bytes, and what writing into a caller's buffer does.
+-- What writing into a caller's buffer does.
 pub mod Numbers
 pub mod Numbered
-pub mod Bytes
-pub mod Range
 pub mod Placed
 pub mod BigEndian
 pub mod Text

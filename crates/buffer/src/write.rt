@@ -44,7 +44,7 @@ pub fn bytes(out: &mut [u8], at: usize, x: &[u8]) -> usize
         return after(at, n);
     }
     let left = size - at;
-    let count = crate::fewer(n, left);
+    let count = range::fewer(n, left);
     let mut i: usize = 0;
     while i < count {
         let b = x[i];

@@ -2,10 +2,10 @@
 // `buffer::write` does.
 ghost use Rattle.der.specs.Octets.{digits, integerOctets, tlv, integer};
 ghost use Rattle.buffer.specs.Placed.{Placed};
-ghost use Rattle.buffer.specs.Range.{bytesIn};
+ghost use Rattle.range.specs.Range.{bytesIn};
 ghost use Rattle.encode.specs.Header.{header};
-use buffer::Range;
 use buffer::write;
+use range::Range;
 
 // A number to the base 256, high first.
 fn digits(out: &mut [u8], at: usize, n: usize) -> usize

@@ -17,7 +17,7 @@ use Rattle.pkcs12.specs.Numbers.{bagRows, noRow}
 use Rattle.pairing.specs.Numbers.{noCertificate, moreCertificates}
 use Rattle.buffer.specs.Numbers.{notSound}
 use Rattle.pkcs12.specs.Table.{noBag, padded, contentIn, bagShown}
-use Rattle.buffer.specs.Range.{bytesIn}
+use Rattle.range.specs.Range.{bytesIn}
 use Rattle.pkcs12.specs.Sound.{Sound, Lies}
 use Rattle.pkcs12.specs.Written.{fileOf, onFile}
 use Rattle.pkcs12.specs.declared.row.Parts.{Parts}

@@ -26,12 +26,12 @@ use Rattle.der.proofs.Header.{header-then}
 use Rattle.der.proofs.Laws.{header-iff, header-bounds, expect-iff, element-unique, run-unique}
 use Rattle.der.proofs.Spans.{span-slice, slice-span, span-to}
 use Rattle.pkcs12.specs.Syntax.{Attribute}
-use Rattle.buffer.specs.Bytes.{sameBytes}
+use Rattle.range.specs.Bytes.{sameBytes}
 use Rattle.pkcs12.specs.Valid.{Opaques}
-use Rattle.buffer.specs.Range.{range, bytesIn}
+use Rattle.range.specs.Range.{range, bytesIn}
 use Rattle.pkcs12.specs.Table.{noAttribute}
 use Rattle.pkcs12.specs.Sound.{Lies, Sound}
-use Rattle.buffer.specs.declared.Range.{Range}
+use Rattle.range.specs.declared.Range.{Range}
 use Rattle.pkcs12.specs.declared.row.AttributeRow.{AttributeRow}
 use Rattle.pkcs12.specs.declared.table.Table.{Table}
 use Rattle.attributes.specs.Reader.{firstFrom, names}

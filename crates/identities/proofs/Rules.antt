@@ -17,10 +17,10 @@ use Rattle.der.proofs.Placed.{expected, found}
 use Rattle.der.proofs.Choices.{at-lt, at-not-lt}
 use Rattle.buffer.specs.Numbers.{notSound, shortBuffer}
 use Rattle.buffer.specs.declared.Written.the-variants.{Length}
-use Rattle.buffer.specs.Bytes.{sameBytes}
-use Rattle.buffer.specs.Range.{bytesIn, range}
+use Rattle.range.specs.Bytes.{sameBytes}
+use Rattle.range.specs.Range.{bytesIn, range}
 use Rattle.pkcs12.specs.Table.{noAttribute}
-use Rattle.buffer.specs.declared.Range.{Range}
+use Rattle.range.specs.declared.Range.{Range}
 use Rattle.pkcs12.specs.declared.row.AttributeRow.{AttributeRow}
 use Rattle.pkcs12.specs.declared.table.Table.{Table}
 use Rattle.attributes.specs.Reader.{openingOf}

@@ -10,11 +10,11 @@ use Rattle.der.specs.Element.{cursor, expectAt, onElement}
 use Rattle.der.specs.declared.Fault.{Fault}
 use Rattle.pkcs12.specs.Numbers.{bagRows}
 use Rattle.buffer.specs.Numbers.{notSound}
-use Rattle.buffer.specs.Bytes.{sameBytes}
-use Rattle.buffer.specs.Range.{range, noRange, bytesIn}
+use Rattle.range.specs.Bytes.{sameBytes}
+use Rattle.range.specs.Range.{range, noRange, bytesIn}
 use Rattle.pkcs12.specs.Table.{noBag, noAttribute, padded}
 use Rattle.pkcs12.specs.Written.{fileOf, onFile}
-use Rattle.buffer.specs.declared.Range.{Range}
+use Rattle.range.specs.declared.Range.{Range}
 use Rattle.pkcs12.specs.declared.row.AttributeRow.{AttributeRow}
 use Rattle.pkcs12.specs.declared.table.Table.{Table}
 use Rattle.attributes.specs.Own.{attributesOf}

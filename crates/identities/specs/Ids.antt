@@ -10,10 +10,10 @@ use lib.ListN.{getD}
 use Rattle.der.specs.Choice.{if_then_else_}
 use Rattle.der.specs.Numbers.{octetStringTag}
 use Rattle.der.specs.Octets.{tlv}
-use Rattle.buffer.specs.Bytes.{sameBytes}
+use Rattle.range.specs.Bytes.{sameBytes}
 use Rattle.pkcs12.specs.Syntax.{Attribute, Safe, kindOfLeaf}
 use Rattle.pkcs12.specs.Values.{Content, empty-bag, leaf, nested, BagValue, bagsOfSafes}
-use Rattle.buffer.specs.Range.{bytesIn}
+use Rattle.range.specs.Range.{bytesIn}
 use Rattle.pkcs12.specs.declared.kind.BagKind.{BagKind}
 use Rattle.pkcs12.specs.declared.kind.BagKind.the-variants.{Key, ShroudedKey, Certificate, Nested}
 use Rattle.pkcs12.specs.declared.row.Enclosing.{Enclosing}

@@ -11,7 +11,6 @@ ghost use Rattle.identities.specs.Identities.{identityRows, certificateF
 ghost use Rattle.identities.specs.Report.{identityReport};
 ghost use Rattle.identities.specs.Filling.{refusedFilling, fillingOf, fillOf};
 use attributes::Item;
-use buffer::Range;
 use buffer::Written;
 use der::Cursor;
 use der::Element;
@@ -21,6 +20,7 @@ use pairing::Paired;
 use pkcs12::AttributeRow;
 use pkcs12::BagKind;
 use pkcs12::Table;
+use range::Range;
 use sound::Measured;
 
 // The identifier of the attribute that ids are taken from, by its body.
@@ -57,7 +57,7 @@ fn is_local_key(bytes: &[u8], bag: usize, row: AttributeRow) -> bool
     let owner = row.bag as usize;
     if owner == bag {
         let identifier = row.identifier;
-        return buffer::same(identifier.part(bytes), &LOCAL_KEY_ID);
+        return range::same(identifier.part(bytes), &LOCAL_KEY_ID);
     }
     false
 }
@@ -66,7 +66,7 @@ fn is_local_key(bytes: &[u8], bag: usize, row: AttributeRow) -> bool
 fn key_row(table: Table, bytes: &[u8], bag: usize) -> usize
     ensures { λ r. ⌜ r ≡ keyRow table (now (bytes .entry)) bag ⌝ }
 {
-    let end = buffer::fewer(table.attribute_count, pkcs12::ATTRIBUTE_ROWS);
+    let end = range::fewer(table.attribute_count, pkcs12::ATTRIBUTE_ROWS);
     let mut i: usize = 0;
     while i < end {
         let row = table.attributes[i];
@@ -109,7 +109,7 @@ fn id_of(table: Table, bytes: &[u8], bag: usize) -> Id
     ensures { λ r. ⌜ r ≡ idOf table (now (bytes .entry)) bag ⌝ }
 {
     let i = key_row(table, bytes, bag);
-    let end = buffer::fewer(table.attribute_count, pkcs12::ATTRIBUTE_ROWS);
+    let end = range::fewer(table.attribute_count, pkcs12::ATTRIBUTE_ROWS);
     if i < end {
         let row = table.attributes[i];
         let values = row.values;
@@ -163,7 +163,7 @@ pub fn identity_of(table: Table, bytes: &[u8], bag: usize) -> Identity
 fn rows_of(table: Table, bytes: &[u8]) -> [IdentityRow; pkcs12::BAG_ROWS]
     ensures { λ r. ⌜ r ≡ identityRows table (now (bytes .entry)) ⌝ }
 {
-    let end = buffer::fewer(table.bag_count, pkcs12::BAG_ROWS);
+    let end = range::fewer(table.bag_count, pkcs12::BAG_ROWS);
     let mut rows = [IdentityRow::EMPTY; pkcs12::BAG_ROWS];
     let mut i: usize = 0;
     while i < end {

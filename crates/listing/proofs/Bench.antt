@@ -3,8 +3,8 @@ use mathlib.Core.Path.{_≡_, refl, ap}
 use mathlib.Core.Bool.{true, false}
 use mathlib.Core.List.{List}
 use lib.ListN.{length, getD}
-use Rattle.pkcs12.specs.Bench.{accepted, m, quiet, digested, benchCases}
-use Rattle.buffer.specs.Range.{range, noRange}
+use Rattle.cases.specs.Bench.{accepted, m, quiet, digested, benchCases}
+use Rattle.range.specs.Range.{range, noRange}
 use Rattle.pkcs12.specs.Table.{parts, noParts, safeRow, bagRow, attributeRow, tableOf}
 use Rattle.pkcs12.specs.Walk.{readFile}
 use Rattle.pkcs12.specs.declared.kind.BagKind.the-variants.{Key, ShroudedKey, Certificate, Nested}
@@ -13,10 +13,11 @@ use Rattle.pkcs12.specs.declared.row.Enclosing.the-variants.{Bag}
 use Rattle.pkcs12.specs.declared.answers.Reading.{Reading}
 use Rattle.pkcs12.specs.declared.kind.SafeKind.the-variants.{Plain, Encrypted}
 use Rattle.pkcs12.specs.declared.table.Table.{Table}
-use Rattle.pkcs12.proofs.Theorems.{bench-table}
+use Rattle.cases.proofs.Theorems.{bench-table}
 use Rattle.buffer.specs.Placed.{each}
 use Rattle.buffer.specs.Text.{ascii, digits, decimal}
-use Rattle.listing.specs.Lines.{numberText, rangeText, sealedText, typedText, safeText, safeLine, kindText}
+use Rattle.listing.specs.Lines.{rangeText, sealedText, typedText, safeText, safeLine, kindText}
+use Rattle.text.specs.Text.{numberText}
 use Rattle.listing.specs.Lines.{enclosingText, partsText, setText, bagStart, bagLine, attributeLine, fileLine}
 use Rattle.listing.specs.Lines.{countsLine, macLine, headLines, acceptedLines, answered, listing}
 

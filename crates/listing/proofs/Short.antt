@@ -1,14 +1,10 @@
 -- No listing is long: a bound for every part of a line, for every line and for the whole.
 use mathlib.Core.Bool.{Bool, true, false}
-use mathlib.Core.List.{List, [], _++_}
-use Prim.Native.Nat.{ℕ, zero, suc, _+_, _*_, _/_, _%_, _≤_}
-use native.Mathlib.Nat.{suc-mul}
+use mathlib.Core.List.{List, []}
+use Prim.Native.Nat.{ℕ, _+_, _*_, _≤_}
 use native.Mathlib.Omega.{arith}
-use lib.Dec.{ltb}
-use lib.ListN.{length, getD, length-append}
-use Rattle.der.specs.Choice.{if_then_else_}
-use Rattle.der.specs.declared.Fault.{Fault}
-use Rattle.pkcs12.specs.Table.{noSafe, noBag, noAttribute}
+use lib.ListN.{length, getD}
+use Rattle.pkcs12.specs.Table.{noSafe, noBag, noAttribute, safeCount, bagCount, attributeCount}
 use Rattle.pkcs12.specs.declared.answers.Answer.{Answer}
 use Rattle.pkcs12.specs.declared.answers.Answer.the-variants.{Accepted, Refused}
 use Rattle.pkcs12.specs.declared.row.AttributeRow.{AttributeRow}
@@ -19,49 +15,23 @@ use Rattle.pkcs12.specs.declared.row.Enclosing.{Enclosing}
 use Rattle.pkcs12.specs.declared.row.Enclosing.the-variants.{Bag}
 use Rattle.pkcs12.specs.declared.row.Mac.{Mac}
 use Rattle.pkcs12.specs.declared.row.Parts.{Parts}
-use Rattle.buffer.specs.declared.Range.{Range}
+use Rattle.range.specs.declared.Range.{Range}
 use Rattle.pkcs12.specs.declared.answers.Reading.{Reading}
 use Rattle.pkcs12.specs.declared.kind.SafeKind.{SafeKind}
 use Rattle.pkcs12.specs.declared.kind.SafeKind.the-variants.{Plain, Encrypted}
 use Rattle.pkcs12.specs.declared.row.SafeRow.{SafeRow}
 use Rattle.pkcs12.specs.declared.table.Table.{Table}
-use Rattle.buffer.specs.Placed.{each}
-use Rattle.buffer.specs.Text.{ascii, digit, digits, decimal}
-use Rattle.listing.specs.Lines.{numberText, rangeText, sealedText, typedText, safeText, safeLine, kindText}
-use Rattle.listing.specs.Lines.{enclosingText, partsText, setText, bagStart, bagLine, attributeLine, safes}
-use Rattle.listing.specs.Lines.{bags, attributes, own, safeRowLine, bagRowLine, attributeRowLine, fileLine}
+use Rattle.buffer.specs.Text.{ascii}
+use Rattle.text.proofs.Short.{Short, word, within, _and_, number, refused-line, lines}
+use Rattle.listing.specs.Lines.{rangeText, sealedText, typedText, safeText, safeLine, kindText}
+use Rattle.listing.specs.Lines.{enclosingText, partsText, setText, bagStart, bagLine, attributeLine}
+use Rattle.listing.specs.Lines.{own, safeRowLine, bagRowLine, attributeRowLine, fileLine}
 use Rattle.listing.specs.Lines.{countsLine}
-use Rattle.listing.specs.Lines.{macLine, headLines, acceptedLines, refusedLine, answered, listing}
+use Rattle.listing.specs.Lines.{macLine, headLines, acceptedLines, answered, listing}
 use Rattle.buffer.specs.Placed.{greatest}
 use Rattle.listing.specs.Listed.{listingBytes}
 
-pub record Short (m : ℕ) (x : List ℕ) : Type 0 where
-  pub most : length x ≤ m
-
-pub word : (x : List ℕ) → Short (length x) x
-word x = record { most = omega arith }
-
-pub within : {m : ℕ} {x : List ℕ} (n : ℕ) → m ≤ n → Short m x → Short n x
-within n h s = record { most = omega (arith, h, s .most) }
-
-infixl 5 _and_
-pub _and_ : {m n : ℕ} {x y : List ℕ} → Short m x → Short n y → Short (m + n) (x ++ y)
-_and_ {m} {n} {x} {y} s t = record { most = omega (arith, s .most, t .most, length-append x y) }
-
 -- ---- parts of lines
-
-digits-short : (k n : ℕ) → length (digits k n) ≤ k
-unfolding digits
-digits-short zero n = omega arith
-digits-short (suc k) n = go (ltb n 10) (digits-short k (n / 10))
-  where
-    go : (u : Bool) → length (digits k (n / 10)) ≤ k → length (if u then digit n else digits k (n / 10) ++ digit (n % 10)) ≤ suc k
-    go true h = omega arith
-    go false h = omega (arith, length-append (digits k (n / 10)) (digit (n % 10)), h)
-
-pub number : (name : List ℕ) (n : ℕ) → Short (length name + 20) (numberText name n)
-unfolding numberText decimal
-number name n = word name and record { most = digits-short 20 n }
 
 range : (name : List ℕ) (r : Range) → Short (length name + 42) (rangeText name r)
 unfolding rangeText ascii
@@ -155,26 +125,16 @@ mac-line input m =
     (range (ascii "mac input ") input and range (ascii ", digest ") (m .parts .value)
     and range (ascii ", salt ") (m .salt) and number (ascii ", iterations ") (m .iterations) and word (ascii "\n"))
 
-pub refused-line : (f : Fault) → Short 53 (refusedLine f)
-unfolding refusedLine ascii
-refused-line f = within 53 (omega arith) (number (ascii "refused ") (f .number) and number (ascii " at ") (f .offset) and word (ascii "\n"))
-
 -- ---- the whole
-
--- n lines, each of m bytes at most
-pub lines : (line : ℕ → List ℕ) (m : ℕ) → ((i : ℕ) → Short m (line i)) → (n : ℕ) → Short (n * m) (each line n)
-unfolding each
-lines line m h zero = within (0 * m) (omega arith) (word [])
-lines line m h (suc n) = within (suc n * m) (rw (suc-mul n m) (omega arith)) (lines line m h n and h n)
 
 accepted : (size : ℕ) (t : Table) → Short listingBytes (acceptedLines size t)
 unfolding acceptedLines headLines
 accepted size t =
     within listingBytes (omega arith)
-    (file-line size (t .elements) and counts-line (safes t) (bags t) (attributes t) and mac-line (t .«mac_input») (t .mac)
-    and lines (safeRowLine t) 201 (λ i. safe-line i (getD (t .safes) i noSafe)) (safes t)
-    and lines (bagRowLine t) 292 (λ i. bag-line i (getD (t .bags) i noBag) (own t i)) (bags t)
-    and lines (attributeRowLine t) 157 (λ i. attribute-line i (getD (t .attributes) i noAttribute)) (attributes t))
+    (file-line size (t .elements) and counts-line (safeCount t) (bagCount t) (attributeCount t) and mac-line (t .«mac_input») (t .mac)
+    and lines (safeRowLine t) 201 (λ i. safe-line i (getD (t .safes) i noSafe)) (safeCount t)
+    and lines (bagRowLine t) 292 (λ i. bag-line i (getD (t .bags) i noBag) (own t i)) (bagCount t)
+    and lines (attributeRowLine t) 157 (λ i. attribute-line i (getD (t .attributes) i noAttribute)) (attributeCount t))
 
 answered-short : (a : Answer) (size : ℕ) (t : Table) → Short listingBytes (answered a size t)
 unfolding answered

@@ -4,7 +4,7 @@ use mathlib.Core.List.{List}
 use Prim.Native.Nat.{ℕ, _≤_}
 use native.Mathlib.Omega.{arith}
 use lib.ListN.{length}
-use Rattle.pkcs12.specs.Bench.{m}
+use Rattle.cases.specs.Bench.{m}
 use Rattle.pkcs12.specs.Walk.{readFile}
 use Rattle.buffer.specs.Written.{success}
 use Rattle.pkcs12.specs.declared.answers.Reading.{Reading}

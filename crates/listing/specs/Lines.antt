@@ -2,13 +2,11 @@
 -- quotes are those of Rules 8.2 and 8.3, and for rows those of docs/USING.md.
 use mathlib.Core.Bool.{Bool, true, false}
 use mathlib.Core.List.{List, [], _++_}
-use Prim.Native.Nat.{ℕ, zero, suc, _+_, min}
+use Prim.Native.Nat.{ℕ, zero, suc, _+_}
 use lib.Dec.{eqb}
 use lib.ListN.{getD}
 use Rattle.der.specs.Choice.{if_then_else_}
-use Rattle.der.specs.declared.Fault.{Fault}
-use Rattle.pkcs12.specs.Numbers.{safeRows, bagRows, attributeRows}
-use Rattle.pkcs12.specs.Table.{noSafe, noBag, noAttribute}
+use Rattle.pkcs12.specs.Table.{noSafe, noBag, noAttribute, safeCount, bagCount, attributeCount}
 use Rattle.buffer.specs.Placed.{each}
 use Rattle.pkcs12.specs.declared.answers.Answer.{Answer}
 use Rattle.pkcs12.specs.declared.answers.Answer.the-variants.{Accepted, Refused}
@@ -20,19 +18,16 @@ use Rattle.pkcs12.specs.declared.row.Enclosing.{Enclosing}
 use Rattle.pkcs12.specs.declared.row.Enclosing.the-variants.{Bag}
 use Rattle.pkcs12.specs.declared.row.Mac.{Mac}
 use Rattle.pkcs12.specs.declared.row.Parts.{Parts}
-use Rattle.buffer.specs.declared.Range.{Range}
+use Rattle.range.specs.declared.Range.{Range}
 use Rattle.pkcs12.specs.declared.answers.Reading.{Reading}
 use Rattle.pkcs12.specs.declared.kind.SafeKind.{SafeKind}
 use Rattle.pkcs12.specs.declared.kind.SafeKind.the-variants.{Plain, Encrypted}
 use Rattle.pkcs12.specs.declared.row.SafeRow.{SafeRow}
 use Rattle.pkcs12.specs.declared.table.Table.{Table}
-use Rattle.buffer.specs.Text.{ascii, decimal}
+use Rattle.buffer.specs.Text.{ascii}
+use Rattle.text.specs.Text.{numberText, refusedLine}
 
 -- ---- parts of lines
-
--- a number behind a name
-unfoldable pub numberText : List ℕ → ℕ → List ℕ
-numberText name n = name ++ decimal n
 
 -- "A..B" behind a name
 unfoldable pub rangeText : List ℕ → Range → List ℕ
@@ -113,23 +108,13 @@ attributeLine i r =
 
 -- ---- the rows of a table
 
--- a count past its array counts as the array's rows
-abbrev pub safes : Table → ℕ
-safes t = min (t .«safe_count») safeRows
-
-abbrev pub bags : Table → ℕ
-bags t = min (t .«bag_count») bagRows
-
-abbrev pub attributes : Table → ℕ
-attributes t = min (t .«attribute_count») attributeRows
-
 -- of the first n attribute rows, those that name a bag
 unfoldable pub ownAmong : Table → ℕ → ℕ → ℕ
 ownAmong t bag zero = 0
 ownAmong t bag (suc n) = ownAmong t bag n + (if eqb (getD (t .attributes) n noAttribute .bag) bag then 1 else 0)
 
 abbrev pub own : Table → ℕ → ℕ
-own t bag = ownAmong t bag (attributes t)
+own t bag = ownAmong t bag (attributeCount t)
 
 abbrev pub safeRowLine : Table → ℕ → List ℕ
 safeRowLine t i = safeLine i (getD (t .safes) i noSafe)
@@ -160,15 +145,11 @@ macLine input m =
     ++ ascii "\n"
 
 unfoldable pub headLines : ℕ → Table → List ℕ
-headLines size t = fileLine size (t .elements) ++ countsLine (safes t) (bags t) (attributes t) ++ macLine (t .«mac_input») (t .mac)
+headLines size t = fileLine size (t .elements) ++ countsLine (safeCount t) (bagCount t) (attributeCount t) ++ macLine (t .«mac_input») (t .mac)
 
 -- an accepted file has three lines, and then one for each row
 unfoldable pub acceptedLines : ℕ → Table → List ℕ
-acceptedLines size t = headLines size t ++ each (safeRowLine t) (safes t) ++ each (bagRowLine t) (bags t) ++ each (attributeRowLine t) (attributes t)
-
--- Rule 8.3: a refusal is listed as `refused N at P`
-unfoldable pub refusedLine : Fault → List ℕ
-refusedLine f = numberText (ascii "refused ") (f .number) ++ numberText (ascii " at ") (f .offset) ++ ascii "\n"
+acceptedLines size t = headLines size t ++ each (safeRowLine t) (safeCount t) ++ each (bagRowLine t) (bagCount t) ++ each (attributeRowLine t) (attributeCount t)
 
 unfoldable pub answered : Answer → ℕ → Table → List ℕ
 answered Accepted size t = acceptedLines size t

@@ -1,4 +1,4 @@
-// Writes the listing of a file into a lent buffer: three lines and one for each row, or the line of
+// Writes the listing of a file into a caller's buffer: three lines and one for each row, or the line of
 // a refusal. docs/USING.md has the forms.
 ghost use mathlib.Core.Path.{_≡_};
 ghost use lib.ListN.{length};
@@ -7,8 +7,8 @@ ghost use Rattle.listing.specs.Lines.{headLines, acceptedLines, answered
 ghost use Rattle.listing.specs.Listed.{listed};
 ghost use Rattle.buffer.specs.Placed.{Placed};
 
-pub mod lines;
-pub mod out;
+mod lines;
+mod out;
 mod rows;
 
 use buffer::Written;
@@ -21,9 +21,9 @@ use pkcs12::Table;
 fn head(out: &mut [u8], at: usize, size: usize, table: Table) -> usize
     ensures { λ r. ⌜ Placed (now (out .entry)) at (headLines size table) (now (out .exit)) r ⌝ }
 {
-    let safes = buffer::fewer(table.safe_count, pkcs12::SAFE_ROWS);
-    let bags = buffer::fewer(table.bag_count, pkcs12::BAG_ROWS);
-    let attributes = buffer::fewer(table.attribute_count, pkcs12::ATTRIBUTE_ROWS);
+    let safes = range::fewer(table.safe_count, pkcs12::SAFE_ROWS);
+    let bags = range::fewer(table.bag_count, pkcs12::BAG_ROWS);
+    let attributes = range::fewer(table.attribute_count, pkcs12::ATTRIBUTE_ROWS);
     let first = lines::file_line(out, at, size, table.elements);
     let second = lines::counts_line(out, first, safes, bags, attributes);
     lines::mac_line(out, second, table.mac_input, table.mac)
@@ -43,7 +43,7 @@ fn answered(out: &mut [u8], answer: Answer, size: usize, table: Table) -> usize
 {
     match answer {
         Answer::Accepted => accepted(out, 0, size, table),
-        Answer::Refused(f) => lines::refused(out, 0, f),
+        Answer::Refused(f) => text::refused(out, 0, f),
     }
 }
 

@@ -1,12 +1,9 @@
 // One line of a listing, or a part of one.
 ghost use Rattle.listing.specs.Lines.{safeText, safeLine, kindText, enclosingText, partsText, setText};
 ghost use Rattle.listing.specs.Lines.{bagStart, bagLine, attributeLine, fileLine, countsLine, macLine};
-ghost use Rattle.listing.specs.Lines.{refusedLine};
 ghost use Rattle.buffer.specs.Placed.{Placed};
 use crate::out;
-use buffer::Range;
 use buffer::write;
-use der::Fault;
 use pkcs12::AttributeRow;
 use pkcs12::BagKind;
 use pkcs12::BagRow;
@@ -15,6 +12,7 @@ use pkcs12::Mac;
 use pkcs12::Parts;
 use pkcs12::SafeKind;
 use pkcs12::SafeRow;
+use range::Range;
 
 fn safe_kind(out: &mut [u8], at: usize, kind: SafeKind, p: Parts) -> usize
     ensures { λ r. ⌜ Placed (now (out .entry)) at (safeText kind p) (now (out .exit)) r ⌝ }
@@ -33,7 +31,7 @@ pub(crate) fn safe_line(out: &mut [u8], at: usize, i: usize, row: SafeRow) -> us
     ensures { λ r. ⌜ Placed (now (out .entry)) at (safeLine i row) (now (out .exit)) r ⌝ }
 {
     let kind = row.kind;
-    let number = out::number(out, at, b"safe ", i);
+    let number = text::number(out, at, b"safe ", i);
     let end = safe_kind(out, number, kind, row.parts);
     write::bytes(out, end, b"\n")
 }
@@ -59,7 +57,7 @@ fn enclosing(out: &mut [u8], at: usize, e: Enclosing) -> usize
         Enclosing::None => write::bytes(out, at, b", in none"),
         Enclosing::Bag(n) => {
             let bag = n as usize;
-            out::number(out, at, b", in bag ", bag)
+            text::number(out, at, b", in bag ", bag)
         }
     }
 }
@@ -84,7 +82,7 @@ fn bag_set(out: &mut [u8], at: usize, has_set: bool, own: usize) -> usize
     ensures { λ r. ⌜ Placed (now (out .entry)) at (setText «has_set» own) (now (out .exit)) r ⌝ }
 {
     if has_set {
-        return out::number(out, at, b", attributes ", own);
+        return text::number(out, at, b", attributes ", own);
     }
     write::bytes(out, at, b", no attributes")
 }
@@ -96,9 +94,9 @@ fn bag_start(out: &mut [u8], at: usize, i: usize, row: BagRow) -> usize
     let kind = row.kind;
     let safe = row.safe as usize;
     let outer = row.enclosing;
-    let first = out::number(out, at, b"bag ", i);
+    let first = text::number(out, at, b"bag ", i);
     let second = bag_kind(out, first, kind);
-    let third = out::number(out, second, b", safe ", safe);
+    let third = text::number(out, second, b", safe ", safe);
     enclosing(out, third, outer)
 }
 
@@ -116,8 +114,8 @@ pub(crate) fn attribute_line(out: &mut [u8], at: usize, i: usize, row: Attribute
     ensures { λ r. ⌜ Placed (now (out .entry)) at (attributeLine i row) (now (out .exit)) r ⌝ }
 {
     let bag = row.bag as usize;
-    let first = out::number(out, at, b"attribute ", i);
-    let second = out::number(out, first, b": bag ", bag);
+    let first = text::number(out, at, b"attribute ", i);
+    let second = text::number(out, first, b": bag ", bag);
     let identifier = out::range(out, second, b", type ", row.identifier);
     let values = out::range(out, identifier, b", values ", row.values);
     write::bytes(out, values, b"\n")
@@ -126,8 +124,8 @@ pub(crate) fn attribute_line(out: &mut [u8], at: usize, i: usize, row: Attribute
 pub(crate) fn file_line(out: &mut [u8], at: usize, size: usize, elements: usize) -> usize
     ensures { λ r. ⌜ Placed (now (out .entry)) at (fileLine size elements) (now (out .exit)) r ⌝ }
 {
-    let bytes = out::number(out, at, b"pfx ", size);
-    let count = out::number(out, bytes, b" bytes, ", elements);
+    let bytes = text::number(out, at, b"pfx ", size);
+    let count = text::number(out, bytes, b" bytes, ", elements);
     write::bytes(out, count, b" elements\n")
 }
 
@@ -140,9 +138,9 @@ pub(crate) fn counts_line(
 ) -> usize
     ensures { λ r. ⌜ Placed (now (out .entry)) at (countsLine safes bags attributes) (now (out .exit)) r ⌝ }
 {
-    let first = out::number(out, at, b"safes ", safes);
-    let second = out::number(out, first, b", bags ", bags);
-    let third = out::number(out, second, b", attributes ", attributes);
+    let first = text::number(out, at, b"safes ", safes);
+    let second = text::number(out, first, b", bags ", bags);
+    let third = text::number(out, second, b", attributes ", attributes);
     write::bytes(out, third, b"\n")
 }
 
@@ -154,15 +152,6 @@ pub(crate) fn mac_line(out: &mut [u8], at: usize, input: Range, mac: Mac) -> usi
     let first = out::range(out, at, b"mac input ", input);
     let digest = out::range(out, first, b", digest ", parts.value);
     let salt = out::range(out, digest, b", salt ", mac.salt);
-    let number = out::number(out, salt, b", iterations ", iterations);
+    let number = text::number(out, salt, b", iterations ", iterations);
     write::bytes(out, number, b"\n")
-}
-
-pub fn refused(out: &mut [u8], at: usize, f: Fault) -> usize
-    ensures { λ r. ⌜ Placed (now (out .entry)) at (refusedLine f) (now (out .exit)) r ⌝ }
-{
-    let number = f.number as usize;
-    let first = out::number(out, at, b"refused ", number);
-    let second = out::number(out, first, b" at ", f.offset);
-    write::bytes(out, second, b"\n")
 }

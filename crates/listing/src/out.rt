@@ -1,18 +1,9 @@
-// Numbers and ranges into a lent buffer, at an offset; the answer is the offset behind them. What
-// lies past the buffer is not written, but counted: so the same functions measure.
-ghost use Rattle.listing.specs.Lines.{numberText, rangeText, sealedText, typedText};
+// Ranges into a caller's buffer, at an offset; each function returns the offset behind them, as those
+// of `text` do.
+ghost use Rattle.listing.specs.Lines.{rangeText, sealedText, typedText};
 ghost use Rattle.buffer.specs.Placed.{Placed};
-use buffer::Range;
-use buffer::write;
 use pkcs12::Parts;
-
-// A name and a number.
-pub fn number(out: &mut [u8], at: usize, name: &[u8], n: usize) -> usize
-    ensures { λ r. ⌜ Placed (now (out .entry)) at (numberText (now (name .entry)) n) (now (out .exit)) r ⌝ }
-{
-    let next = write::bytes(out, at, name);
-    write::decimal(out, next, n)
-}
+use range::Range;
 
 // A name and a range.
 pub(crate) fn range(out: &mut [u8], at: usize, name: &[u8], r: Range) -> usize
@@ -20,8 +11,8 @@ pub(crate) fn range(out: &mut [u8], at: usize, name: &[u8], r: Range) -> usize
 {
     let start = r.start as usize;
     let end = r.end as usize;
-    let next = number(out, at, name, start);
-    number(out, next, b"..", end)
+    let next = text::number(out, at, name, start);
+    text::number(out, next, b"..", end)
 }
 
 // What an encrypted safe and a shrouded key hold.

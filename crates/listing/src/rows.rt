@@ -3,7 +3,8 @@ ghost use mathlib.Core.Path.{_≡_};
 ghost use lib.Dec.{eqb};
 ghost use Rattle.der.specs.Choice.{if_then_else_};
 ghost use Rattle.buffer.specs.Placed.{each};
-ghost use Rattle.listing.specs.Lines.{own, safes, bags, attributes, safeRowLine, bagRowLine, attributeRowLine};
+ghost use Rattle.pkcs12.specs.Table.{safeCount, bagCount, attributeCount};
+ghost use Rattle.listing.specs.Lines.{own, safeRowLine, bagRowLine, attributeRowLine};
 ghost use Rattle.buffer.specs.Placed.{Placed};
 use crate::lines;
 use pkcs12::ATTRIBUTE_ROWS;
@@ -22,7 +23,7 @@ fn one_if_own(owner: usize, bag: usize) -> usize
 fn own_attributes(table: Table, bag: usize) -> usize
     ensures { λ r. ⌜ r ≡ own table bag ⌝ }
 {
-    let n = buffer::fewer(table.attribute_count, ATTRIBUTE_ROWS);
+    let n = range::fewer(table.attribute_count, ATTRIBUTE_ROWS);
     let mut own = 0;
     let mut i = 0;
     while i < n {
@@ -35,9 +36,9 @@ fn own_attributes(table: Table, bag: usize) -> usize
 }
 
 pub(crate) fn safe_lines(out: &mut [u8], at: usize, table: Table) -> usize
-    ensures { λ r. ⌜ Placed (now (out .entry)) at (each (safeRowLine table) (safes table)) (now (out .exit)) r ⌝ }
+    ensures { λ r. ⌜ Placed (now (out .entry)) at (each (safeRowLine table) (safeCount table)) (now (out .exit)) r ⌝ }
 {
-    let n = buffer::fewer(table.safe_count, SAFE_ROWS);
+    let n = range::fewer(table.safe_count, SAFE_ROWS);
     let mut to = at;
     let mut i = 0;
     while i < n {
@@ -49,9 +50,9 @@ pub(crate) fn safe_lines(out: &mut [u8], at: usize, table: Table) -> usize
 }
 
 pub(crate) fn bag_lines(out: &mut [u8], at: usize, table: Table) -> usize
-    ensures { λ r. ⌜ Placed (now (out .entry)) at (each (bagRowLine table) (bags table)) (now (out .exit)) r ⌝ }
+    ensures { λ r. ⌜ Placed (now (out .entry)) at (each (bagRowLine table) (bagCount table)) (now (out .exit)) r ⌝ }
 {
-    let n = buffer::fewer(table.bag_count, BAG_ROWS);
+    let n = range::fewer(table.bag_count, BAG_ROWS);
     let mut to = at;
     let mut i = 0;
     while i < n {
@@ -64,9 +65,9 @@ pub(crate) fn bag_lines(out: &mut [u8], at: usize, table: Table) -> usize
 }
 
 pub(crate) fn attribute_lines(out: &mut [u8], at: usize, table: Table) -> usize
-    ensures { λ r. ⌜ Placed (now (out .entry)) at (each (attributeRowLine table) (attributes table)) (now (out .exit)) r ⌝ }
+    ensures { λ r. ⌜ Placed (now (out .entry)) at (each (attributeRowLine table) (attributeCount table)) (now (out .exit)) r ⌝ }
 {
-    let n = buffer::fewer(table.attribute_count, ATTRIBUTE_ROWS);
+    let n = range::fewer(table.attribute_count, ATTRIBUTE_ROWS);
     let mut to = at;
     let mut i = 0;
     while i < n {

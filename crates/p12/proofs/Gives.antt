@@ -12,14 +12,14 @@ use Rattle.buffer.specs.Numbers.{shortBuffer, notSound}
 use Rattle.pkcs12.specs.Walk.{readFile}
 use Rattle.buffer.specs.Written.{Outcome, lengthOf}
 use Rattle.pkcs12.specs.Written.{writeFile}
-use Rattle.buffer.specs.declared.Range.{Range}
+use Rattle.range.specs.declared.Range.{Range}
 use Rattle.pkcs12.specs.declared.row.AttributeRow.{AttributeRow}
 use Rattle.pkcs12.specs.declared.table.Table.{Table}
 use Rattle.pkcs12.specs.declared.answers.Reading.{Reading}
 use Rattle.buffer.specs.declared.Written.{Written}
 use Rattle.attributes.specs.Reader.{openingOf, itemAfter}
-use Rattle.attributes.specs.Elements.{elementRanges, countedOf}
-use Rattle.attributes.specs.declared.Counted.{Counted}
+use Rattle.elements.specs.Elements.{elementRanges, countedOf}
+use Rattle.elements.specs.declared.Counted.{Counted}
 use Rattle.attributes.specs.declared.Item.{Item}
 use Rattle.attributes.specs.declared.Item.the-variants.{Ready, Done}
 use Rattle.pairing.specs.Pairs.{refusedBy}
@@ -27,7 +27,7 @@ use Rattle.pairing.specs.declared.Paired.{Paired}
 use Rattle.identities.specs.Identities.{certificateFor}
 use Rattle.words.specs.Layout.{tableWords}
 use Rattle.words.specs.Stored.{wordsOf, stored, storedRow}
-use Rattle.words.specs.Loaded.{tableIn}
+use Rattle.load.specs.Loaded.{tableIn}
 use Rattle.words.proofs.Whole.{words-length, stored-whole}
 use Rattle.listing.specs.Listed.{listed}
 use Rattle.pair_lines.specs.Listed.{pairsListed}

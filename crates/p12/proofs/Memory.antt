@@ -19,9 +19,9 @@ use Rattle.pkcs12.specs.declared.table.Table.{Table}
 use Rattle.pkcs12.proofs.Theorems.{refused-table-empty, read-is-written}
 use Rattle.words.specs.Layout.{tableWords}
 use Rattle.words.specs.Stored.{wordsOf}
-use Rattle.words.specs.Loaded.{tableIn}
-use Rattle.words.specs.Wordable.{Wordable}
-use Rattle.words.proofs.Theorems.{words-count, stored-is-loaded, accepted-wordable, empty-wordable, empty-is-zeros}
+use Rattle.load.specs.Loaded.{tableIn}
+use Rattle.load.specs.Wordable.{Wordable}
+use Rattle.load.proofs.Theorems.{words-count, stored-is-loaded, accepted-wordable, empty-wordable, empty-is-zeros}
 use Rattle.p12.specs.Calls.{ok, readNumber, readOffset, Called, called, wrote, readCall, writeCall, Is11}
 use Rattle.p12.proofs.Unsound.{empty-is-11}
 

@@ -15,7 +15,7 @@ use Rattle.pkcs12.specs.Walk.{readFile}
 use Rattle.pkcs12.specs.declared.answers.Answer.{Answer}
 use Rattle.words.specs.Layout.{tableWords}
 use Rattle.words.specs.Stored.{wordsOf}
-use Rattle.words.specs.Loaded.{tableIn}
+use Rattle.load.specs.Loaded.{tableIn}
 use Rattle.p12.specs.Calls.{ok, called, readCall, writeCall, Is11}
 use Rattle.p12.proofs.Memory as memory
 use Rattle.p12.proofs.Unsound as unsound

@@ -12,7 +12,7 @@ use Rattle.der.proofs.Choices.{at-lt, at-not-lt}
 use Rattle.buffer.specs.Numbers.{notSound}
 use Rattle.pkcs12.specs.Table.{noMac, rowsIn, tableOf, emptyTable}
 use Rattle.pkcs12.specs.Checks.{countsFit, all, namesType, isSealed, macTest, rowsTest, keepsRules}
-use Rattle.buffer.specs.Range.{lies}
+use Rattle.range.specs.Range.{lies}
 use Rattle.buffer.specs.Report.{writtenReport}
 use Rattle.pkcs12.specs.Written.{fileOf, writeFile}
 use Rattle.pkcs12.specs.declared.table.Table.{Table}
@@ -22,7 +22,7 @@ use Rattle.attributes.proofs.Theorems.{refused-stays}
 use Rattle.pairing.specs.Pairs as pairing
 use Rattle.identities.specs.Identities.{certificateFor}
 use Rattle.words.specs.Layout.{tableWords}
-use Rattle.words.specs.Loaded.{tableIn}
+use Rattle.load.specs.Loaded.{tableIn}
 use Rattle.p12.specs.Calls.{called, wrote, onTable, writeCall, itemAs, attributeCall, certificateCall, Is11}
 
 -- the empty table has no file: its MAC has no identifier

@@ -24,7 +24,7 @@ use Rattle.pairing.specs.declared.Paired.{Paired}
 use Rattle.identities.specs.Identities.{certificateFor}
 use Rattle.words.specs.Layout.{tableWords}
 use Rattle.words.specs.Stored.{wordsOf, storedRow}
-use Rattle.words.specs.Loaded.{tableIn}
+use Rattle.load.specs.Loaded.{tableIn}
 use Rattle.listing.specs.Listed.{listed}
 use Rattle.pair_lines.specs.Listed.{pairsListed}
 

@@ -5,10 +5,10 @@ ghost use lib.Dec.{ltb};
 ghost use Rattle.der.specs.Span.{Bytes};
 ghost use Rattle.pkcs12.specs.Walk.{readFile};
 ghost use Rattle.buffer.specs.Written.{lengthOf};
-ghost use Rattle.attributes.specs.Elements.{elementRanges, countedOf};
+ghost use Rattle.elements.specs.Elements.{elementRanges, countedOf};
 ghost use Rattle.words.specs.Layout.{tableWords};
 ghost use Rattle.words.specs.Stored.{stored};
-ghost use Rattle.words.specs.Loaded.{rangeOf};
+ghost use Rattle.range.specs.Range.{wordRange};
 ghost use Rattle.p12.specs.Calls.{readNumber, readOffset, writtenNumber, pairedNumber, pairedRow, readCall};
 ghost use Rattle.p12.specs.Calls.{writeCall, attributeCall, certificateCall, listCall, pairsCall};
 use attributes::Item;
@@ -16,6 +16,7 @@ use buffer::Written;
 use pairing::Paired;
 use pkcs12::Answer;
 use pkcs12::Reading;
+use range::Range;
 
 // The number of an answer that is no refusal.
 pub const OK: u8 = 0;
@@ -144,7 +145,7 @@ pub extern "C" fn p12_write(table: &[u32], bytes: &[u8], out: &mut [u8], written
         *written = 0;
         return buffer::NOT_SOUND;
     }
-    let file = writer::write(words::load(table), bytes, out);
+    let file = writer::write(load::table(table), bytes, out);
     *written = length_of(file);
     written_number(file)
 }
@@ -165,7 +166,7 @@ pub extern "C" fn p12_attribute(
     if is_short(table.len()) {
         return buffer::NOT_SOUND;
     }
-    match attributes::attribute(words::load(table), bytes, bag, i) {
+    match attributes::attribute(load::table(table), bytes, bag, i) {
         Item::Attribute(a) => written_number(words::store_row(a, row)),
         Item::Ready => DONE,
         Item::Done => DONE,
@@ -183,12 +184,12 @@ pub extern "C" fn p12_element(
     start: &mut usize,
     end: &mut usize,
 ) -> usize
-    ensures { λ r. ⌜ r ≡ countedOf (elementRanges (now (bytes .entry)) (rangeOf from to)) i .count ⌝ }
-    ensures { λ _. ⌜ now (start .exit) ≡ countedOf (elementRanges (now (bytes .entry)) (rangeOf from to)) i .element .start ⌝ }
-    ensures { λ _. ⌜ now (end .exit) ≡ countedOf (elementRanges (now (bytes .entry)) (rangeOf from to)) i .element .end ⌝ }
+    ensures { λ r. ⌜ r ≡ countedOf (elementRanges (now (bytes .entry)) (wordRange from to)) i .count ⌝ }
+    ensures { λ _. ⌜ now (start .exit) ≡ countedOf (elementRanges (now (bytes .entry)) (wordRange from to)) i .element .start ⌝ }
+    ensures { λ _. ⌜ now (end .exit) ≡ countedOf (elementRanges (now (bytes .entry)) (wordRange from to)) i .element .end ⌝ }
     ensures { λ _. ⌜ Bytes (now (bytes .entry)) ⌝ }
 {
-    let counted = attributes::element(bytes, words::range_of(from, to), i);
+    let counted = elements::element(bytes, Range::of_words(from, to), i);
     let range = counted.element;
     *start = range.start as usize;
     *end = range.end as usize;
@@ -211,7 +212,7 @@ pub extern "C" fn p12_certificate_for(
         *bag = 0;
         return buffer::NOT_SOUND;
     }
-    let paired = identities::certificate_for(words::load(table), bytes, key);
+    let paired = identities::certificate_for(load::table(table), bytes, key);
     *bag = paired_row(paired);
     paired_number(paired)
 }

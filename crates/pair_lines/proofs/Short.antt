@@ -12,8 +12,8 @@ use Rattle.pkcs12.specs.declared.kind.BagKind.{BagKind}
 use Rattle.pkcs12.specs.declared.answers.Reading.{Reading}
 use Rattle.pkcs12.specs.declared.table.Table.{Table}
 use Rattle.buffer.specs.Text.{ascii}
-use Rattle.listing.specs.Lines.{bags}
-use Rattle.listing.proofs.Short.{Short, word, within, _and_, number, lines, refused-line}
+use Rattle.pkcs12.specs.Table.{bagCount}
+use Rattle.text.proofs.Short.{Short, word, within, _and_, number, lines, refused-line}
 use Rattle.pairing.specs.Pairs.{isKey}
 use Rattle.pairing.specs.declared.Paired.{Paired}
 use Rattle.pairing.specs.declared.Paired.the-variants.{Certificate}
@@ -46,7 +46,7 @@ pair-lines : (t : Table) (s : List ℕ) → Short pairsBytes (pairLines t s)
 unfolding pairLines
 pair-lines t s =
     within pairsBytes (omega arith)
-    (lines (pairRowLine t s) lineBytes (λ i. bag-line (getD (t .bags) i noBag .kind) i (certificateFor t s i)) (bags t))
+    (lines (pairRowLine t s) lineBytes (λ i. bag-line (getD (t .bags) i noBag .kind) i (certificateFor t s i)) (bagCount t))
 
 answered-short : (a : Answer) (t : Table) (s : List ℕ) → Short pairsBytes (answered a t s)
 unfolding answered

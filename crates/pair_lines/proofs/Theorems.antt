@@ -11,7 +11,7 @@ use Rattle.pkcs12.specs.declared.answers.Answer.{Answer}
 use Rattle.pkcs12.specs.declared.answers.Reading.{Reading}
 use Rattle.pkcs12.specs.declared.table.Table.{Table}
 use Rattle.buffer.specs.Text.{ascii, digits, decimal}
-use Rattle.listing.specs.Lines.{numberText, refusedLine}
+use Rattle.text.specs.Text.{numberText, refusedLine}
 use Rattle.buffer.proofs.Outcomes.{written}
 use Rattle.pairing.specs.Pairs.{refusedBy}
 use Rattle.pairing.specs.declared.Paired.the-variants.{Certificate}

@@ -12,7 +12,8 @@ use Rattle.pkcs12.specs.declared.kind.BagKind.{BagKind}
 use Rattle.pkcs12.specs.declared.answers.Reading.{Reading}
 use Rattle.pkcs12.specs.declared.table.Table.{Table}
 use Rattle.buffer.specs.Text.{ascii}
-use Rattle.listing.specs.Lines.{numberText, bags, refusedLine}
+use Rattle.pkcs12.specs.Table.{bagCount}
+use Rattle.text.specs.Text.{numberText, refusedLine}
 use Rattle.pairing.specs.Pairs.{isKey}
 use Rattle.pairing.specs.declared.Paired.{Paired}
 use Rattle.pairing.specs.declared.Paired.the-variants.{Certificate}
@@ -36,7 +37,7 @@ pairRowLine t s i = bagLine (getD (t .bags) i noBag .kind) i (certificateFor t s
 
 -- in the order of the bag rows: those of the table t over the bytes s
 unfoldable pub pairLines : Table → List ℕ → List ℕ
-pairLines t s = each (pairRowLine t s) (bags t)
+pairLines t s = each (pairRowLine t s) (bagCount t)
 
 -- the lines of an accepted file; a refusal is the one line "refused N at P" (Rule 8.3)
 unfoldable pub answered : Answer → Table → List ℕ → List ℕ

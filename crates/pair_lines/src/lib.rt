@@ -1,4 +1,4 @@
-// Writes the pairs of a file into a lent buffer: a line for each key bag with the row of its
+// Writes the pairs of a file into a caller's buffer: a line for each key bag with the row of its
 // certificate, or with the refusal; of a refused file the line of its refusal. docs/USING.md has
 // the forms.
 ghost use mathlib.Core.Path.{_≡_};
@@ -24,10 +24,10 @@ fn answer_text(out: &mut [u8], at: usize, paired: Paired) -> usize
     ensures { λ r. ⌜ Placed (now (out .entry)) at (answerText paired) (now (out .exit)) r ⌝ }
 {
     match paired {
-        Paired::Certificate(row) => listing::out::number(out, at, b": certificate bag ", row),
+        Paired::Certificate(row) => text::number(out, at, b": certificate bag ", row),
         Paired::Refused(f) => {
             let number = f.number as usize;
-            listing::out::number(out, at, b": refused ", number)
+            text::number(out, at, b": refused ", number)
         }
     }
 }
@@ -35,7 +35,7 @@ fn answer_text(out: &mut [u8], at: usize, paired: Paired) -> usize
 fn pair_line(out: &mut [u8], at: usize, key: usize, paired: Paired) -> usize
     ensures { λ r. ⌜ Placed (now (out .entry)) at (pairLine key paired) (now (out .exit)) r ⌝ }
 {
-    let number = listing::out::number(out, at, b"key bag ", key);
+    let number = text::number(out, at, b"key bag ", key);
     let answer = answer_text(out, number, paired);
     buffer::write::bytes(out, answer, b"\n")
 }
@@ -63,7 +63,7 @@ fn bag_line(
 fn bag_lines(out: &mut [u8], table: Table, file: &[u8]) -> usize
     ensures { λ r. ⌜ Placed (now (out .entry)) 0 (pairLines table (now (file .entry))) (now (out .exit)) r ⌝ }
 {
-    let n = buffer::fewer(table.bag_count, pkcs12::BAG_ROWS);
+    let n = range::fewer(table.bag_count, pkcs12::BAG_ROWS);
     let mut to = 0;
     let mut i = 0;
     while i < n {
@@ -80,7 +80,7 @@ fn answered(out: &mut [u8], answer: Answer, table: Table, file: &[u8]) -> usize
 {
     match answer {
         Answer::Accepted => bag_lines(out, table, file),
-        Answer::Refused(f) => listing::lines::refused(out, 0, f),
+        Answer::Refused(f) => text::refused(out, 0, f),
     }
 }
 

@@ -14,12 +14,12 @@ use Rattle.pkcs12.specs.Numbers.{noRow}
 use Rattle.pairing.specs.Numbers.{noCertificate, moreCertificates}
 use Rattle.der.specs.Choice.{both}
 use Rattle.pkcs12.specs.Checks.{all}
-use Rattle.buffer.specs.Range.{lies, bytesIn}
+use Rattle.range.specs.Range.{lies, bytesIn}
 use Rattle.pkcs12.specs.Sound.{Lies}
-use Rattle.buffer.specs.declared.Range.{Range}
+use Rattle.range.specs.declared.Range.{Range}
 use Rattle.pkcs12.specs.declared.kind.BagKind.{BagKind}
 use Rattle.pkcs12.specs.declared.kind.BagKind.the-variants.{Key, ShroudedKey, Certificate, Crl, Secret, Nested}
-use Rattle.buffer.proofs.SameBytes.{same-self, same-is}
+use Rattle.range.proofs.SameBytes.{same-self, same-is}
 use Rattle.pairing.specs.Pairs.{noIdentity, isKey, isCertificate, idLies, sameId, pairsWith}
 use Rattle.pairing.specs.Pairs.{matching, refusedBy, onlyOne, paired}
 use Rattle.pairing.specs.Only.{Matches, IdsLie, IsKey, Answered, answer-row, answer-11}

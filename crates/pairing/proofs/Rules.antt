@@ -9,7 +9,7 @@ use Rattle.der.specs.Choice.{if_then_else_, both}
 use Rattle.der.proofs.Choices.{told-true, told-false, denied, granted, at-lt, at-not-lt, at-le, at-not-le, at-eq}
 use Rattle.der.proofs.Choices.{at-ne, same}
 use Rattle.pairing.specs.Numbers.{noCertificate, moreCertificates}
-use Rattle.buffer.specs.Bytes.{sameBytes}
+use Rattle.range.specs.Bytes.{sameBytes}
 use Rattle.pairing.specs.Pairs.{isKey, idLies, pairsWith, refusedBy}
 use Rattle.pairing.specs.Search.{search, keyAt, tallied, firstAt, visited, answered}
 use Rattle.pairing.specs.declared.IdentityRow.{IdentityRow}

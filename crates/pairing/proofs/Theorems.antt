@@ -10,7 +10,7 @@ use Rattle.buffer.specs.Numbers.{notSound}
 use Rattle.pkcs12.specs.Numbers.{noRow}
 use Rattle.pairing.specs.Numbers.{noCertificate, moreCertificates}
 use Rattle.pkcs12.specs.Sound.{Lies}
-use Rattle.buffer.specs.Range.{bytesIn}
+use Rattle.range.specs.Range.{bytesIn}
 use Rattle.pkcs12.specs.declared.kind.BagKind.the-variants.{Certificate}
 use Rattle.pairing.specs.Pairs.{noIdentity, refusedBy, paired}
 use Rattle.pairing.specs.Only.{Matches, IdsLie, IsKey, Answered}

@@ -8,10 +8,10 @@ use Rattle.der.specs.Element.{fault}
 use Rattle.buffer.specs.Numbers.{notSound}
 use Rattle.pkcs12.specs.Numbers.{noRow}
 use Rattle.pairing.specs.Numbers.{noCertificate, moreCertificates}
-use Rattle.buffer.specs.Bytes.{sameBytes}
-use Rattle.buffer.specs.Range.{noRange, bytesIn, lies}
+use Rattle.range.specs.Bytes.{sameBytes}
+use Rattle.range.specs.Range.{noRange, bytesIn, lies}
 use Rattle.pkcs12.specs.Checks.{all}
-use Rattle.buffer.specs.declared.Range.{Range}
+use Rattle.range.specs.declared.Range.{Range}
 use Rattle.pkcs12.specs.declared.kind.BagKind.{BagKind}
 use Rattle.pkcs12.specs.declared.kind.BagKind.the-variants.{Key, ShroudedKey, Certificate, Crl, Secret, Nested}
 use Rattle.pairing.specs.declared.IdentityRow.{IdentityRow}

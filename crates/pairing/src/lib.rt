@@ -7,9 +7,9 @@ ghost use Rattle.der.specs.Choice.{both};
 ghost use Rattle.pairing.specs.Pairs.{isKey, isCertificate, idLies, sameId, pairsWith, paired};
 ghost use Rattle.pairing.specs.Report.{pairedReport};
 ghost use Rattle.pairing.specs.Search.{keyAt, tallied, firstAt, visited, passed, begun, again, answered};
-use buffer::Range;
 use der::Fault;
 use pkcs12::BagKind;
+use range::Range;
 
 // The numbers of the refusals that only pairing reports.
 pub const NO_CERTIFICATE: u8 = 13;
@@ -110,7 +110,7 @@ fn same_id(bytes: &[u8], key: IdentityRow, row: IdentityRow) -> bool
     }
     let mine = key.id;
     let other = row.id;
-    buffer::same(mine.part(bytes), other.part(bytes))
+    range::same(mine.part(bytes), other.part(bytes))
 }
 
 // Whether a row is a certificate's with the key's id.

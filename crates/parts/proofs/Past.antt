@@ -25,7 +25,7 @@ use Rattle.der.proofs.Values.{identified}
 use Rattle.der.proofs.Opaque.{Went as One, Ran, by-checked, went, ran}
 use Rattle.pkcs12.specs.Numbers.{ciphertextTag, attributedVersion}
 use Rattle.pkcs12.specs.Numbers.{encryptedVersion}
-use Rattle.buffer.specs.Bytes.{sameBytes}
+use Rattle.range.specs.Bytes.{sameBytes}
 use Rattle.pkcs12.specs.Identifiers.{dataType, x509Certificate}
 use Rattle.pkcs12.specs.Walk.{algorithmAt, sealedAt, keyAt, valueAt, typedAt, encryptedInfoAt, encryptedAt}
 use Rattle.pkcs12.specs.Walk.{Refused}

@@ -25,14 +25,15 @@ use Rattle.der.proofs.Placed.{found, expected}
 use Rattle.der.proofs.Values.{identified}
 use Rattle.der.proofs.Opaque.{Went as One, went}
 use Rattle.buffer.specs.Numbers.{fileBytes, tooLong}
-use Rattle.buffer.specs.Bytes.{sameBytes}
+use Rattle.range.specs.Bytes.{sameBytes}
+use Rattle.range.specs.Range.{bodyRange}
 use Rattle.pkcs12.specs.Identifiers.{x509Certificate}
 use Rattle.pkcs12.specs.Walk.{rangeOf, onParts, algorithmAt, valueAt, typedAt, encryptedInfoAt}
 use Rattle.pkcs12.specs.Table.{parts}
-use Rattle.buffer.specs.declared.Range.{Range}
+use Rattle.range.specs.declared.Range.{Range}
 use Rattle.pkcs12.specs.declared.row.Parts.{Parts}
 use Rattle.pkcs12.specs.declared.answers.PartsAt.{PartsAt}
-use Rattle.parts.specs.InFile.{inFile, bodyRange}
+use Rattle.parts.specs.InFile.{inFile}
 use Rattle.parts.specs.Steps.{typedValueAt}
 use Rattle.parts.proofs.Past.{Past, valued, algorithm-past, encrypted-info-past}
 

@@ -10,7 +10,7 @@ use Rattle.der.specs.Numbers.{opaqueLevels}
 use Rattle.der.specs.Element.{fault, finishAt, expectAt, onElement}
 use Rattle.der.specs.Opaque.{onChecked, opaqueAt}
 use Rattle.der.specs.declared.Cursor.{Cursor}
-use Rattle.buffer.specs.Range.{range, noRange}
+use Rattle.range.specs.Range.{range, noRange}
 use Rattle.pkcs12.specs.Numbers.{notServed, ciphertextTag}
 use Rattle.pkcs12.specs.Table.{parts}
 use Rattle.pkcs12.specs.Walk.{rangeOf, onParts, algorithmAt, withValue, valueAt, encryptedInfoAt}

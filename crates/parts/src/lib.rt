@@ -2,19 +2,16 @@
 // function returns the ranges of what is at the cursor with the number of its elements, or the
 // first fault. Bytes that are longer than a file are refused (9).
 ghost use mathlib.Core.Path.{_≡_};
-ghost use Rattle.der.specs.Content.{bytesOf};
 ghost use Rattle.der.specs.Element.{fault};
 ghost use Rattle.der.specs.Span.{Bytes};
-ghost use Rattle.buffer.specs.Bytes.{sameBytes};
 ghost use Rattle.buffer.specs.Numbers.{tooLong};
 ghost use Rattle.pkcs12.specs.Report.{partsReport};
 ghost use Rattle.pkcs12.specs.Walk.{algorithmAt, sealedAt, keyAt, typedAt, encryptedAt};
 ghost use Rattle.pkcs12.specs.declared.answers.PartsAt.{PartsAt};
-ghost use Rattle.parts.specs.InFile.{inFile, bodyRange};
+ghost use Rattle.parts.specs.InFile.{inFile};
 
 mod read;
 
-use buffer::Range;
 use der::Cursor;
 use der::Fault;
 use pkcs12::PartsAt;
@@ -26,24 +23,6 @@ fn too_long() -> PartsAt
         number: buffer::TOO_LONG,
         offset: 0,
     })
-}
-
-// The range of a body, of which a range holds the offsets in a file.
-pub fn range_of(c: Cursor) -> Range
-    ensures { λ r. ⌜ r ≡ bodyRange c ⌝ }
-{
-    let start = buffer::fewer(c.at, buffer::FILE_BYTES) as u16;
-    let end = buffer::fewer(c.end, buffer::FILE_BYTES) as u16;
-    Range { start, end }
-}
-
-// Whether a body is the given bytes.
-pub fn named(s: &[u8], body: Cursor, name: &[u8]) -> bool
-    ensures { λ r. ⌜ r ≡ sameBytes (bytesOf (now (s .entry)) body) (now (name .entry)) ⌝ }
-{
-    let from = body.at;
-    let to = body.end;
-    buffer::same(buffer::part(s, from, to), name)
 }
 
 // An AlgorithmIdentifier.

@@ -7,14 +7,13 @@ ghost use lib.ListN.{length};
 ghost use Rattle.der.specs.Choice.{if_then_else_};
 ghost use Rattle.der.specs.Content.{bytesOf};
 ghost use Rattle.buffer.specs.Numbers.{fileBytes};
-ghost use Rattle.buffer.specs.Bytes.{sameBytes};
+ghost use Rattle.range.specs.Bytes.{sameBytes};
 ghost use Rattle.pkcs12.specs.Identifiers.{x509Certificate};
-ghost use Rattle.buffer.specs.Range.{range};
+ghost use Rattle.range.specs.Range.{range};
 ghost use Rattle.pkcs12.specs.Walk.{rangeOf, algorithmAt, sealedAt, keyAt, valueAt, typedAt, encryptedInfoAt};
 ghost use Rattle.pkcs12.specs.Walk.{encryptedAt};
 ghost use Rattle.parts.specs.Steps.{someParametersAt, parametersAt, sealedValueAt, typedValueAt};
 ghost use Rattle.parts.specs.Steps.{encryptedPartsAt, encryptedContentAt};
-use buffer::Range;
 use der::Checked;
 use der::Cursor;
 use der::Element;
@@ -24,6 +23,7 @@ use pkcs12::DATA;
 use pkcs12::Parts;
 use pkcs12::PartsAt;
 use pkcs12::X509_CERTIFICATE;
+use range::Range;
 
 // The range a..b.
 pub(crate) fn range(a: usize, b: usize) -> Range
@@ -225,7 +225,7 @@ fn is_x509(certificate: bool, s: &[u8], i: Cursor) -> bool
     ensures { λ r. ⌜ r ≡ (if certificate then sameBytes (bytesOf (now (s .entry)) i) x509Certificate else false) ⌝ }
 {
     if certificate {
-        return crate::named(s, i, &X509_CERTIFICATE);
+        return range::named(s, i, &X509_CERTIFICATE);
     }
     false
 }
@@ -329,7 +329,7 @@ fn encrypted_info(s: &[u8], c: Cursor) -> PartsAt
                 body: i,
                 next: m,
             } => {
-                if crate::named(s, i, &DATA) {
+                if range::named(s, i, &DATA) {
                     return encrypted_parts(s, m, next);
                 }
                 let at = body.at;

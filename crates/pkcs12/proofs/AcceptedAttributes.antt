@@ -31,7 +31,7 @@ use Rattle.pkcs12.specs.Walk.{rangeOf, Walked, Refused, Went, onWalked, 
 use Rattle.pkcs12.specs.Walk.{attributeAt, setAt}
 use Rattle.pkcs12.specs.Laid.{AttributeLaid, AttributesLaid, no-attribute, one-attribute, SetLaid, no-set}
 use Rattle.pkcs12.specs.Laid.{one-set}
-use Rattle.buffer.specs.declared.Range.{Range}
+use Rattle.range.specs.declared.Range.{Range}
 use Rattle.pkcs12.specs.declared.row.AttributeRow.{AttributeRow}
 use Rattle.pkcs12.proofs.Parents.{by-expect, by-identifier, by-elements, by-finish, In, in-body, finished}
 use Rattle.pkcs12.proofs.Parents.{laid-to, closed, closed-identifier, opaques-count}

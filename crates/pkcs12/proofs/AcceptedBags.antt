@@ -26,7 +26,7 @@ use Rattle.pkcs12.specs.Table.{noParts, bagRow, Rows}
 use Rattle.pkcs12.specs.Walk.{rangeOf, Walked, Refused, Went, run, counting, addBag, setAt, Owner, owner}
 use Rattle.pkcs12.specs.Walk.{leafAt, contentAt, bagAt, safeContentsAt, keyAt, sealedAt, typedAt}
 use Rattle.pkcs12.specs.Laid.{ElementLaid, LeafLaid, BagLaid, BagsLaid, no-bag, one-bag, one-nest}
-use Rattle.buffer.specs.declared.Range.{Range}
+use Rattle.range.specs.declared.Range.{Range}
 use Rattle.pkcs12.specs.declared.row.Parts.{Parts}
 use Rattle.pkcs12.specs.declared.answers.PartsAt.{PartsAt}
 use Rattle.pkcs12.specs.declared.kind.BagKind.{BagKind}

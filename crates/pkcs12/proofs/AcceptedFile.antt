@@ -19,24 +19,24 @@ use Rattle.buffer.specs.Numbers.{fileBytes}
 use Rattle.der.specs.Numbers.{sequenceTag, contextTag}
 use Rattle.pkcs12.specs.Numbers.{pfxVersion}
 use Rattle.pkcs12.specs.Identifiers.{dataType, signedType}
-use Rattle.buffer.specs.Bytes.{sameBytes}
+use Rattle.range.specs.Bytes.{sameBytes}
 use Rattle.pkcs12.specs.Syntax.{Safe, Pfx}
 use Rattle.pkcs12.specs.Encode.{contentInfo, dataBytes, safesBytes, macBytes, encode}
 use Rattle.pkcs12.specs.Valid.{Valid, ValidSafes, ValidMac}
 use Rattle.pkcs12.specs.Elements.{safesCount, elements}
-use Rattle.buffer.specs.Range.{range}
+use Rattle.range.specs.Range.{range}
 use Rattle.pkcs12.specs.Table.{Rows, tableOf}
 use Rattle.pkcs12.specs.Walk.{rangeOf, Walked, Refused, Went, run, counting, dataAt, safeAt, safesAt, startRows}
 use Rattle.pkcs12.specs.Walk.{outerValueAt, outerAt, macAt, bodyAt, refused, onAnswer, alone, pfxAt, readFile}
 use Rattle.pkcs12.specs.Laid.{ElementLaid, DataLaid, SafesLaid, MacLaid, PfxLaid}
 use Rattle.pkcs12.specs.Accepted.{IsAccepted}
-use Rattle.buffer.specs.declared.Range.{Range}
+use Rattle.range.specs.declared.Range.{Range}
 use Rattle.pkcs12.specs.declared.row.Mac.{Mac}
 use Rattle.pkcs12.specs.declared.table.Table.{Table}
 use Rattle.pkcs12.specs.declared.answers.Answer.{Answer}
 use Rattle.pkcs12.specs.declared.answers.Answer.the-variants.{Accepted}
 use Rattle.pkcs12.specs.declared.answers.Reading.{Reading}
-use Rattle.buffer.proofs.SameBytes.{same-is}
+use Rattle.range.proofs.SameBytes.{same-is}
 use Rattle.pkcs12.proofs.Parents.{by-expect, by-identifier, by-integer, by-finish, In, in-body, in-next}
 use Rattle.pkcs12.proofs.Parents.{finished, laid-to, closed, closed-identifier}
 use Rattle.pkcs12.proofs.Grown.{Fits}

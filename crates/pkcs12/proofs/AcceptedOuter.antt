@@ -19,7 +19,7 @@ use Rattle.der.specs.declared.Cursor.{Cursor}
 use Rattle.der.proofs.Choices.{by-test, by-le, by-eq}
 use Rattle.der.proofs.Spans.{span-empty, span-join, span-to}
 use Rattle.pkcs12.specs.Numbers.{ciphertextTag, attributedVersion, encryptedVersion, defaultIterations}
-use Rattle.buffer.specs.Bytes.{sameBytes}
+use Rattle.range.specs.Bytes.{sameBytes}
 use Rattle.pkcs12.specs.Identifiers.{dataType}
 use Rattle.pkcs12.specs.Syntax.{Sealed, MacData}
 use Rattle.pkcs12.specs.Encode.{algorithmBytes, sealedBytes, encryptedInfo, iterationsBytes, macBytes}
@@ -29,10 +29,10 @@ use Rattle.pkcs12.specs.Table.{macFields}
 use Rattle.pkcs12.specs.Walk.{rangeOf, algorithmAt, withValue, sealedAt, encryptedInfoAt, encryptedAt, onMac}
 use Rattle.pkcs12.specs.Walk.{iterationsAt, macAt}
 use Rattle.pkcs12.specs.Laid.{ElementLaid, AlgorithmLaid, EncryptedLaid, MacLaid}
-use Rattle.buffer.specs.declared.Range.{Range}
+use Rattle.range.specs.declared.Range.{Range}
 use Rattle.pkcs12.specs.declared.row.Parts.{Parts}
 use Rattle.pkcs12.specs.declared.answers.PartsAt.{PartsAt}
-use Rattle.buffer.proofs.SameBytes.{same-is}
+use Rattle.range.proofs.SameBytes.{same-is}
 use Rattle.pkcs12.proofs.AcceptedParts.{OfParts, by-parts, AlgorithmIs, algorithm-of, again, SealedIs}
 use Rattle.pkcs12.proofs.AcceptedParts.{sealed-of}
 use Rattle.pkcs12.proofs.Parents.{by-expect, by-identifier, by-integer, by-finish, In, in-body, in-next}

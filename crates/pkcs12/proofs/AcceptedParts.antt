@@ -21,23 +21,23 @@ use Rattle.der.proofs.Choices.{never, by-lt}
 use Rattle.der.proofs.Opaque.{by-checked}
 use Rattle.der.proofs.Grammar.{opaque-sound}
 use Rattle.der.proofs.Spans.{span-empty, span-join, span-to}
-use Rattle.buffer.specs.Bytes.{sameBytes}
+use Rattle.range.specs.Bytes.{sameBytes}
 use Rattle.pkcs12.specs.Identifiers.{x509Certificate}
 use Rattle.pkcs12.specs.Syntax.{Algorithm, Typed, certificate, crl, secret, key, shrouded, typed, kindOfTyped}
 use Rattle.pkcs12.specs.Syntax.{kindOfLeaf}
 use Rattle.pkcs12.specs.Encode.{algorithmBytes, sealedBytes, leafBytes}
 use Rattle.pkcs12.specs.Valid.{AtMostOne, ValidAlgorithm, ValidSealed, ValueRule, ValidLeaf}
 use Rattle.pkcs12.specs.Elements.{opaqueCount, algorithmCount, sealedCount, leafCount}
-use Rattle.buffer.specs.Range.{range, noRange}
+use Rattle.range.specs.Range.{range, noRange}
 use Rattle.pkcs12.specs.Table.{parts}
 use Rattle.pkcs12.specs.Walk.{rangeOf, onParts, algorithmAt, withValue, sealedAt, keyAt, valueAt, typedAt}
 use Rattle.pkcs12.specs.Laid.{AlgorithmLaid, SealedLaid, LeafLaid}
-use Rattle.buffer.specs.declared.Range.{Range}
+use Rattle.range.specs.declared.Range.{Range}
 use Rattle.pkcs12.specs.declared.row.Parts.{Parts}
 use Rattle.pkcs12.specs.declared.answers.PartsAt.{PartsAt}
 use Rattle.pkcs12.specs.declared.kind.BagKind.{BagKind}
 use Rattle.pkcs12.specs.declared.kind.BagKind.the-variants.{Key, ShroudedKey}
-use Rattle.buffer.proofs.SameBytes.{same-self}
+use Rattle.range.proofs.SameBytes.{same-self}
 use Rattle.pkcs12.proofs.Parents.{by-expect, by-identifier, by-opaque, by-finish, In, in-body, finished}
 use Rattle.pkcs12.proofs.Parents.{laid-to, closed, closed-any, closed-identifier, settled, first-byte}
 use Rattle.pkcs12.proofs.Parents.{some-byte, nothing-count, at-most-one, Is}

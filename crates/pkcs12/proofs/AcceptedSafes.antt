@@ -17,7 +17,7 @@ use Rattle.der.proofs.Octets.{tlv-long}
 use Rattle.der.proofs.Spans.{span-empty, span-join, span-to}
 use Rattle.pkcs12.specs.Numbers.{safeRows, bagRows, levels}
 use Rattle.pkcs12.specs.Identifiers.{dataType, encryptedType, envelopedType}
-use Rattle.buffer.specs.Bytes.{sameBytes}
+use Rattle.range.specs.Bytes.{sameBytes}
 use Rattle.pkcs12.specs.Syntax.{Bags, Safe, plain, encrypted}
 use Rattle.pkcs12.specs.Encode.{contentInfo, dataBytes, bagsBytes, safeBytes, safesBytes}
 use Rattle.pkcs12.specs.Valid.{ValidSafes}
@@ -26,14 +26,14 @@ use Rattle.pkcs12.specs.Table.{noParts, safeRow, Rows}
 use Rattle.pkcs12.specs.Walk.{rangeOf, Walked, Refused, Went, run, addSafe, owner, safeContentsAt, dataAt}
 use Rattle.pkcs12.specs.Walk.{plainAt, sealedSafeAt, encryptedAt, safeValueAt, safeAt}
 use Rattle.pkcs12.specs.Laid.{ElementLaid, ContentLaid, SafesLaid, no-safe, one-plain, one-encrypted}
-use Rattle.buffer.specs.declared.Range.{Range}
+use Rattle.range.specs.declared.Range.{Range}
 use Rattle.pkcs12.specs.declared.row.Parts.{Parts}
 use Rattle.pkcs12.specs.declared.kind.SafeKind.the-variants.{Plain, Encrypted}
 use Rattle.pkcs12.specs.declared.row.Enclosing.{Enclosing}
 use Rattle.pkcs12.specs.declared.row.SafeRow.{SafeRow}
 use Rattle.pkcs12.specs.declared.row.BagRow.{BagRow}
 use Rattle.pkcs12.specs.declared.row.AttributeRow.{AttributeRow}
-use Rattle.buffer.proofs.SameBytes.{same-is}
+use Rattle.range.proofs.SameBytes.{same-is}
 use Rattle.pkcs12.proofs.Parents.{by-expect, by-identifier, by-finish, In, in-body, finished, laid-to, closed}
 use Rattle.pkcs12.proofs.Parents.{closed-identifier}
 use Rattle.pkcs12.proofs.Grown.{Grown, grown-none, grown-then, grown-safe, longer-length}

@@ -23,7 +23,7 @@ use Rattle.der.proofs.Laws.{identifier-rule-iff, opaque-iff, elements-iff}
 use Rattle.der.proofs.Choices.{never, by-test}
 use Rattle.der.proofs.Spans.{span-whole, span-same, span-to, bytes-drop, bytes-take}
 use Rattle.pkcs12.specs.Numbers.{safeRows, bagRows, attributeRows}
-use Rattle.buffer.specs.Bytes.{sameBytes}
+use Rattle.range.specs.Bytes.{sameBytes}
 use Rattle.pkcs12.specs.Syntax.{Leaf, Attribute, Set, absent, present, Bags, none, bag, nest, Safe, plain}
 use Rattle.pkcs12.specs.Syntax.{encrypted, Pfx}
 use Rattle.pkcs12.specs.Encode.{encode}
@@ -38,7 +38,7 @@ use Rattle.pkcs12.specs.Values.{onContent, onLevel, bagsFrom, alsoSafe, 
 use Rattle.pkcs12.specs.Values.{treeOf}
 use Rattle.pkcs12.specs.Table.{Rows, sealedIn, contentIn, safeIn, safeShown, bagShown, attributeShown, macShown}
 use Rattle.pkcs12.specs.Table.{shown, rowsIn, valuesOf, readingOf}
-use Rattle.buffer.specs.Range.{bytesIn, lies}
+use Rattle.range.specs.Range.{bytesIn, lies}
 use Rattle.der.specs.Named.{Each}
 use Rattle.pkcs12.specs.Sound.{Lies, SealedLies, TypedLies, PartsLie, SafeLies, RangesLie, Sound}
 use Rattle.pkcs12.specs.Checks.{all, countsFit, namesType, oneOpaque, allOpaque, holdsOpaque, holdsAll}
@@ -46,7 +46,7 @@ use Rattle.pkcs12.specs.Checks.{holdsAtMostOne, hasTag, holdsTagged, isS
 use Rattle.pkcs12.specs.Checks.{safeHolds, bagHolds, safeTest, bagTest, attributeTest, macTest, rowsTest}
 use Rattle.pkcs12.specs.Checks.{keepsRules}
 use Rattle.pkcs12.specs.Written.{writtenAs, fileOf}
-use Rattle.buffer.specs.declared.Range.{Range}
+use Rattle.range.specs.declared.Range.{Range}
 use Rattle.pkcs12.specs.declared.row.Parts.{Parts}
 use Rattle.pkcs12.specs.declared.kind.SafeKind.{SafeKind}
 use Rattle.pkcs12.specs.declared.kind.SafeKind.the-variants.{Plain, Encrypted}
@@ -57,7 +57,7 @@ use Rattle.pkcs12.specs.declared.row.Enclosing.the-variants.{Bag}
 use Rattle.pkcs12.specs.declared.row.AttributeRow.{AttributeRow}
 use Rattle.pkcs12.specs.declared.row.Mac.{Mac}
 use Rattle.pkcs12.specs.declared.table.Table.{Table}
-use Rattle.buffer.proofs.SameBytes.{same-self, same-is}
+use Rattle.range.proofs.SameBytes.{same-self, same-is}
 use Rattle.pkcs12.proofs.Parents.{by-opaque, by-elements}
 use Rattle.pkcs12.proofs.Shown.{each-join}
 use Rattle.pkcs12.proofs.Rows.{tree-rows}

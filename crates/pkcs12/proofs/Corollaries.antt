@@ -18,7 +18,7 @@ use Rattle.pkcs12.specs.Laid.{ElementLaid, PfxLaid}
 use Rattle.pkcs12.specs.Accepted.{IsAccepted, Follows, tableFrom, readingFrom, endToEnd}
 use Rattle.der.specs.Named.{Each}
 use Rattle.pkcs12.specs.Sound.{Sound}
-use Rattle.buffer.specs.declared.Range.{Range}
+use Rattle.range.specs.declared.Range.{Range}
 use Rattle.pkcs12.specs.declared.row.Mac.{Mac}
 use Rattle.pkcs12.specs.declared.table.Table.{Table}
 use Rattle.pkcs12.proofs.Rows.{rows-tree}

@@ -29,7 +29,7 @@ use Rattle.der.proofs.Values.{identifier-then, integer-then}
 use Rattle.der.proofs.Grammar.{tree-accepted}
 use Rattle.buffer.specs.Numbers.{fileBytes}
 use Rattle.pkcs12.specs.Numbers.{ciphertextTag, encryptedVersion, defaultIterations}
-use Rattle.buffer.specs.Bytes.{sameBytes}
+use Rattle.range.specs.Bytes.{sameBytes}
 use Rattle.pkcs12.specs.Identifiers.{dataType, x509Certificate}
 use Rattle.pkcs12.specs.Syntax.{Algorithm, Sealed, Attribute, Set, Safe, plain, encrypted, MacData}
 use Rattle.pkcs12.specs.Encode.{algorithmBytes, sealedBytes, contentInfo, dataBytes, attributeBytes, bagBytes}
@@ -37,14 +37,14 @@ use Rattle.pkcs12.specs.Encode.{encryptedInfo, safeBytes, iterationsByte
 use Rattle.pkcs12.specs.Valid.{Opaque, OpaqueWith, AtMostOne, ValidAlgorithm, ValidSealed, ValidMac}
 use Rattle.pkcs12.specs.Walk.{algorithmAt, sealedAt, keyAt, valueAt, typedAt, encryptedInfoAt, encryptedAt}
 use Rattle.pkcs12.specs.Walk.{iterationsAt, macAt}
-use Rattle.buffer.specs.Range.{range}
-use Rattle.buffer.specs.declared.Range.{Range}
+use Rattle.range.specs.Range.{range}
+use Rattle.range.specs.declared.Range.{Range}
 use Rattle.pkcs12.specs.declared.row.Parts.{Parts}
 use Rattle.pkcs12.specs.declared.kind.BagKind.{BagKind}
 use Rattle.pkcs12.specs.declared.row.Mac.{Mac}
 use Rattle.pkcs12.specs.declared.answers.MacAt.{MacAt}
 use Rattle.pkcs12.specs.declared.answers.PartsAt.{PartsAt}
-use Rattle.buffer.proofs.SameBytes.{same-self}
+use Rattle.range.proofs.SameBytes.{same-self}
 use Rattle.pkcs12.proofs.Named.{data-rule}
 
 -- parts were found, and n is the cursor past them

@@ -43,7 +43,7 @@ use Rattle.pkcs12.specs.declared.kind.BagKind.{BagKind}
 use Rattle.pkcs12.specs.declared.kind.BagKind.the-variants.{Key, ShroudedKey, Certificate, Crl, Secret, Nested}
 use Rattle.pkcs12.specs.declared.answers.PartsAt.{PartsAt}
 use Rattle.pkcs12.specs.declared.answers.Answer.the-variants.{Accepted}
-use Rattle.buffer.proofs.SameBytes.{same-self, same-is}
+use Rattle.range.proofs.SameBytes.{same-self, same-is}
 use Rattle.pkcs12.proofs.Named.{data-rule, encrypted-rule, other-type, Served, on-kind, kind-named}
 use Rattle.pkcs12.proofs.EncodedParts.{Ends, parts-then, mac-then, attribute-some, bag-some, safe-some}
 use Rattle.pkcs12.proofs.EncodedParts.{mac-some, finished, expect-then, tag-of, sequence-then, named-then}

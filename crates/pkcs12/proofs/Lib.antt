@@ -1,9 +1,8 @@
--- What is proved of reading and of writing: `Theorems` states it. Below: the bench set computed,
+-- What is proved of reading and of writing: `Theorems` states it. Below:
 -- identifiers, rows and readings, what is written is read (Encoded..), what is read was written
 -- (Accepted..), one file for one reading, and the number of elements.
 pub mod Theorems
 pub mod Numbered
-pub mod Bench
 pub mod Stored
 pub mod Named
 pub mod Rows
@@ -27,3 +26,4 @@ pub mod Writing
 pub mod Delivered
 pub mod Outcomes
 pub mod Alike
+pub mod MacInput

@@ -9,11 +9,11 @@ use Rattle.der.specs.Octets.{IdentifierRule}
 use Rattle.der.proofs.Choices.{never, by-test}
 use Rattle.der.proofs.Content.{identifier-rule}
 use Rattle.pkcs12.specs.Identifiers.{dataType, encryptedType, identifierOf, kindOf}
-use Rattle.buffer.specs.Bytes.{sameBytes}
+use Rattle.range.specs.Bytes.{sameBytes}
 use Rattle.pkcs12.specs.Walk.{onKind}
 use Rattle.pkcs12.specs.declared.kind.BagKind.{BagKind}
 use Rattle.pkcs12.specs.declared.kind.BagKind.the-variants.{Key, ShroudedKey, Certificate, Crl, Secret, Nested}
-use Rattle.buffer.proofs.SameBytes.{same-is}
+use Rattle.range.proofs.SameBytes.{same-is}
 
 -- the types of content keep the rule of an identifier
 pub data-rule : IdentifierRule dataType

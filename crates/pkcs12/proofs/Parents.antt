@@ -31,8 +31,8 @@ use Rattle.pkcs12.specs.Elements.{opaqueCount}
 use Rattle.pkcs12.specs.Valid.{Opaque, AtMostOne}
 use Rattle.pkcs12.specs.Walk.{rangeOf}
 use Rattle.pkcs12.specs.Laid.{ElementLaid, PieceLaid}
-use Rattle.buffer.specs.Range.{range}
-use Rattle.buffer.specs.declared.Range.{Range}
+use Rattle.range.specs.Range.{range}
+use Rattle.range.specs.declared.Range.{Range}
 use Rattle.pkcs12.specs.declared.row.Parts.{Parts}
 
 -- what holds of a refusal and of what was found holds of what is made of them, for each kind of

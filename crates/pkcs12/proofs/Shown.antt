@@ -15,14 +15,14 @@ use Rattle.pkcs12.specs.Values.{SafeValue, Content, leaf, BagValue, Attr
 use Rattle.pkcs12.specs.Values.{ownValues, setValues, attributeValues, safeValues, bagsOfSafes}
 use Rattle.pkcs12.specs.Values.{attributesOfSafes, rowsOf}
 use Rattle.pkcs12.specs.Table.{Rows, sealedIn, contentIn, safeShown, bagShown, attributeShown, shown}
-use Rattle.buffer.specs.Range.{bytesIn}
+use Rattle.range.specs.Range.{bytesIn}
 use Rattle.pkcs12.specs.Walk.{Owner, owner}
 use Rattle.pkcs12.specs.Laid.{ElementLaid, PieceLaid, AlgorithmLaid, LeafLaid, AttributesLaid, no-attribute}
 use Rattle.pkcs12.specs.Laid.{one-attribute, SetLaid, no-set, one-set, BagLaid, BagsLaid, no-bag, one-bag}
 use Rattle.pkcs12.specs.Laid.{one-nest, SafesLaid, no-safe, one-plain, one-encrypted, PfxLaid}
 use Rattle.der.specs.Named.{Each}
 use Rattle.pkcs12.specs.Sound.{Lies, SealedLies, PartsLie, SafeLies, RangesLie}
-use Rattle.buffer.specs.declared.Range.{Range}
+use Rattle.range.specs.declared.Range.{Range}
 use Rattle.pkcs12.specs.declared.row.Parts.{Parts}
 use Rattle.pkcs12.specs.declared.row.Enclosing.{Enclosing}
 use Rattle.pkcs12.specs.declared.row.Enclosing.the-variants.{Bag}

@@ -31,16 +31,13 @@ use Rattle.pkcs12.specs.Written.{fileOf, writeFile}
 use Rattle.buffer.specs.Written.{success}
 use Rattle.pkcs12.specs.Delivered.{Delivered}
 use Rattle.pkcs12.specs.Alike.{Alike}
-use Rattle.buffer.specs.declared.Range.{Range}
+use Rattle.range.specs.declared.Range.{Range}
 use Rattle.pkcs12.specs.declared.table.Table.{Table}
 use Rattle.pkcs12.specs.declared.answers.Answer.{Answer}
 use Rattle.buffer.specs.declared.Written.{Written}
 use Rattle.buffer.specs.declared.Written.the-variants.{Length}
 use Rattle.pkcs12.specs.Numbered.{NumbersNamed}
-use Rattle.pkcs12.specs.Bench.{Holds, benchCases}
-use Rattle.pkcs12.specs.Telling.{slipCases, numberCases}
 use Rattle.pkcs12.proofs.Numbered as numbered
-use Rattle.pkcs12.proofs.Bench as bench
 use Rattle.pkcs12.proofs.Rows as rows
 use Rattle.pkcs12.proofs.Refusals as refusals
 use Rattle.pkcs12.proofs.Corollaries as corollaries
@@ -190,19 +187,8 @@ rows-show-reading x v = rows.rows-tree x (v .safes)
 pub reading-has-rows : (v : Values) (x : Pfx) → treeOf v ≡ some x → rowsOf x ≡ v
 reading-has-rows = rows.tree-rows
 
--- ---- the numbers, and the bench set
+-- ---- the numbers
 
 -- Each name of a refusal, a size, a tag, a number or an identifier is what the rules have for it.
 pub numbers-named : NumbersNamed
 numbers-named = numbered.numbers-named
-
--- Cases (a) to (j) of Rule 8.4, files that tell the slips of Rule 8.5, and files that tell a wrong
--- number: what reading each returns, with every field of the table.
-pub bench-table : Holds benchCases
-bench-table = bench.bench
-
-pub slips-table : Holds slipCases
-slips-table = bench.slips
-
-pub numbers-table : Holds numberCases
-numbers-table = bench.numbers

@@ -28,7 +28,7 @@ use Rattle.pkcs12.specs.Values.{nested, BagValue, AttributeValue, Values
 use Rattle.pkcs12.specs.Values.{attributeValues, safeValues, bagsOfSafes, attributesOfSafes, rowsOf}
 use Rattle.pkcs12.specs.Table.{Rows, algorithmIn, sealedIn, contentIn, safeIn, safeShown, bagShown}
 use Rattle.pkcs12.specs.Table.{attributeShown, shown, rowsIn, valuesOf, readingOf}
-use Rattle.buffer.specs.Range.{bytesIn}
+use Rattle.range.specs.Range.{bytesIn}
 use Rattle.pkcs12.specs.Accepted.{IsAccepted, Follows, tableFrom, readingFrom}
 use Rattle.der.specs.Named.{Each}
 use Rattle.pkcs12.specs.Sound.{Sound}

@@ -13,10 +13,10 @@ use Rattle.der.specs.Content.{identifierBody}
 use Rattle.der.specs.Opaque.{onChecked, opaqueAt, elementsAt}
 use Rattle.pkcs12.specs.Numbers.{safeRows, bagRows, attributeRows}
 use Rattle.pkcs12.specs.Identifiers.{x509Certificate}
-use Rattle.buffer.specs.Bytes.{sameBytes}
+use Rattle.range.specs.Bytes.{sameBytes}
 use Rattle.pkcs12.specs.Table.{Rows, rowsIn}
-use Rattle.buffer.specs.Range.{bytesIn, lies}
-use Rattle.buffer.specs.declared.Range.{Range}
+use Rattle.range.specs.Range.{bytesIn, lies}
+use Rattle.range.specs.declared.Range.{Range}
 use Rattle.pkcs12.specs.declared.row.Parts.{Parts}
 use Rattle.pkcs12.specs.declared.kind.SafeKind.{SafeKind}
 use Rattle.pkcs12.specs.declared.kind.SafeKind.the-variants.{Plain, Encrypted}

@@ -6,7 +6,7 @@ use lib.Dec.{eqb}
 use Rattle.der.specs.Choice.{if_then_else_}
 use Rattle.pkcs12.specs.declared.kind.BagKind.{BagKind}
 use Rattle.pkcs12.specs.declared.kind.BagKind.the-variants.{Key, ShroudedKey, Certificate, Crl, Secret, Nested}
-use Rattle.buffer.specs.Bytes.{sameBytes}
+use Rattle.range.specs.Bytes.{sameBytes}
 
 -- Rule 3.23: data is 2A 86 48 86 F7 0D 01 07 01; signedData, envelopedData and encryptedData have
 -- the last byte 02, 03, 06

@@ -17,10 +17,10 @@ use Rattle.pkcs12.specs.Encode.{algorithmBytes, sealedBytes, dataBytes, 
 use Rattle.pkcs12.specs.Encode.{bagsBytes, encryptedInfo, safesBytes, macBytes, iterationsBytes}
 use Rattle.pkcs12.specs.Valid.{bagsIn}
 use Rattle.pkcs12.specs.Values.{stands}
-use Rattle.buffer.specs.Range.{noRange}
+use Rattle.range.specs.Range.{noRange}
 use Rattle.pkcs12.specs.Table.{parts, noParts, safeRow, bagRow, Rows}
 use Rattle.pkcs12.specs.Walk.{Owner, owner}
-use Rattle.buffer.specs.declared.Range.{Range}
+use Rattle.range.specs.declared.Range.{Range}
 use Rattle.pkcs12.specs.declared.row.Parts.{Parts}
 use Rattle.pkcs12.specs.declared.kind.SafeKind.the-variants.{Plain, Encrypted}
 use Rattle.pkcs12.specs.declared.kind.BagKind.{BagKind}

@@ -19,5 +19,3 @@ pub mod Written
 pub mod Delivered
 pub mod Alike
 pub mod Numbered
-pub mod Bench
-pub mod Telling

@@ -4,7 +4,7 @@ use Prim.Native.Nat.{ℕ}
 use Rattle.der.specs.Element.{fault}
 use Rattle.der.specs.Report.{Report, passing, refusing, cursorValues}
 use Rattle.der.specs.declared.Cursor.{Cursor}
-use Rattle.buffer.specs.declared.Range.{Range}
+use Rattle.range.specs.declared.Range.{Range}
 use Rattle.pkcs12.specs.declared.row.Parts.{Parts}
 use Rattle.pkcs12.specs.declared.kind.BagKind.{BagKind}
 use Rattle.pkcs12.specs.declared.kind.BagKind.the-variants.{Key, ShroudedKey, Certificate, Crl, Secret, Nested}

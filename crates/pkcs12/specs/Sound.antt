@@ -8,7 +8,7 @@ use Rattle.pkcs12.specs.Numbers.{safeRows, bagRows, attributeRows}
 use Rattle.pkcs12.specs.Syntax.{Pfx}
 use Rattle.pkcs12.specs.Valid.{Valid}
 use Rattle.pkcs12.specs.Table.{Rows, rowsIn, readingOf}
-use Rattle.buffer.specs.declared.Range.{Range}
+use Rattle.range.specs.declared.Range.{Range}
 use Rattle.pkcs12.specs.declared.row.Parts.{Parts}
 use Rattle.pkcs12.specs.declared.kind.SafeKind.{SafeKind}
 use Rattle.pkcs12.specs.declared.kind.SafeKind.the-variants.{Plain, Encrypted}

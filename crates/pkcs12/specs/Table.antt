@@ -2,7 +2,7 @@
 use mathlib.Core.Bool.{Bool, false}
 use mathlib.Core.List.{List, [], _++_, map}
 use mathlib.Core.Option.{Option}
-use Prim.Native.Nat.{ℕ, _+_, _-_}
+use Prim.Native.Nat.{ℕ, _+_, _-_, min}
 use lib.ListN.{length, take, replicate}
 use lib.Seq.{slice}
 use Rattle.pkcs12.specs.Numbers.{safeRows, bagRows, attributeRows}
@@ -10,7 +10,7 @@ use Rattle.pkcs12.specs.Syntax.{Algorithm, Sealed, Typed, certificate, c
 use Rattle.pkcs12.specs.Syntax.{MacData, Pfx}
 use Rattle.pkcs12.specs.Values.{SafeValue, empty-safe, plain-safe, encrypted-safe, Content, empty-bag, leaf}
 use Rattle.pkcs12.specs.Values.{nested, BagValue, AttributeValue, Values, treeOf}
-use Rattle.buffer.specs.declared.Range.{Range}
+use Rattle.range.specs.declared.Range.{Range}
 use Rattle.pkcs12.specs.declared.row.Parts.{Parts}
 use Rattle.pkcs12.specs.declared.kind.SafeKind.{SafeKind}
 use Rattle.pkcs12.specs.declared.kind.SafeKind.the-variants.{Plain, Encrypted}
@@ -22,7 +22,7 @@ use Rattle.pkcs12.specs.declared.row.BagRow.{BagRow}
 use Rattle.pkcs12.specs.declared.row.AttributeRow.{AttributeRow}
 use Rattle.pkcs12.specs.declared.row.Mac.{Mac}
 use Rattle.pkcs12.specs.declared.table.Table.{Table}
-use Rattle.buffer.specs.Range.{noRange, bytesIn}
+use Rattle.range.specs.Range.{noRange, bytesIn}
 
 abbrev pub parts : Range → Range → Range → Parts
 parts i p v = record { identifier = i; parameters = p; value = v }
@@ -157,6 +157,16 @@ shown s st m =
       attributes = map (attributeShown s) (st .attributes);
       mac = macShown s m;
     }
+
+-- the rows that a table counts; a count past its array counts as the array's rows
+abbrev pub safeCount : Table → ℕ
+safeCount t = min (t .«safe_count») safeRows
+
+abbrev pub bagCount : Table → ℕ
+bagCount t = min (t .«bag_count») bagRows
+
+abbrev pub attributeCount : Table → ℕ
+attributeCount t = min (t .«attribute_count») attributeRows
 
 unfoldable pub valuesOf : Table → List ℕ → Values
 valuesOf t s = shown s (rowsIn t) (t .mac)

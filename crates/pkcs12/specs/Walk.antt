@@ -19,13 +19,13 @@ use Rattle.der.specs.declared.Checked.{Checked}
 use Rattle.pkcs12.specs.Numbers.{safeRows, bagRows, attributeRows, levels, notServed, ciphertextTag, pfxVersion}
 use Rattle.pkcs12.specs.Numbers.{encryptedVersion, attributedVersion, defaultIterations}
 use Rattle.buffer.specs.Numbers.{fileBytes, tooLong}
-use Rattle.buffer.specs.Bytes.{sameBytes}
+use Rattle.range.specs.Bytes.{sameBytes}
 use Rattle.pkcs12.specs.Identifiers.{dataType, signedType, envelopedType, encryptedType, x509Certificate}
 use Rattle.pkcs12.specs.Identifiers.{kindOf}
-use Rattle.buffer.specs.Range.{range, noRange}
+use Rattle.range.specs.Range.{range, noRange}
 use Rattle.pkcs12.specs.Table.{parts, noParts, safeRow, bagRow, attributeRow, macFields, Rows, tableOf}
 use Rattle.pkcs12.specs.Table.{emptyTable}
-use Rattle.buffer.specs.declared.Range.{Range}
+use Rattle.range.specs.declared.Range.{Range}
 use Rattle.pkcs12.specs.declared.row.Parts.{Parts}
 use Rattle.pkcs12.specs.declared.kind.SafeKind.the-variants.{Plain, Encrypted}
 use Rattle.pkcs12.specs.declared.kind.BagKind.{BagKind}

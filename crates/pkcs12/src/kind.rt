@@ -40,22 +40,22 @@ impl BagKind {
         ensures { λ r. ⌜ r ≡ kindOf (now (body .entry)) ⌝ }
         ensures { λ r. ⌜ kindReport r ≡ kindReport (kindOf (now (body .entry))) ⌝ }
     {
-        if buffer::same(body, &BagKind::KEY) {
+        if range::same(body, &BagKind::KEY) {
             return BagKind::Key;
         }
-        if buffer::same(body, &BagKind::SHROUDED_KEY) {
+        if range::same(body, &BagKind::SHROUDED_KEY) {
             return BagKind::ShroudedKey;
         }
-        if buffer::same(body, &BagKind::CERTIFICATE) {
+        if range::same(body, &BagKind::CERTIFICATE) {
             return BagKind::Certificate;
         }
-        if buffer::same(body, &BagKind::CRL) {
+        if range::same(body, &BagKind::CRL) {
             return BagKind::Crl;
         }
-        if buffer::same(body, &BagKind::SECRET) {
+        if range::same(body, &BagKind::SECRET) {
             return BagKind::Secret;
         }
-        if buffer::same(body, &BagKind::NESTED) {
+        if range::same(body, &BagKind::NESTED) {
             return BagKind::Nested;
         }
         BagKind::None

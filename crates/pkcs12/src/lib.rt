@@ -1,6 +1,10 @@
 // What the reading of a PKCS #12 file is kept in: the table with its rows, by value, and the kinds
 // of bag. The rules that a file follows and what is read from it are definitions in specs/, with
 // the theorems about them in proofs/.
+ghost use mathlib.Core.Path.{_≡_};
+ghost use Rattle.der.specs.Span.{Bytes};
+ghost use Rattle.range.specs.Range.{bytesIn};
+
 pub mod answers;
 pub mod identifiers;
 pub mod kind;
@@ -54,3 +58,13 @@ pub const ATTRIBUTED_VERSION: u32 = 2;
 
 // The iterations where none are written (Rule 3.22).
 pub const DEFAULT_ITERATIONS: u32 = 1;
+
+// The bytes that the MAC is computed over, that part of the caller's own file; none for a refused
+// file's table.
+pub fn mac_input(file: &[u8], table: Table) -> &[u8]
+    ensures { λ r. ⌜ now r ≡ bytesIn (now (file .entry)) (table .«mac_input») ⌝ }
+    ensures { λ _. ⌜ Bytes (now (file .entry)) ⌝ }
+{
+    let range = table.mac_input;
+    range.part(file)
+}

@@ -1,7 +1,7 @@
 // The rows of a table.
 use crate::kind::BagKind;
 use crate::kind::SafeKind;
-use buffer::Range;
+use range::Range;
 
 // The ranges of a safe, a bag or the MAC, by what its kind has. An AlgorithmIdentifier has an
 // identifier and parameters, and a certificate, CRL or secret the identifier of its type; the value

@@ -8,7 +8,7 @@ use crate::row::AttributeRow;
 use crate::row::BagRow;
 use crate::row::Mac;
 use crate::row::SafeRow;
-use buffer::Range;
+use range::Range;
 
 // Rows past the counts are empty. `elements` is the number of elements in the file.
 pub struct Table {

@@ -16,7 +16,7 @@ use Rattle.der.specs.declared.Element.the-variants.{Found}
 use Rattle.der.specs.declared.Checked.{Checked}
 use Rattle.buffer.specs.Numbers.{fileBytes, tooLong}
 use Rattle.pkcs12.specs.Numbers.{notServed, pfxVersion}
-use Rattle.buffer.specs.Bytes.{sameBytes}
+use Rattle.range.specs.Bytes.{sameBytes}
 use Rattle.pkcs12.specs.Identifiers.{dataType, signedType}
 use Rattle.pkcs12.specs.Table.{Rows, tableOf}
 use Rattle.pkcs12.specs.Walk.{Walked, Refused, Went, onWalked, run, counting, safeAt, startRows, safesAt, dataAt}

@@ -15,7 +15,7 @@ use Rattle.der.specs.declared.Cursor.{Cursor}
 use Rattle.der.specs.declared.Element.the-variants.{Found}
 use Rattle.der.specs.declared.Checked.{Checked}
 use Rattle.pkcs12.specs.Numbers.{safeRows, bagRows, levels}
-use Rattle.buffer.specs.Bytes.{sameBytes}
+use Rattle.range.specs.Bytes.{sameBytes}
 use Rattle.pkcs12.specs.Identifiers.{dataType, envelopedType, encryptedType, kindOf}
 use Rattle.pkcs12.specs.Table.{noParts, safeRow, bagRow, noMac, Rows, noRows, tableOf, emptyTable, rowsIn}
 use Rattle.pkcs12.specs.Walk.{keyAt, sealedAt, typedAt, encryptedAt, Walked, Refused, Went, onWalked, addSafe, addBag}

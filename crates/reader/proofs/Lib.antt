@@ -11,4 +11,3 @@ pub mod OneBag
 pub mod Nesting
 pub mod OneSafe
 pub mod Whole
-pub mod MacInput

@@ -21,12 +21,12 @@ use Rattle.der.proofs.Choices.{by-test}
 use Rattle.der.proofs.Opaque.{by-checked}
 use Rattle.buffer.specs.Numbers.{fileBytes}
 use Rattle.pkcs12.specs.Numbers.{safeRows, levels}
-use Rattle.buffer.specs.Bytes.{sameBytes}
+use Rattle.range.specs.Bytes.{sameBytes}
 use Rattle.pkcs12.specs.Identifiers.{dataType, encryptedType, envelopedType}
 use Rattle.pkcs12.specs.Table.{Rows, safeRow, noParts, noMac, table, tableOf, emptyTable, rowsIn}
 use Rattle.pkcs12.specs.Walk.{rangeOf, onParts, encryptedAt, Walked, Refused, Went, onWalked, run, addSafe, owner}
 use Rattle.pkcs12.specs.Walk.{safeContentsAt, safeAt, startRows}
-use Rattle.buffer.specs.declared.Range.{Range}
+use Rattle.range.specs.declared.Range.{Range}
 use Rattle.pkcs12.specs.declared.row.Parts.{Parts}
 use Rattle.pkcs12.specs.declared.answers.PartsAt.{PartsAt}
 use Rattle.pkcs12.specs.declared.kind.SafeKind.the-variants.{Plain, Encrypted}

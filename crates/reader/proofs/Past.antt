@@ -15,14 +15,14 @@ use Rattle.der.specs.declared.Element.the-variants.{Found}
 use Rattle.der.proofs.Choices.{by-test, by-le, by-eq}
 use Rattle.pkcs12.specs.Numbers.{safeRows, bagRows, attributeRows, levels}
 use Rattle.pkcs12.specs.Numbers.{defaultIterations}
-use Rattle.buffer.specs.Bytes.{sameBytes}
+use Rattle.range.specs.Bytes.{sameBytes}
 use Rattle.pkcs12.specs.Identifiers.{dataType, envelopedType, encryptedType, kindOf}
 use Rattle.pkcs12.specs.Table.{Rows}
 use Rattle.pkcs12.specs.Walk.{rangeOf, sealedAt, keyAt, typedAt, encryptedAt}
 use Rattle.pkcs12.specs.Walk.{Walked, Refused, Went, run, counting, attributeAt, setAt, Owner, leafAt, contentAt}
 use Rattle.pkcs12.specs.Walk.{bagAt, safeContentsAt, dataAt, plainAt, sealedSafeAt, safeValueAt, safeAt, iterationsAt}
 use Rattle.pkcs12.specs.Walk.{macAt}
-use Rattle.buffer.specs.declared.Range.{Range}
+use Rattle.range.specs.declared.Range.{Range}
 use Rattle.pkcs12.specs.declared.row.Parts.{Parts}
 use Rattle.pkcs12.specs.declared.answers.PartsAt.{PartsAt}
 use Rattle.pkcs12.specs.declared.kind.BagKind.{BagKind}

@@ -18,7 +18,7 @@ use Rattle.der.specs.declared.Checked.{Checked}
 use Rattle.der.specs.declared.Checked.the-variants.{Passed}
 use Rattle.der.proofs.Choices.{by-test, by-le}
 use Rattle.buffer.specs.Numbers.{fileBytes, tooLong}
-use Rattle.buffer.specs.Bytes.{sameBytes}
+use Rattle.range.specs.Bytes.{sameBytes}
 use Rattle.pkcs12.specs.Identifiers.{dataType, signedType}
 use Rattle.pkcs12.specs.Table.{Rows, table, noMac, tableOf, emptyTable}
 use Rattle.pkcs12.specs.Walk.{Walked, Refused, Went, onWalked, run, counting, safeAt, startRows, onMac, macAt}

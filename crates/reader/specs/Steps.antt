@@ -17,14 +17,14 @@ use Rattle.der.specs.declared.Cursor.{Cursor}
 use Rattle.der.specs.declared.Checked.{Checked}
 use Rattle.buffer.specs.Numbers.{fileBytes}
 use Rattle.pkcs12.specs.Numbers.{notServed, ciphertextTag, pfxVersion, defaultIterations}
-use Rattle.buffer.specs.Bytes.{sameBytes}
+use Rattle.range.specs.Bytes.{sameBytes}
 use Rattle.pkcs12.specs.Identifiers.{dataType, signedType, envelopedType, encryptedType, kindOf}
-use Rattle.buffer.specs.Range.{range, noRange}
+use Rattle.range.specs.Range.{range, noRange}
 use Rattle.pkcs12.specs.Table.{parts, macFields, noMac, Rows, tableOf, emptyTable, rowsIn}
 use Rattle.pkcs12.specs.Walk.{rangeOf, onParts, algorithmAt, withValue, sealedAt, keyAt, valueAt, typedAt}
 use Rattle.pkcs12.specs.Walk.{encryptedInfoAt, encryptedAt, Walked, Refused, Went, onWalked, setAt, onKind, onMac}
 use Rattle.pkcs12.specs.Walk.{iterationsAt, macAt, onAnswer}
-use Rattle.buffer.specs.declared.Range.{Range}
+use Rattle.range.specs.declared.Range.{Range}
 use Rattle.pkcs12.specs.declared.row.Parts.{Parts}
 use Rattle.pkcs12.specs.declared.answers.PartsAt.{PartsAt}
 use Rattle.pkcs12.specs.declared.kind.BagKind.{BagKind}

@@ -10,7 +10,6 @@ ghost use Rattle.pkcs12.specs.Identifiers.{kindOf};
 ghost use Rattle.pkcs12.specs.Walk.{onKind};
 ghost use Rattle.reader.specs.Steps.{SmallParts, attributeValuesAt, attributePartsAt, setHeadAt, leafOf};
 ghost use Rattle.reader.specs.Steps.{bagValueAt, bagOfAt, bagHeadAt};
-use buffer::Range;
 use der::Checked;
 use der::Cursor;
 use der::Element;
@@ -18,6 +17,7 @@ use der::Fault;
 use pkcs12::BagKind;
 use pkcs12::Parts;
 use pkcs12::PartsAt;
+use range::Range;
 
 // What stands in a bag before its attributes.
 pub(crate) enum Bag {
@@ -56,9 +56,9 @@ fn attribute_values(s: &[u8], i: Cursor, m: Cursor, n: Cursor) -> PartsAt
             Checked::Passed { count, next: _ } => match next.finish() {
                 Checked::Refused(f) => PartsAt::Refused(f),
                 Checked::Passed { count: _, next: _ } => {
-                    let identifier = parts::range_of(i);
+                    let identifier = Range::of(i);
                     let parameters = Range::EMPTY;
-                    let value = parts::range_of(body);
+                    let value = Range::of(body);
                     let parts = Parts {
                         identifier,
                         parameters,

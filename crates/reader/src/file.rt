@@ -10,7 +10,6 @@ ghost use Rattle.reader.specs.Steps.{pfxHeadAt, openedSafesAt, openedVal
 ghost use Rattle.reader.specs.Steps.{saltedAt, lastAt, closeAt};
 use crate::safes;
 use crate::safes::Octets;
-use buffer::Range;
 use der::Checked;
 use der::Cursor;
 use der::Element;
@@ -21,6 +20,7 @@ use pkcs12::Mac;
 use pkcs12::MacAt;
 use pkcs12::Parts;
 use pkcs12::PartsAt;
+use range::Range;
 
 // The cursors at the outer ContentInfo and past the PFX.
 enum Outer {
@@ -92,10 +92,10 @@ fn opened_value(s: &[u8], i: Cursor, at: usize, c: Cursor, mac: Cursor, file: Cu
     requires { ⌜ (i .at ≤ i .end) × (i .end ≤ length (now s)) ⌝ }
     ensures { λ r. ⌜ r ≡ openedValueAt (now (s .entry)) (bytesOf (now (s .entry)) i) at c mac file ⌝ }
 {
-    if parts::named(s, i, &pkcs12::DATA) {
+    if range::named(s, i, &pkcs12::DATA) {
         return opened_safes(s, c, mac, file);
     }
-    if parts::named(s, i, &pkcs12::SIGNED_DATA) {
+    if range::named(s, i, &pkcs12::SIGNED_DATA) {
         return Opened::Refused(Fault {
             number: pkcs12::NOT_SERVED,
             offset: at,
@@ -201,7 +201,7 @@ fn salted(s: &[u8], parts: Parts, count: usize, m: Cursor, n: Cursor) -> MacAt
     match m.octet_string(s) {
         Element::Refused(f) => MacAt::Refused(f),
         Element::Found { tag: _, body, next } => {
-            let salt = parts::range_of(body);
+            let salt = Range::of(body);
             let more = count + 2;
             match iterations(s, parts, salt, more, next) {
                 MacAt::Refused(f) => MacAt::Refused(f),

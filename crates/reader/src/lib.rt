@@ -1,9 +1,7 @@
-// Reads a PKCS #12 file into a table. `read` answers any bytes; `mac_input` gives the part of the
-// file that the MAC is computed over.
+// Reads a PKCS #12 file into a table.
 ghost use mathlib.Core.Path.{_≡_};
 ghost use Rattle.der.specs.Span.{Bytes};
 ghost use Rattle.pkcs12.specs.Report.{answerReport};
-ghost use Rattle.buffer.specs.Range.{bytesIn};
 ghost use Rattle.pkcs12.specs.Walk.{refused, readFile};
 
 mod bags;
@@ -86,13 +84,4 @@ pub fn read(file: &[u8]) -> Reading
             }
         }
     }
-}
-
-// The unit's MAC input, that part of the caller's own buffer; empty for a refused file's table.
-pub fn mac_input(file: &[u8], table: Table) -> &[u8]
-    ensures { λ r. ⌜ now r ≡ bytesIn (now (file .entry)) (table .«mac_input») ⌝ }
-    ensures { λ _. ⌜ Bytes (now (file .entry)) ⌝ }
-{
-    let range = table.mac_input;
-    range.part(file)
 }

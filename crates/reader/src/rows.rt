@@ -31,6 +31,7 @@ use pkcs12::PartsAt;
 use pkcs12::SafeKind;
 use pkcs12::SafeRow;
 use pkcs12::Table;
+use range::Range;
 
 // The elements that stand before the first safe: PFX, version, ContentInfo, its type, [0],
 // OCTET STRING, and the SEQUENCE of the safes.
@@ -272,7 +273,7 @@ fn start(m: Cursor) -> Table
     requires { ⌜ (m .at ≤ fileBytes) × (m .end ≤ fileBytes) ⌝ }
     ensures { λ r. ⌜ r ≡ tableOf (startRows m) noMac ⌝ }
 {
-    let input = parts::range_of(m);
+    let input = Range::of(m);
     let mut table = Table::empty();
     table.mac_input = input;
     table.elements = START_COUNT;

@@ -124,13 +124,13 @@ fn safe_value(s: &[u8], i: Cursor, at: usize, c: Cursor, n: Cursor) -> Contents
     requires { ⌜ (length (now s) ≤ fileBytes) × (i .at ≤ i .end) × (i .end ≤ length (now s)) ⌝ }
     ensures { λ r. ⌜ r ≡ safeOfAt (now (s .entry)) (bytesOf (now (s .entry)) i) at c n ⌝ }
 {
-    if parts::named(s, i, &pkcs12::DATA) {
+    if range::named(s, i, &pkcs12::DATA) {
         return plain(s, c, n);
     }
-    if parts::named(s, i, &pkcs12::ENCRYPTED_DATA) {
+    if range::named(s, i, &pkcs12::ENCRYPTED_DATA) {
         return encrypted(s, c, n);
     }
-    if parts::named(s, i, &pkcs12::ENVELOPED_DATA) {
+    if range::named(s, i, &pkcs12::ENVELOPED_DATA) {
         return Contents::Refused(Fault {
             number: pkcs12::NOT_SERVED,
             offset: at,

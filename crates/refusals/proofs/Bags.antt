@@ -14,7 +14,7 @@ use Rattle.der.specs.Opaque.{onChecked, elementsAt}
 use Rattle.der.specs.declared.Fault.{Fault}
 use Rattle.der.specs.declared.Cursor.{Cursor}
 use Rattle.der.proofs.Choices.{never, by-test}
-use Rattle.buffer.specs.Bytes.{sameBytes}
+use Rattle.range.specs.Bytes.{sameBytes}
 use Rattle.pkcs12.specs.Identifiers.{identifierOf, kindOf}
 use Rattle.pkcs12.specs.Table.{Rows, noParts, bagRow}
 use Rattle.pkcs12.specs.Walk.{Walked, Refused, Went, onWalked, goOn, run, counting, addSafe, addBag, addAttribute}

@@ -16,7 +16,7 @@ use Rattle.der.specs.Opaque.{onChecked}
 use Rattle.der.specs.declared.Fault.{Fault}
 use Rattle.der.specs.declared.Cursor.{Cursor}
 use Rattle.buffer.specs.Numbers.{fileBytes}
-use Rattle.buffer.specs.Bytes.{sameBytes}
+use Rattle.range.specs.Bytes.{sameBytes}
 use Rattle.pkcs12.specs.Identifiers as identifiers
 use Rattle.pkcs12.specs.Table.{Rows, noParts, safeRow}
 use Rattle.pkcs12.specs.Walk.{Walked, Refused, Went, onWalked, run, owner, safeContentsAt, dataAt, plainAt}

@@ -19,7 +19,7 @@ use Rattle.der.specs.declared.Element.{Element}
 use Rattle.der.specs.declared.Element.the-variants.{Found}
 use Rattle.der.proofs.Choices.{either}
 use Rattle.der.proofs.Placed.{left-is, left-none}
-use Rattle.buffer.proofs.Cut.{part-slice, cut-backward}
+use Rattle.range.proofs.Cut.{part-slice, cut-backward}
 use Rattle.refusals.specs.Element.{whereNone, Header, wrong, right, fitting, after81, after82, sized, header}
 
 -- a cursor that has bytes left, or none, of a parent that lies within the bytes

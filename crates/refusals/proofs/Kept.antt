@@ -12,7 +12,7 @@ use lib.Seq.{length-take-le}
 use Rattle.der.specs.Choice.{if_then_else_}
 use Rattle.der.specs.Octets.{number}
 use Rattle.der.proofs.Choices.{by-test, by-lt}
-use Rattle.buffer.specs.Bytes.{sameBytes}
+use Rattle.range.specs.Bytes.{sameBytes}
 use Rattle.refusals.specs.Element.{Left, left, Made, Account, stops, goes, Rule, Header, wrong, right, onHeader}
 use Rattle.refusals.specs.Element.{fitting, after81, after82, sized, header, whereNone, closed, Content, walked}
 use Rattle.refusals.specs.Element.{judged, allowed, inside, element, onwards, _before_, eachOf, each, ifAny}

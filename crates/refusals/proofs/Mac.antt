@@ -14,7 +14,7 @@ use Rattle.der.specs.declared.Fault.{Fault}
 use Rattle.der.specs.declared.Cursor.{Cursor}
 use Rattle.der.proofs.Choices.{either}
 use Rattle.pkcs12.specs.Walk.{rangeOf, onMac, sealedAt, iterationsAt, macAt}
-use Rattle.buffer.specs.declared.Range.{Range}
+use Rattle.range.specs.declared.Range.{Range}
 use Rattle.pkcs12.specs.declared.row.Parts.{Parts}
 use Rattle.pkcs12.specs.declared.row.Mac.{Mac}
 use Rattle.pkcs12.specs.declared.answers.MacAt.{MacAt}

@@ -19,10 +19,10 @@ use Rattle.der.specs.declared.Element.the-variants.{Found}
 use Rattle.der.specs.declared.Checked.{Checked}
 use Rattle.der.specs.declared.Checked.the-variants.{Passed}
 use Rattle.der.proofs.Choices.{either}
-use Rattle.buffer.specs.Bytes.{sameBytes}
+use Rattle.range.specs.Bytes.{sameBytes}
 use Rattle.pkcs12.specs.Identifiers.{x509Certificate}
 use Rattle.pkcs12.specs.Identifiers as identifiers
-use Rattle.buffer.specs.Range.{range, noRange}
+use Rattle.range.specs.Range.{range, noRange}
 use Rattle.pkcs12.specs.Table.{parts}
 use Rattle.pkcs12.specs.Walk.{algorithmAt, sealedAt, keyAt, valueAt, typedAt, encryptedInfoAt, encryptedAt}
 use Rattle.pkcs12.specs.declared.answers.PartsAt.{PartsAt}

@@ -7,7 +7,7 @@ use lib.Dec.{leb, ltb, eqb}
 use lib.ListN.{length}
 use Rattle.der.specs.Choice.{if_then_else_}
 use Rattle.der.specs.Octets.{number}
-use Rattle.buffer.specs.Bytes.{sameBytes}
+use Rattle.range.specs.Bytes.{sameBytes}
 
 -- Rule 2.8: an identifier's body isn't empty, and its last byte is below 80 (hex)
 unfoldable pub endsLow : List ℕ → Bool

@@ -6,7 +6,7 @@ use Prim.Native.Nat.{ℕ, zero, suc}
 use lib.Dec.{leb, ltb}
 use lib.ListN.{length}
 use Rattle.der.specs.Choice.{if_then_else_}
-use Rattle.buffer.specs.Bytes.{sameBytes}
+use Rattle.range.specs.Bytes.{sameBytes}
 use Rattle.refusals.specs.Element.{left, Made, Account, stops, Rule, closed, walked, judged, element, _before_}
 use Rattle.refusals.specs.Element.{each, ifAny, served, ifTag, is, any, never, always, constructed, primitive}
 use Rattle.refusals.specs.Element.{naming, anything, opaque}

@@ -3,18 +3,13 @@
 use buffer::Written;
 use der::Fault;
 use pkcs12::Answer;
-use pkcs12::Reading;
 use pkcs12::Table;
 
-// The line of a refusal. It is the reading's: the writer refuses no table that reading gives.
+// The line of a refusal. It is the reading's: the writer refuses no table that reading returns.
 fn refused(fault: Fault) {
-    let reading = Reading {
-        answer: Answer::Refused(fault),
-        table: Table::empty(),
-    };
-    let mut text = io::large_buffer();
-    let written = listing::list(0, reading, &mut text);
-    stdio::write_result(&text, written);
+    let mut line = [0u8; 64];
+    let n = text::refused(&mut line, 0, fault);
+    stdio::write_front(&line, n);
 }
 
 fn write_back(table: Table, file: &[u8]) {

@@ -11,7 +11,7 @@ use Rattle.pkcs12.specs.Numbers.{defaultIterations, encryptedVersion}
 use Rattle.pkcs12.specs.Identifiers.{dataType}
 use Rattle.pkcs12.specs.Encode.{sealedBytes, leafBytes, iterationsBytes}
 use Rattle.pkcs12.specs.Values.{sameEnclosing}
-use Rattle.buffer.specs.Range.{bytesIn}
+use Rattle.range.specs.Range.{bytesIn}
 use Rattle.pkcs12.specs.Table.{sealedIn}
 use Rattle.pkcs12.specs.declared.row.Parts.{Parts}
 use Rattle.pkcs12.specs.declared.kind.BagKind.{BagKind}

@@ -8,7 +8,7 @@ use Rattle.pkcs12.specs.Identifiers.{dataType}
 use Rattle.pkcs12.specs.Syntax.{Algorithm, Sealed, Attribute, MacData}
 use Rattle.pkcs12.specs.Encode.{algorithmBytes, sealedBytes, leafBytes, encryptedInfo, iterationsBytes}
 use Rattle.pkcs12.specs.Values.{onContent}
-use Rattle.buffer.specs.Range.{bytesIn}
+use Rattle.range.specs.Range.{bytesIn}
 use Rattle.pkcs12.specs.Table.{contentIn}
 use Rattle.pkcs12.specs.declared.row.Parts.{Parts}
 use Rattle.pkcs12.specs.declared.kind.BagKind.{BagKind}

@@ -80,7 +80,7 @@ pub fn set(table: Table, bytes: &[u8], has_set: bool, bag: usize, from: usize) -
             next: from,
         };
     }
-    let end = buffer::fewer(table.attribute_count, pkcs12::ATTRIBUTE_ROWS);
+    let end = range::fewer(table.attribute_count, pkcs12::ATTRIBUTE_ROWS);
     let mut body: usize = 0;
     let mut next = from;
     while next < end {
@@ -222,7 +222,7 @@ pub fn bags(
 ) -> Taken
     ensures { λ r. ⌜ r ≡ takenSized (bagsPicked table (now (bytes .entry)) level safe enclosing first from) ⌝ }
 {
-    let end = buffer::fewer(table.bag_count, pkcs12::BAG_ROWS);
+    let end = range::fewer(table.bag_count, pkcs12::BAG_ROWS);
     let mut taken = Taken {
         size: 0,
         bag: first,
@@ -282,7 +282,7 @@ fn safe(table: Table, bytes: &[u8], row: SafeRow, k: usize, first: usize, from: 
 pub fn all_safes(table: Table, bytes: &[u8]) -> Safes
     ensures { λ r. ⌜ r ≡ safesSized (safesPicked table (now (bytes .entry)) 0 0 0) ⌝ }
 {
-    let end = buffer::fewer(table.safe_count, pkcs12::SAFE_ROWS);
+    let end = range::fewer(table.safe_count, pkcs12::SAFE_ROWS);
     let mut taken = Taken {
         size: 0,
         bag: 0,

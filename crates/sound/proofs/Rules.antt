@@ -20,7 +20,7 @@ use Rattle.der.specs.declared.Cursor.{Cursor}
 use Rattle.der.specs.declared.Checked.{Checked}
 use Rattle.der.specs.declared.Checked.the-variants.{Passed}
 use Rattle.der.proofs.Choices.{never, by-le}
-use Rattle.buffer.specs.Bytes.{sameBytes}
+use Rattle.range.specs.Bytes.{sameBytes}
 use Rattle.pkcs12.specs.Numbers.{safeRows, bagRows, attributeRows}
 use Rattle.pkcs12.specs.Checks.{all, countsFit, oneOpaque, allOpaque, holdsTagged, isSealed}
 use Rattle.pkcs12.specs.Checks.{isTyped, isCertificate, safeHolds, bagHolds}

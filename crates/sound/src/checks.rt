@@ -6,9 +6,8 @@ ghost use Rattle.pkcs12.specs.Numbers.{safeRows, bagRows, attributeRows};
 ghost use Rattle.pkcs12.specs.Checks.{all, countsFit, namesType, oneOpaque, allOpaque, holdsOpaque, holdsAll};
 ghost use Rattle.pkcs12.specs.Checks.{holdsAtMostOne, hasTag, holdsTagged, isSealed, isTyped, isCertificate};
 ghost use Rattle.pkcs12.specs.Checks.{safeTest, bagTest, attributeTest, macTest, keepsRules};
-ghost use Rattle.buffer.specs.Range.{lies};
+ghost use Rattle.range.specs.Range.{lies};
 ghost use Rattle.pkcs12.specs.Table.{rowsIn};
-use buffer::Range;
 use der::Checked;
 use der::Cursor;
 use pkcs12::AttributeRow;
@@ -19,6 +18,7 @@ use pkcs12::Parts;
 use pkcs12::SafeKind;
 use pkcs12::SafeRow;
 use pkcs12::Table;
+use range::Range;
 
 // One above the greatest number of iterations.
 const ITERATIONS_END: u32 = 2147483648;
@@ -155,7 +155,7 @@ fn is_certificate(bytes: &[u8], parts: Parts) -> bool
     }
     let range = parts.identifier;
     let name = range.part(bytes);
-    if buffer::same(name, &pkcs12::X509_CERTIFICATE) {
+    if range::same(name, &pkcs12::X509_CERTIFICATE) {
         return has_tag(bytes, parts.value, der::OCTET_STRING);
     }
     true

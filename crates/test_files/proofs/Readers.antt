@@ -24,10 +24,10 @@ use denote.Steps.{owned, nothing}
 use denote.Struct.Laws as LL
 use denote.Triple.Entry.{Vals, alive}
 use denote.Triple.Statement.{Contract}
-use Rattle.buffer.specs.declared.Range.{Range}
+use Rattle.range.specs.declared.Range.{Range}
 use Rattle.pkcs12.specs.declared.table.Table.{Table}
-use Rattle.buffer.proofs.Range as R
-use Rattle.buffer.proofs.Range.Laws as R′
+use Rattle.range.proofs.Range as R
+use Rattle.range.proofs.Range.Laws as R′
 use Rattle.pkcs12.proofs.table.Table as Tb
 use Rattle.pkcs12.proofs.table.Table.Laws as Tb′
 use Rattle.attributes.specs.declared.Attributes.{Attributes}

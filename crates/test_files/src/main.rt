@@ -15,7 +15,7 @@ fn same_front(out: &[u8], n: usize, file: &[u8]) -> bool {
     if out.len() < n {
         return false;
     }
-    buffer::same(&out[0..n], file)
+    range::same(&out[0..n], file)
 }
 
 // Writes the file of a table, and says whether it is this one.

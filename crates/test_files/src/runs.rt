@@ -3,7 +3,6 @@
 // `three_calls`, `part_of` and `fill_rows` are proved by a walk, so each is a row of calls; the rest
 // is done over them.
 use attributes::Item;
-use buffer::Range;
 use buffer::Written;
 use der::Fault;
 use identities::Identity;
@@ -11,6 +10,7 @@ use pairing::IdentityRow;
 use pkcs12::AttributeRow;
 use pkcs12::BagKind;
 use pkcs12::Table;
+use range::Range;
 use stdio::write_decimal;
 use stdio::write_text;
 
@@ -265,7 +265,7 @@ fn bag_lines(table: Table, file: &[u8], bag: usize, stored: IdentityRow) {
 
 // A bag after another, and the first row that isn't there.
 fn all_bags(table: Table, file: &[u8], filled: Filled) {
-    let end = buffer::fewer(table.bag_count, pkcs12::BAG_ROWS);
+    let end = range::fewer(table.bag_count, pkcs12::BAG_ROWS);
     let mut i: usize = 0;
     while i <= end {
         bag_lines(table, file, i, row_at(filled, i));

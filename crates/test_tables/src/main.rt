@@ -3,7 +3,6 @@
 // docs/TESTS.md has the frame's parts and the lines. A frame that doesn't hold these is answered by
 // the line `cut`, and nothing after it is read.
 ghost use Prim.Native.Nat.{_<_};
-use buffer::Range;
 use buffer::Written;
 use buffer::read::byte;
 use buffer::read::u16_be;
@@ -21,6 +20,7 @@ use pkcs12::SAFE_ROWS;
 use pkcs12::SafeKind;
 use pkcs12::SafeRow;
 use pkcs12::Table;
+use range::Range;
 use stdio::Frame;
 use stdio::write_decimal;
 use stdio::write_hex;
@@ -183,7 +183,7 @@ impl Rows {
 fn with_safes(mut table: Table, s: &[u8], start: usize, n: usize) -> Table
     requires { ⌜ (start < 10000) × (n < 256) ⌝ }
 {
-    let end = buffer::fewer(n, pkcs12::SAFE_ROWS);
+    let end = range::fewer(n, pkcs12::SAFE_ROWS);
     let mut i = 0;
     while i < end {
         table.safes[i] = safe_row(s, start + i * SAFE);
@@ -195,7 +195,7 @@ fn with_safes(mut table: Table, s: &[u8], start: usize, n: usize) -> Table
 fn with_bags(mut table: Table, s: &[u8], start: usize, n: usize) -> Table
     requires { ⌜ (start < 10000) × (n < 256) ⌝ }
 {
-    let end = buffer::fewer(n, pkcs12::BAG_ROWS);
+    let end = range::fewer(n, pkcs12::BAG_ROWS);
     let mut i = 0;
     while i < end {
         table.bags[i] = bag_row(s, start + i * BAG);
@@ -207,7 +207,7 @@ fn with_bags(mut table: Table, s: &[u8], start: usize, n: usize) -> Table
 fn with_attributes(mut table: Table, s: &[u8], start: usize, n: usize) -> Table
     requires { ⌜ (start < 10000) × (n < 256) ⌝ }
 {
-    let end = buffer::fewer(n, pkcs12::ATTRIBUTE_ROWS);
+    let end = range::fewer(n, pkcs12::ATTRIBUTE_ROWS);
     let mut i = 0;
     while i < end {
         table.attributes[i] = attribute_row(s, start + i * ATTRIBUTE);

@@ -1,6 +1,3 @@
--- The words of a table: where each stands (`Layout`), storing (`Stored`), loading (`Loaded`), the
--- tables that come back as they were (`Wordable`).
+-- The words of a table: the offset of each (`Layout`), and storing (`Stored`).
 pub mod Layout
 pub mod Stored
-pub mod Loaded
-pub mod Wordable

@@ -10,7 +10,7 @@ use Rattle.buffer.specs.Numbers.{shortBuffer}
 use Rattle.pkcs12.specs.Table.{noSafe, noBag, noAttribute}
 use Rattle.buffer.specs.Placed.{each}
 use Rattle.buffer.specs.Written.{Outcome, refusal, success}
-use Rattle.buffer.specs.declared.Range.{Range}
+use Rattle.range.specs.declared.Range.{Range}
 use Rattle.pkcs12.specs.declared.row.Parts.{Parts}
 use Rattle.pkcs12.specs.declared.kind.SafeKind.{SafeKind}
 use Rattle.pkcs12.specs.declared.kind.SafeKind.the-variants.{Plain, Encrypted}

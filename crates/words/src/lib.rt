@@ -1,4 +1,4 @@
-// A table as plain words in a caller's memory, and back. The words are those of `struct p12_table`
+// A table as plain words in a caller's memory. The words are those of `struct p12_table`
 // in include/p12.h.
 ghost use mathlib.Core.Path.{_≡_};
 ghost use Rattle.der.specs.Element.{fault};
@@ -6,12 +6,9 @@ ghost use Rattle.buffer.specs.Numbers.{shortBuffer};
 ghost use Rattle.buffer.specs.Report.{writtenReport};
 ghost use Rattle.buffer.specs.declared.Written.{Written};
 ghost use Rattle.words.specs.Stored.{stored, storedRow};
-ghost use Rattle.words.specs.Loaded.{rangeOf, tableIn};
 
-mod get;
 mod put;
 
-use buffer::Range;
 use buffer::Written;
 use der::Fault;
 use pkcs12::AttributeRow;
@@ -57,27 +54,6 @@ pub const GREATEST_WORD: usize = 4294967295;
 
 pub const GREATEST_NUMBER: u32 = 65535;
 
-// A range that lies in no bytes.
-const NOWHERE: Range = Range { start: 1, end: 0 };
-
-// The range that two words stand for; one that lies in no bytes if a word is too great.
-pub fn range_of(start: u32, end: u32) -> Range
-    ensures { λ r. ⌜ r ≡ rangeOf start end ⌝ }
-{
-    if GREATEST_NUMBER < start {
-        return NOWHERE;
-    }
-    if GREATEST_NUMBER < end {
-        return NOWHERE;
-    }
-    let start16 = start as u16;
-    let end16 = end as u16;
-    Range {
-        start: start16,
-        end: end16,
-    }
-}
-
 fn too_few() -> Written
     ensures { λ r. ⌜ r ≡ Written.Refused (fault shortBuffer 0) ⌝ }
 {
@@ -112,30 +88,4 @@ pub fn store_row(row: AttributeRow, out: &mut [u32]) -> Written
     }
     let end = put::attribute(out, 0, row);
     Written::Length(ATTRIBUTE_WIDTH)
-}
-
-// The table that words stand for.
-pub fn load(words: &[u32]) -> Table
-    ensures { λ r. ⌜ r ≡ tableIn (now (words .entry)) ⌝ }
-{
-    let safe_count = get::word(words, SAFE_COUNT_AT) as usize;
-    let bag_count = get::word(words, BAG_COUNT_AT) as usize;
-    let attribute_count = get::word(words, ATTRIBUTE_COUNT_AT) as usize;
-    let elements = get::word(words, ELEMENTS_AT) as usize;
-    let safes = get::safes(words, safe_count);
-    let bags = get::bags(words, bag_count);
-    let attributes = get::attributes(words, attribute_count);
-    let mac = get::mac(words, MAC_FIELDS_AT);
-    let mac_input = get::range(words, MAC_INPUT_AT);
-    Table {
-        safes,
-        safe_count,
-        bags,
-        bag_count,
-        attributes,
-        attribute_count,
-        mac,
-        mac_input,
-        elements,
-    }
 }

@@ -7,7 +7,6 @@ ghost use Rattle.words.specs.Stored.{countWord, safeNumber, bagNumber, e
 ghost use Rattle.words.specs.Stored.{partsWords, safeWords, bagWords, attributeWords, macWords, countWords};
 ghost use Rattle.words.specs.Stored.{headWords, safesWords, bagsWords, attributesWords, wordsOf};
 ghost use Rattle.buffer.specs.Placed.{Placed};
-use buffer::Range;
 use buffer::write;
 use pkcs12::AttributeRow;
 use pkcs12::BagKind;
@@ -18,12 +17,13 @@ use pkcs12::Parts;
 use pkcs12::SafeKind;
 use pkcs12::SafeRow;
 use pkcs12::Table;
+use range::Range;
 
 // A count as a word.
 fn count_word(n: usize) -> u32
     ensures { λ r. ⌜ r ≡ countWord n ⌝ }
 {
-    let fits = buffer::fewer(n, crate::GREATEST_WORD);
+    let fits = range::fewer(n, crate::GREATEST_WORD);
     fits as u32
 }
 
@@ -91,7 +91,7 @@ fn zeros(out: &mut [u32], at: usize, n: usize) -> usize
         return write::after(at, n);
     }
     let left = size - at;
-    let count = buffer::fewer(n, left);
+    let count = range::fewer(n, left);
     let mut i: usize = 0;
     while i < count {
         let to = at + i;
@@ -202,7 +202,7 @@ fn head(out: &mut [u32], at: usize, table: Table) -> usize
 fn safes(out: &mut [u32], at: usize, rows: [SafeRow; pkcs12::SAFE_ROWS], count: usize) -> usize
     ensures { λ r. ⌜ Placed (now (out .entry)) at (safesWords rows count) (now (out .exit)) r ⌝ }
 {
-    let end = buffer::fewer(count, pkcs12::SAFE_ROWS);
+    let end = range::fewer(count, pkcs12::SAFE_ROWS);
     let mut to = at;
     let mut i: usize = 0;
     while i < end {
@@ -217,7 +217,7 @@ fn safes(out: &mut [u32], at: usize, rows: [SafeRow; pkcs12::SAFE_ROWS], count: 
 fn bags(out: &mut [u32], at: usize, rows: [BagRow; pkcs12::BAG_ROWS], count: usize) -> usize
     ensures { λ r. ⌜ Placed (now (out .entry)) at (bagsWords rows count) (now (out .exit)) r ⌝ }
 {
-    let end = buffer::fewer(count, pkcs12::BAG_ROWS);
+    let end = range::fewer(count, pkcs12::BAG_ROWS);
     let mut to = at;
     let mut i: usize = 0;
     while i < end {
@@ -237,7 +237,7 @@ fn attributes(
 ) -> usize
     ensures { λ r. ⌜ Placed (now (out .entry)) at (attributesWords rows count) (now (out .exit)) r ⌝ }
 {
-    let end = buffer::fewer(count, pkcs12::ATTRIBUTE_ROWS);
+    let end = range::fewer(count, pkcs12::ATTRIBUTE_ROWS);
     let mut to = at;
     let mut i: usize = 0;
     while i < end {

@@ -52,7 +52,7 @@ fn set(
     if !has_set {
         return SetEnd { at, next: from };
     }
-    let end = buffer::fewer(table.attribute_count, pkcs12::ATTRIBUTE_ROWS);
+    let end = range::fewer(table.attribute_count, pkcs12::ATTRIBUTE_ROWS);
     let mut to = write::header(out, at, der::SET, body);
     let mut next = from;
     while next < end {
@@ -189,7 +189,7 @@ fn bags(
 ) -> RowsEnd
     ensures { λ r. ⌜ RowsPut (now (out .entry)) at (bagsPart (bagsPicked table (now (bytes .entry)) level safe enclosing first from)) (now (out .exit)) r ⌝ }
 {
-    let end = buffer::fewer(table.bag_count, pkcs12::BAG_ROWS);
+    let end = range::fewer(table.bag_count, pkcs12::BAG_ROWS);
     let mut so_far = RowsEnd {
         at,
         bag: first,
@@ -289,7 +289,7 @@ fn safe(
 fn safes(out: &mut [u8], at: usize, table: Table, bytes: &[u8]) -> usize
     ensures { λ r. ⌜ Put Short (now (out .entry)) at (safesBytes (safesPicked table (now (bytes .entry)) 0 0 0 .safes)) (now (out .exit)) r ⌝ }
 {
-    let end = buffer::fewer(table.safe_count, pkcs12::SAFE_ROWS);
+    let end = range::fewer(table.safe_count, pkcs12::SAFE_ROWS);
     let mut so_far = RowsEnd {
         at,
         bag: 0,

@@ -36,14 +36,14 @@ use denote.Triple.Table.{entered, cited}
 use denote.Triple.Walked.{says, Stays, stay-none, walkOf, goes-none, Walks, ends-at, walked, walk-meets}
 use denote.Triple.Clauses.{ensured, lasts}
 use denote.Exit.{yes}
-use Rattle.buffer.specs.Range.{bytesIn}
-use Rattle.buffer.specs.declared.Range.{Range}
-use Rattle.buffer.proofs.Range as R
-use Rattle.buffer.proofs.Range.Laws as R′
-use Rattle.buffer.proofs.Range.part as named-part
-use Rattle.buffer.proofs.Range.part.Symbol as named-part-def
-use Rattle.buffer.proofs.Range.part.Symbol.{name as #named-part}
-use Rattle.buffer.proofs.Range.part.Met as named-part-thm
+use Rattle.range.specs.Range.{bytesIn}
+use Rattle.range.specs.declared.Range.{Range}
+use Rattle.range.proofs.Range as R
+use Rattle.range.proofs.Range.Laws as R′
+use Rattle.range.proofs.Range.part as named-part
+use Rattle.range.proofs.Range.part.Symbol as named-part-def
+use Rattle.range.proofs.Range.part.Symbol.{name as #named-part}
+use Rattle.range.proofs.Range.part.Met as named-part-thm
 use Rattle.attributes.specs.declared.Attributes.{Attributes}
 use Rattle.attributes.proofs.Reading.{B, D, L, Lent, Own, mach, of-file, file-is, file-out}
 use Rattle.attributes.proofs.part.Key.{name as #part}
@@ -181,4 +181,4 @@ part-spec 𝓤 H 𝓜 𝓖 𝓡 =
     (tables 𝓤 H 𝓜 𝓡 body.env .C) (tables 𝓤 H 𝓜 𝓡 body.env .Λ) #part body.function (body.unfolded 𝓤 H 𝓜 𝓡)
     (part-meets 𝓤 H (𝓖 .A) (givenOf 𝓤 H 𝓜 𝓖) (𝓜 .mem) (𝓡 .run) (tablesOf 𝓤 H 𝓜 (tables 𝓤 H 𝓜 𝓡 body.env))
     (cited 𝓤 H (Named 𝓤 H (𝓖 .A) (𝓜 .mem) (𝓡 .run)) 𝓜 𝓡 body.env #named-part named-part-def.routine
-    body.calls-buffer·Range·part (named-part-thm.met 𝓤 H 𝓜 𝓖 𝓡)))
+    body.calls-range·Range·part (named-part-thm.met 𝓤 H 𝓜 𝓖 𝓡)))

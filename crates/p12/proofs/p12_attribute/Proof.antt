@@ -15,8 +15,8 @@ returns c =
     (attribute-short _ _ _ (c .before .is-short .ensures) (c .if1 .taken) _ _ _)
     (search all-bytes)
 
-load-requires : tie.Need-load-requires
-load-requires c κs = search needs
+table-requires : tie.Need-table-requires
+table-requires c κs = search needs
 
 attribute-requires : tie.Need-attribute-requires
 attribute-requires c κs = search needs
@@ -49,7 +49,7 @@ returns-2 c =
     let b = d .before .before .before in
     let t = b .before in
     two-and
-    (attribute-stored _ _ _ (t .before .is-short .ensures) (t .if1 .left) _ (b .load .ensures) _ _ _ _
+    (attribute-stored _ _ _ (t .before .is-short .ensures) (t .if1 .left) _ (b .table .ensures) _ _ _ _
     (d .before .before .attribute .ensures .0) _ (d .a .given .1) _ _
     (a .store-row .ensures .0) (a .store-row .ensures .1 .1) _ (c .written-number .ensures))
     (search all-bytes)
@@ -59,7 +59,7 @@ returns-3 c =
     let b = c .before .before .before in
     let t = b .before in
     two-and
-    (attribute-ready _ _ _ (t .before .is-short .ensures) (t .if1 .left) _ (b .load .ensures) _ _ _ _
+    (attribute-ready _ _ _ (t .before .is-short .ensures) (t .if1 .left) _ (b .table .ensures) _ _ _ _
     (c .before .before .attribute .ensures .0) (c .enum-told .given .1))
     (search all-bytes)
 
@@ -68,7 +68,7 @@ returns-4 c =
     let b = c .before .before .before in
     let t = b .before in
     two-and
-    (attribute-done _ _ _ (t .before .is-short .ensures) (t .if1 .left) _ (b .load .ensures) _ _ _ _
+    (attribute-done _ _ _ (t .before .is-short .ensures) (t .if1 .left) _ (b .table .ensures) _ _ _ _
     (c .before .before .attribute .ensures .0) (c .enum-told2 .given .1))
     (search all-bytes)
 
@@ -77,7 +77,7 @@ returns-5 c =
     let b = c .before .before .before .before in
     let t = b .before in
     two-and
-    (attribute-refused _ _ _ (t .before .is-short .ensures) (t .if1 .left) _ (b .load .ensures) _ _ _ _
+    (attribute-refused _ _ _ (t .before .is-short .ensures) (t .if1 .left) _ (b .table .ensures) _ _ _ _
     (c .before .before .before .attribute .ensures .0) _ (c .before .f .given .1))
     (search all-bytes)
 
@@ -87,7 +87,7 @@ p12-attribute-spec =
     (tie.spec
     is-short-requires
     returns
-    load-requires
+    table-requires
     attribute-requires
     enum-known-a
     store-row-requires

@@ -17,8 +17,8 @@ returns c =
     let g = certificate-short _ _ _ (c .before .is-short .ensures) (c .if1 .taken) _ in
     (ap pairedNumber g, (ap pairedRow g, search all-bytes))
 
-load-requires : tie.Need-load-requires
-load-requires c κs = search needs
+table-requires : tie.Need-table-requires
+table-requires c κs = search needs
 
 certificate-for-requires : tie.Need-certificate-for-requires
 certificate-for-requires c κs = search needs
@@ -34,7 +34,7 @@ returns-2 c =
     let e = c .before .before .certificate-for .ensures .0 in
     let b = c .before .before .before in
     let t = b .before in
-    let g = certificate-of _ _ _ (t .before .is-short .ensures) (t .if1 .left) _ (b .load .ensures) _ _ e in
+    let g = certificate-of _ _ _ (t .before .is-short .ensures) (t .if1 .left) _ (b .table .ensures) _ _ e in
     (c .paired-number .ensures ∙ ap pairedNumber g, (c .before .paired-row .ensures ∙ ap pairedRow g, search all-bytes))
 
 pub p12-certificate-for-spec : {M : Type 1} → statement M
@@ -43,7 +43,7 @@ p12-certificate-for-spec =
     (tie.spec
     is-short-requires
     returns
-    load-requires
+    table-requires
     certificate-for-requires
     paired-row-requires
     paired-number-requires

@@ -5,8 +5,8 @@ use borrow.Author.Needs.{needs}
 use Rattle.p12.proofs.p12_element.Statement.{statement}
 use Rattle.p12.proofs.p12_element.Tie as tie
 
-range-of-requires : tie.Need-range-of-requires
-range-of-requires c κs = search needs
+of-words-requires : tie.Need-of-words-requires
+of-words-requires c κs = search needs
 
 element-requires : tie.Need-element-requires
 element-requires c κs = search needs
@@ -20,9 +20,9 @@ cast-end c = search needs
 returns : tie.Need-returns
 returns c =
     three-and
-    (element-gives _ _ _ _ _ (c .before .before .before .before .range-of .ensures) (c .before .before .before .element .ensures .0))
+    (element-gives _ _ _ _ _ (c .before .before .before .before .of-words .ensures) (c .before .before .before .element .ensures .0))
     (search all-bytes)
 
 pub p12-element-spec : {M : Type 1} → statement M
 p12-element-spec =
-    tie.close (tie.spec range-of-requires element-requires cast-start cast-end returns)
+    tie.close (tie.spec of-words-requires element-requires cast-start cast-end returns)

@@ -14,8 +14,8 @@ returns c =
     (write-short _ _ _ (c .before .is-short .ensures) (c .if1 .taken) _)
     (search all-bytes)
 
-load-requires : tie.Need-load-requires
-load-requires c κs = search needs
+table-requires : tie.Need-table-requires
+table-requires c κs = search needs
 
 write-requires : tie.Need-write-requires
 write-requires c κs = search needs
@@ -35,7 +35,7 @@ returns-2 c =
     let b = a .before .before in
     let t = b .before in
     three-and
-    (write-wrote _ _ _ (t .before .is-short .ensures) (t .if1 .left) _ (b .load .ensures) _ _ _
+    (write-wrote _ _ _ (t .before .is-short .ensures) (t .if1 .left) _ (b .table .ensures) _ _ _
     (a .write .ensures .0) (a .write .ensures .1 .1 .0) _ (c .written-number .ensures) _ (c .before .length-of .ensures))
     (search all-bytes)
 
@@ -45,7 +45,7 @@ p12-write-spec =
     (tie.spec
     is-short-requires
     returns
-    load-requires
+    table-requires
     write-requires
     length-of-requires
     written-number-requires

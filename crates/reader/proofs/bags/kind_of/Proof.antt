@@ -1,6 +1,6 @@
 -- The part of the slice is the bytes of the body.
 use borrow.Author.Needs.{needs}
-use Rattle.buffer.proofs.Cut.{part-slice}
+use Rattle.range.proofs.Cut.{part-slice}
 use Rattle.reader.proofs.bags.kind_of.Statement.{statement}
 use Rattle.reader.proofs.bags.kind_of.Tie as tie
 

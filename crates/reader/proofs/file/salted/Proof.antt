@@ -17,8 +17,8 @@ enum-known-f c = search needs
 enum-known-body : tie.Need-enum-known-body
 enum-known-body c = search needs
 
-range-of-requires : tie.Need-range-of-requires
-range-of-requires c κs = search (needs, rooms)
+of-requires : tie.Need-of-requires
+of-requires c κs = search (needs, rooms)
 
 add-more : tie.Need-add-more
 add-more c = search needs
@@ -51,7 +51,7 @@ salted-spec =
     octet-string-requires
     enum-known-f
     enum-known-body
-    range-of-requires
+    of-requires
     add-more
     iterations-requires
     enum-known-f-2

@@ -5,14 +5,14 @@ use Rattle.reader.proofs.OneSafe.{started}
 use Rattle.reader.proofs.rows.start.Statement.{statement}
 use Rattle.reader.proofs.rows.start.Tie as tie
 
-range-of-requires : tie.Need-range-of-requires
-range-of-requires c κs = search needs
+of-requires : tie.Need-of-requires
+of-requires c κs = search needs
 
 empty-requires : tie.Need-empty-requires
 empty-requires c κs = search needs
 
 returns : tie.Need-returns
-returns c = started _ _ _ (c .empty .ensures) (body-range _ _ (c .before .range-of .ensures) (c .before .before .pre .0) (c .before .before .pre .1))
+returns c = started _ _ _ (c .empty .ensures) (body-range _ _ (c .before .of .ensures) (c .before .before .pre .0) (c .before .before .pre .1))
 
 pub start-spec : {M : Type 1} → statement M
-start-spec = tie.close (tie.spec range-of-requires empty-requires returns)
+start-spec = tie.close (tie.spec of-requires empty-requires returns)

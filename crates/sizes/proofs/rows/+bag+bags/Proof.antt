@@ -17,7 +17,7 @@ use Rattle.sizes.proofs.rows.+bag+bags.Lts-bags as bags-lts
 use Rattle.sizes.proofs.content.Reads as content-reads
 use Rattle.encode.proofs.size.element.Reads as element-reads
 use Rattle.sizes.proofs.rows.belongs.Reads as belongs-reads
-use Rattle.buffer.proofs.fewer.Reads as fewer-reads
+use Rattle.range.proofs.fewer.Reads as fewer-reads
 use Rattle.sizes.proofs.rows.form_of.Reads as form-of-reads
 use Rattle.sizes.proofs.rows.joined.Reads as joined-reads
 use Rattle.sizes.proofs.rows.one_bag.Reads as one-bag-reads

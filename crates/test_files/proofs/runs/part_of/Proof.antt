@@ -30,10 +30,10 @@ use denote.Triple.Spec.{Meets, tripleOf}
 use denote.Triple.Statement.{Contract, Triple}
 use denote.Triple.Table.{entered, cited}
 use denote.Triple.Walked.{walkOf, Walks, walked, walk-meets}
-use Rattle.buffer.specs.declared.Range.{Range}
+use Rattle.range.specs.declared.Range.{Range}
 use Rattle.pkcs12.specs.declared.table.Table.{Table}
-use Rattle.buffer.proofs.Range as R
-use Rattle.buffer.proofs.Range.Laws as R′
+use Rattle.range.proofs.Range as R
+use Rattle.range.proofs.Range.Laws as R′
 use Rattle.pkcs12.proofs.table.Table as Tb
 use Rattle.pkcs12.proofs.table.Table.Laws as Tb′
 use Rattle.attributes.specs.declared.Attributes.{Attributes}

@@ -19,7 +19,7 @@ use Rattle.writer.proofs.rows.+bag+bags.Lts-bags as bags-lts
 use Rattle.encode.proofs.size.element.Reads as element-reads
 use Rattle.sizes.proofs.rows.bags.Reads as bags-reads
 use Rattle.sizes.proofs.rows.belongs.Reads as belongs-reads
-use Rattle.buffer.proofs.fewer.Reads as fewer-reads
+use Rattle.range.proofs.fewer.Reads as fewer-reads
 use Rattle.sizes.proofs.rows.form_of.Reads as form-of-reads
 use Rattle.sizes.proofs.rows.set.Reads as rows-set-reads
 use Rattle.encode.proofs.write.header.Reads as header-reads

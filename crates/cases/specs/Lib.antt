@@ -1,0 +1,3 @@
+-- Files, and what reading each returns.
+pub mod Bench
+pub mod Telling

@@ -1,0 +1,2 @@
+-- The loop over the elements of a range.
+pub mod Siblings

@@ -1,0 +1,2 @@
+-- The elements of a range of bytes.
+pub mod Elements

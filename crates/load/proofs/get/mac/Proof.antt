@@ -1,0 +1,32 @@
+-- Its parts, each at its place.
+use Rattle.load.specs.Loaded.{macLoaded}
+use borrow.Author.Needs.{needs}
+use Rattle.load.proofs.get.mac.Statement.{statement}
+use Rattle.load.proofs.get.mac.Tie as tie
+
+parts-requires : tie.Need-parts-requires
+parts-requires c κs = search needs
+
+add-range : tie.Need-add-range
+add-range c = search needs
+
+range-requires : tie.Need-range-requires
+range-requires c κs = search needs
+
+add-word : tie.Need-add-word
+add-word c = search needs
+
+add-word-2 : tie.Need-add-word-2
+add-word-2 c = search needs
+
+word-requires : tie.Need-word-requires
+word-requires c κs = search needs
+
+returns : tie.Need-returns
+unfolding macLoaded
+returns c = cc
+
+pub mac-spec : {M : Type 1} → statement M
+mac-spec =
+    tie.close
+    (tie.spec parts-requires add-range range-requires add-word add-word-2 word-requires returns)

@@ -1,0 +1,3 @@
+-- Ranges of bytes.
+pub mod Bytes
+pub mod Range

@@ -1,0 +1,2 @@
+-- Bounds on the bytes of a text.
+pub mod Short

@@ -1,0 +1,2 @@
+-- Text in lines.
+pub mod Text
