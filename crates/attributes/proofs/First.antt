@@ -16,13 +16,13 @@ use Rattle.attributes.specs.declared.Item.{Item}
 use Rattle.attributes.specs.declared.Item.the-variants.{Done}
 use Rattle.attributes.specs.declared.Position.{Position}
 
--- what stands at a place that there is doesn't depend on what stands for one that there isn't
+-- an element that is there doesn't depend on what is taken for one that isn't
 pub getD-in : {A : Type 0} (xs : List A) (i : ℕ) (d e : A) → i < length xs → getD xs i d ≡ getD xs i e
 getD-in [] i d e h = absurd (omega arith)
 getD-in (x ∷ xs) zero d e h = refl
 getD-in (x ∷ xs) (suc i) d e h = getD-in xs i d e (omega arith)
 
--- as many rows as are counted and there are; an array of k rows, as the code is told of it
+-- as many rows as are counted and there are; the array has k rows, as its type says
 pub counted-length : {A : Type 0} (B : Type 0) (f : A → B) (k n end : ℕ) (xs : List A) → length (map f xs) ≡ k
     → end ≡ min n k → end ≡ length (take n xs)
 counted-length B f k n end xs e g =

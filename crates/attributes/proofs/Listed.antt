@@ -20,7 +20,7 @@ use Rattle.elements.specs.Elements.{elementsFrom, elementRanges, countedOf}
 use Rattle.attributes.specs.Own.{each, Chain}
 use Rattle.elements.proofs.Siblings.{run-end, run-more}
 
--- what a tree is written as is found as one element: k is told so
+-- what a tree is written as is found as one element: k is what follows from that
 tree-then : {P : Type 0} (s : List ℕ) (x : Tree) (at e end : ℕ) → Formed x → Span s at e (encode x)
     → e ≤ end → end ≤ length s
     → ((t : ℕ) (b : Cursor) → elementAt s (cursor at end) ≡ Found t b (cursor e end) → P) → P

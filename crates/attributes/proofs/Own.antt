@@ -1,4 +1,4 @@
--- The calls of a reader give the attributes of its bag.
+-- The calls of a reader return the attributes of its bag.
 use mathlib.Core.Bool.{Bool, true, false}
 use mathlib.Core.Logic.{_↔_}
 use mathlib.Core.Path.{_≡_, refl, sym, _∙_, ap}
@@ -50,7 +50,7 @@ abbrev ready : Table → ℕ → Position
 ready t n = position (t .attributes) (t .«attribute_count») n 0 Ready
 
 module _ (t : Table) (s : List ℕ) (n : ℕ) where
-  -- what holds of each answer, with its reason, holds of the one that opening gives
+  -- what holds of each answer, with its reason, holds of the one that opening returns
   by-opening : (P : Position → Type 0) → Bytes s
       → ((Sound t s → ⊥) → P (refusedBy notSound))
       → (Sound t s → t .«bag_count» ≤ n → P (refusedBy noRow))
@@ -110,7 +110,7 @@ unfolding Each ownRows
 own-name n [] = tt
 own-name n (r ∷ rs) = by-eq (Each (λ x. x .bag ≡ n)) _ _ (r .bag) n (λ e. (e, own-name n rs)) (λ e. own-name n rs)
 
--- rows that come in turn give what they show
+-- a reader that returns rows in turn returns the attributes that they show
 gives : (s : List ℕ) (p : Position) (rs : List AttributeRow) → ((i : ℕ) → runs.Turn i rs (itemAfter i p))
     → Gives s p (map (shownBy s) rs)
 gives s p rs g =

@@ -1,6 +1,6 @@
 -- What the walks over a reader share: its type and machine value, the facts of its fields, its file
 -- had without giving it up, and a reader made of a file and of whatever machine value a call
--- answered with for the position. No axiom; `Given` is asked where something is owned.
+-- answered with for the position. No axiom; `Given` is required where something is owned.
 use mathlib.Core.Path.{_≡_, refl}
 use Prim.Native.Nat.{ℕ}
 use mathlib.Core.List.{List, [], _∷_}

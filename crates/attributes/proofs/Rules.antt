@@ -20,8 +20,8 @@ use Rattle.attributes.specs.Reader.{position, refusedBy, openingOf}
 use Rattle.attributes.specs.declared.Item.the-variants.{Ready}
 use Rattle.attributes.specs.declared.Position.{Position}
 
--- A table that was measured has a file exactly if a size was told; what is due of a file doesn't
--- ask for its bytes.
+-- A table that was measured has a file exactly if a size was returned; what is due of a file
+-- doesn't depend on its bytes.
 module _ {A : Type 0} (t : Table) (s : List ℕ) (w : Measured) (r x y : A) where
   pub has-no-file : w ≡ measured t s → w ≡ Unsound → r ≡ x → r ≡ onFile (fileOf t s) x (λ f. y)
   unfolding measured

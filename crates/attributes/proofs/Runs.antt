@@ -1,5 +1,5 @@
--- Calls one after another: the rows of the bag come in turn, and then the word that there are no
--- more, at every further call.
+-- Calls one after another: the rows of the bag are returned in turn, and then `Done`, at every
+-- further call.
 use mathlib.Core.Path.{_≡_, refl, sym, _∙_, ap}
 use mathlib.Core.Bool.{Bool, true, false}
 use mathlib.Core.List.{List, [], _∷_}
@@ -38,7 +38,7 @@ stays-moved p i =
     by-lt (λ q. isLast (q .item) ≡ true → nextOf q ≡ q) _ _ i (length (counted p)) (λ h e. never e)
     (λ h e. rw (past-end p i h, le-ltb i (length (counted p)) h))
 
--- a call by what the last one gave
+-- a call by what the last one returned
 by-item : (P : Position → Type 0) (x : Item) (p q : Position) → ((f : Fault) → x ≡ Item.Refused f → P p)
     → (((f : Fault) → x ≡ Item.Refused f → ⊥) → P q) → P (onItem x p q)
 by-item P Ready p q bad good = good (λ f e. let z : _≡_ {A = ℕ} 0 1 = cc in omega arith)
@@ -64,7 +64,7 @@ after-stays (suc n) p e = rw e (after-stays n p e)
 
 -- ---- the loop that makes so many calls
 
--- The position is one that a call gave, and what is due is what `left` more calls give.
+-- The position is one that a call returned, and what is due is what `left` more calls return.
 pub record Calling (n : ℕ) (p₀ : Position) (left : ℕ) (p : Position) : Type 0 where
   pub came : (q : Position) × (p ≡ nextOf q)
   pub rest : after n p₀ .item ≡ after left p .item
@@ -129,12 +129,12 @@ foremost n xs at (r ∷ l) e = go (names n r) (foremost n xs (at + 1) l k)
     go true f = (h, cc c, rw k)
     go false f = f
 
--- a reader that goes on, with the rows that it has yet to give
+-- a reader that goes on, with the rows that it has yet to return
 pub record Left (p : Position) (xs : List AttributeRow) : Type 0 where
   pub moves : nextOf p ≡ movedTo p (nextRow p)
   pub rest : ownRows (p .bag) (drop (p .at) (counted p)) ≡ xs
 
--- one call gives the first of them and leaves the others
+-- one call returns the first of them and leaves the others
 module _ (p : Position) where
   next-row : (xs : List AttributeRow) → Left p xs → Foremost (p .bag) (counted p) (nextRow p) xs
   unfolding nextRow
@@ -157,7 +157,7 @@ module _ (p : Position) where
       rw (g .moves, le-ltb (nextRow p) (length (counted p)) f)
       (refl, record { moves = refl; rest = rw (drop-of-length-le (counted p) {i = nextRow p} f) })
 
--- call i is to give row i of them, and every call past them the word that there are no more
+-- call i is to return row i of them, and every call past them `Done`
 abbrev pub Turn : ℕ → List AttributeRow → Item → Type 0
 Turn i xs x = (i < length xs → x ≡ Item.Attribute (getD xs i noAttribute)) × (length xs ≤ i → x ≡ Done)
 

@@ -166,7 +166,7 @@ unfolding bagsOfSafes bagsInSafes
 safes-long k m [] = refl
 safes-long k m (x ∷ xs) = rw length-append (omega (arith, safe-long k m x, safes-long (k + 1) (m + bagsInSafe x) xs))
 
--- row n tells whether bag n has a set
+-- row n shows whether bag n has a set
 bag-numbered : (k : ℕ) (e : Enclosing) (m : ℕ) (x : Bags) (n : ℕ) (d : BagValue) → n < bagsIn x
     → getD (bagValues k e m x) n d .has-set ≡ stands (setIn n x)
 unfolding bagValues bagsIn setIn

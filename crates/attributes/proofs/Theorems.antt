@@ -46,15 +46,15 @@ pub ready-iff : (t : Table) (s : List ℕ) (n : ℕ) → Bytes s
     → openingOf t s n .item ≡ Ready ↔ (Sound t s × (n < t .«bag_count»))
 ready-iff = own.ready-iff
 
--- a refused reader gives its refusal at every call
+-- a refused reader returns its refusal at every call
 pub refused-stays : (t : Table) (s : List ℕ) (n : ℕ) (f : Fault) → openingOf t s n .item ≡ Item.Refused f → (i : ℕ)
     → itemAfter i (openingOf t s n) ≡ Item.Refused f
 refused-stays = own.refused-stays
 
 -- ---- whole runs
 
--- The calls give the rows that name the bag, one by one in order, and then say that the reader is
--- done, ever after.
+-- The calls return the rows that name the bag, one by one in order, and then report that the
+-- reader is done, at every further call.
 pub rows-in-turn : (t : Table) (s : List ℕ) (n : ℕ) → Bytes s → Sound t s → n < t .«bag_count» → (i : ℕ)
     → (i < length (ownRows n (attributesOf t))
     → itemAfter i (openingOf t s n) ≡ Item.Attribute (getD (ownRows n (attributesOf t)) i noAttribute))
@@ -67,7 +67,7 @@ pub gives-bag : (t : Table) (s : List ℕ) (n : ℕ) → Bytes s → (o : Sound 
     → Gives s (openingOf t s n) (listed (setInSafes n (o .reading .safes)))
 gives-bag = own.gives-bag
 
--- Every row that a call gives names the bag.
+-- Every row that a call returns names the bag.
 pub rows-name-bag : (t : Table) (s : List ℕ) (n : ℕ) → Bytes s → Sound t s → n < t .«bag_count»
     → (i : ℕ) (r : AttributeRow)
     → itemAfter i (openingOf t s n) ≡ Item.Attribute r → r .bag ≡ n
@@ -102,8 +102,8 @@ attribute-values-hold = own.attribute-values-hold
 pub elements-by-value : (s : List ℕ) (r : Range) → Lies s r → (o : Opaques (bytesIn s r)) → map (bytesIn s) (elementRanges s r) ≡ each (o .as-trees)
 elements-by-value = listing.elements-by-value
 
--- The call that counts them says how many there are, and gives element i; past the last it gives no
--- byte.
+-- The call that counts them returns how many there are, and element i; past the last it returns an
+-- element of no byte.
 pub element-counted : (s : List ℕ) (r : Range) → Lies s r → (o : Opaques (bytesIn s r)) → (i : ℕ)
     → (countedOf (elementRanges s r) i .count ≡ length (each (o .as-trees)))
     × (bytesIn s (countedOf (elementRanges s r) i .element) ≡ getD (each (o .as-trees)) i [])

@@ -36,7 +36,7 @@ openingOf t s bag =
     position (t .attributes) (t .«attribute_count») bag 0 Ready else
     refusedBy noRow)
 
--- the number of the first row that passes a test, where `at` rows stand before these; past the last
+-- the number of the first row that passes a test, where `at` rows come before these; past the last
 -- if none does
 unfoldable pub firstFrom : {A : Type 0} → (A → Bool) → List A → ℕ → ℕ
 firstFrom test [] at = at
@@ -75,7 +75,7 @@ unfoldable pub after : ℕ → Position → Position
 after zero p = p
 after (suc n) p = after n (nextOf p)
 
--- what call i gives, counted from 0
+-- what call i returns, counted from 0
 unfoldable pub itemAfter : ℕ → Position → Item
 itemAfter i p = after (i + 1) p .item
 
@@ -85,7 +85,7 @@ readerOf f p = record { file = f; position = p }
 
 -- ---- what a private function computes
 
--- whether every further call gives the same
+-- whether every further call returns the same
 unfoldable pub isLast : Item → Bool
 isLast Ready = false
 isLast (Item.Attribute r) = false

@@ -5,7 +5,7 @@ use Rattle.pkcs12.specs.Report.{attributeValues}
 use Rattle.attributes.specs.declared.Item.{Item}
 use Rattle.attributes.specs.declared.Item.the-variants.{Ready, Done}
 
--- what a call gave: of an attribute its bag, its identifier and its values from and to
+-- what a call returned: of an attribute its bag, its identifier and its values from and to
 unfoldable pub itemReport : Item → Report
 itemReport Ready = passing []
 itemReport (Item.Attribute r) = passing (attributeValues r)

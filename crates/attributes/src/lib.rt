@@ -1,5 +1,5 @@
-// Gives the attributes of one bag in turn. `Attributes` keeps the file and a position; the work is
-// done on the position, which is plain.
+// Returns the attributes of one bag in turn. `Attributes` keeps the file and a position; the work
+// is done on the position, which is plain.
 ghost use mathlib.Core.Path.{_≡_};
 ghost use Rattle.der.specs.Span.{Bytes};
 ghost use Rattle.range.specs.Range.{bytesIn};
@@ -12,8 +12,8 @@ use pkcs12::Table;
 use range::Range;
 use sound::Measured;
 
-// What a call gave: nothing yet, an attribute, the word that there are no more, or the refusal of
-// opening.
+// What a call returned: nothing yet, an attribute, that there are no more (`Done`), or the refusal
+// of opening.
 pub enum Item {
     Ready,
     Attribute(AttributeRow),
@@ -21,8 +21,8 @@ pub enum Item {
     Refused(Fault),
 }
 
-// Where a reader stands: the attribute rows and their number, the bag's row, the next row to look
-// at, and what the last call gave.
+// The position of a reader: the attribute rows and their number, the bag's row, the next row to
+// look at, and what the last call returned.
 pub struct Position {
     pub rows: [AttributeRow; pkcs12::ATTRIBUTE_ROWS],
     pub count: usize,
@@ -31,7 +31,8 @@ pub struct Position {
     pub item: Item,
 }
 
-// A reader of one bag's attributes. It keeps the file, the lent bytes that its ranges point into.
+// A reader of one bag's attributes. It keeps the file, the caller's bytes that its ranges point
+// into.
 pub struct Attributes<'a> {
     pub file: &'a [u8],
     pub position: Position,
@@ -93,7 +94,7 @@ fn next_row(p: Position) -> usize
     i
 }
 
-// The position with the row that comes next, or with the word that there are no more.
+// The position with the row that comes next, or with `Done` where there are no more.
 fn moved(p: Position) -> Position
     ensures { λ r. ⌜ r ≡ movedTo p (nextRow p) ⌝ }
 {
@@ -123,7 +124,7 @@ fn moved(p: Position) -> Position
 }
 
 impl Position {
-    // One call: the next attribute, or the word that there are no more. A refused opening stays so.
+    // One call: the next attribute, or `Done` where there are no more. A refused opening stays so.
     pub fn next(self) -> Position
         ensures { λ r. ⌜ r ≡ nextOf self ⌝ }
         ensures { λ r. ⌜ itemReport (r .item) ≡ itemReport (nextOf self .item) ⌝ }
@@ -148,7 +149,7 @@ pub fn open<'a>(table: Table, file: &'a [u8], bag: usize) -> Attributes<'a>
     Attributes { file, position }
 }
 
-// One call: the same reader, with what the call gave.
+// One call: the same reader, with what the call returned.
 pub fn next<'a>(r: Attributes<'a>) -> Attributes<'a>
     ensures { λ q. ⌜ q ≡ readerOf (r .entry .file) (nextOf (r .entry .position)) ⌝ }
     ensures { λ q. ⌜ itemReport (q .position .item) ≡ itemReport (nextOf (r .entry .position) .item) ⌝ }
@@ -160,7 +161,7 @@ pub fn next<'a>(r: Attributes<'a>) -> Attributes<'a>
     }
 }
 
-// What the last call gave.
+// What the last call returned.
 pub fn given<'a>(r: Attributes<'a>) -> Item
     ensures { λ x. ⌜ x ≡ r .entry .position .item ⌝ }
     ensures { λ x. ⌜ itemReport x ≡ itemReport (r .entry .position .item) ⌝ }
@@ -175,7 +176,7 @@ pub fn part<'a>(r: Attributes<'a>, range: Range) -> &'a [u8]
     range.part(r.file)
 }
 
-// Whether every further call gives the same.
+// Whether every further call returns the same.
 fn is_last(item: Item) -> bool
     ensures { λ r. ⌜ r ≡ isLast item ⌝ }
 {
@@ -187,7 +188,7 @@ fn is_last(item: Item) -> bool
     }
 }
 
-// What call i gives, counted from 0, of a reader that is opened for it.
+// What call i returns, counted from 0, of a reader that is opened for it.
 pub fn attribute(table: Table, file: &[u8], bag: usize, i: usize) -> Item
     ensures { λ r. ⌜ r ≡ itemAfter i (openingOf table (now (file .entry)) bag) ⌝ }
     ensures { λ r. ⌜ itemReport r ≡ itemReport (itemAfter i (openingOf table (now (file .entry)) bag)) ⌝ }

@@ -14,7 +14,7 @@ unfolding read
 read-then [] n d = refl
 read-then (a ∷ x) n d = read-then x (n * 10 + (a - 0x30)) d
 
--- the first number that has no room in so many places
+-- 10^k, the first number that k digits can't hold
 power : ℕ → ℕ
 power zero = 1
 power (suc k) = 10 * power k

@@ -19,7 +19,7 @@ pub u32-back : (n : ℕ) → u32At (u32Octets n) 0 ≡ n
 unfolding u32Octets u16Octets
 u32-back n = omega arith
 
--- the digits of a number give it back: of every number of 64 bits, and of some more
+-- the digits of a number are read as that number: of every number of 64 bits, and of some more
 pub decimal-back : (n : ℕ) → n < 100000000000000000000 → numberOf (decimal n) ≡ n
 decimal-back n h = decimal-read n h
 

@@ -15,7 +15,7 @@ ascii (c then s) = code c ∷ ascii s
 abbrev pub digit : ℕ → List ℕ
 digit n = (0x30 + n) ∷ []
 
--- a number in decimal, high digits first, in so many places at most
+-- the last digits of a number in decimal, high digits first; the first argument bounds how many
 unfoldable pub digits : ℕ → ℕ → List ℕ
 digits zero n = []
 digits (suc k) n = if ltb n 10 then digit n else digits k (n / 10) ++ digit (n % 10)

@@ -1,4 +1,4 @@
--- The bench set, and the files that tell slips and wrong numbers, computed.
+-- The bench set, and the files that detect slips and wrong numbers, computed.
 use mathlib.Core.Path.{refl}
 use Rattle.der.specs.Element.{noByteLeft, tagAt, finishAt, within, oneOctet, twoOctets, extentAt, elementAt, expectAt}
 use Rattle.der.specs.Content.{parts, identifierBody, identifierAt, integerBody, andDigit, integerValue, integerAt}

@@ -3,7 +3,7 @@ use Rattle.cases.specs.Bench.{Holds, benchCases}
 use Rattle.cases.specs.Telling.{slipCases, numberCases}
 use Rattle.cases.proofs.Bench as bench
 
--- Cases (a) to (j) of Rule 8.4, files that tell the slips of Rule 8.5, and files that tell a wrong
+-- Cases (a) to (j) of Rule 8.4, files that detect slips of Rule 8.5, and files that detect a wrong
 -- number: what reading each returns, with every field of the table.
 pub bench-table : Holds benchCases
 bench-table = bench.bench

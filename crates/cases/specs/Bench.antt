@@ -19,12 +19,12 @@ use Rattle.pkcs12.specs.declared.table.Table.{Table}
 use Rattle.pkcs12.specs.declared.answers.Answer.the-variants.{Accepted}
 use Rattle.pkcs12.specs.declared.answers.Reading.{Reading}
 
--- a file and what reading it gives
+-- a file and what reading it returns
 pub record Case : Type 0 where
   pub file : List ℕ
   pub gives : Reading
 
--- what reading the files gives is what is said of them
+-- what reading the files returns is what is said of them
 abbrev pub Holds : List Case → Type 0
 Holds cases = map (λ (c : Case). readFile (c .file)) cases ≡ map (λ (c : Case). c .gives) cases
 
@@ -34,7 +34,7 @@ case f r = record { file = f; gives = r }
 abbrev pub accepted : Table → Reading
 accepted t = record { answer = Accepted; table = t }
 
--- a refusal by number and place; both are written out in every case
+-- a refusal by number and offset; both are written out in every case
 abbrev pub refusal : ℕ → ℕ → Reading
 refusal n p = refused (fault n p)
 

@@ -1,4 +1,4 @@
--- Files that tell the slips of Rule 8.5, and files that tell a wrong number: in them, and in what
+-- Files that detect slips of Rule 8.5, and files that detect a wrong number: in them, and in what
 -- is said of them, every tag, identifier, size and refusal is written out.
 use mathlib.Core.Bool.{true, false}
 use mathlib.Core.List.{List, [], _∷_, _++_}

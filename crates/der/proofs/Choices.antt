@@ -1,6 +1,6 @@
 -- Rules by which `search` follows a definition's tests as the code's own tests decided them. Each
--- proves that an answer r is what a choice gives, from the fact that the code learnt and from what
--- the chosen side gives.
+-- proves that an answer r is the value of a choice, from the fact that the code learnt and from
+-- the value of the chosen side.
 use mathlib.Core.Path.{_≡_, refl, sym, _∙_}
 use mathlib.Core.Bool.{Bool, true, false, not}
 use Prim.Native.Nat.{ℕ, _<_, _≤_}
@@ -29,14 +29,14 @@ pub never : {A : Type 0} → false ≡ true → A
 never e = let z : _≡_ {A = ℕ} 0 1 = cc in absurd (omega arith)
 
 module _ {A : Type 0} where
-  -- a test that is a bool: u is what the code learnt of it, its own or what a callee gave
+  -- a test that is a bool: u is what the code learnt of it, its own value or a callee's answer
   pub told-true : (t u : Bool) (r x y : A) → u ≡ t → u ≡ true → r ≡ x → r ≡ (if t then x else y)
   told-true t u r x y p q e = rw (sym p ∙ q) e
 
   pub told-false : (t u : Bool) (r x y : A) → u ≡ t → u ≡ false → r ≡ y → r ≡ (if t then x else y)
   told-false t u r x y p q e = rw (sym p ∙ q) e
 
-  -- the same where the code asks for its opposite
+  -- the same where the code tests its opposite
   pub denied : (t u : Bool) (r x y : A) → u ≡ t → not u ≡ true → r ≡ y → r ≡ (if t then x else y)
   denied t u r x y p q e = rw (sym p ∙ not-true u q) e
 
@@ -64,8 +64,7 @@ module _ {A : Type 0} where
   pub same : (x : A) → x ≡ x
   same x = refl
 
-  -- an answer that a callee gave, taken apart: v is what the definition names, w what the code
-  -- matched on
+  -- an answer of a callee, taken apart: v is what the definition names, w what the code matched on
   pub extent-refused : (v w : Extent) (f : Fault) (r : A) (bad : Fault → A) (good : Cursor → A)
       → w ≡ v → w ≡ Extent.Refused f → r ≡ bad f → r ≡ onExtent v bad good
   extent-refused v w f r bad good p q e = rw (sym p ∙ q) e

@@ -21,7 +21,7 @@ use Rattle.der.specs.Content.{andDigit, integerValue, IntegerAt}
 use Rattle.der.specs.Octets.{number, numberFrom, IntegerRule, IdentifierRule}
 use Rattle.der.specs.declared.Cursor.{Cursor}
 
--- What a choice with a constant arm tells of its test and of its other arm.
+-- What a choice with a constant arm implies of its test and of its other arm.
 both : (t v : Bool) → (if t then false else v) ≡ true → (t ≡ false) × (v ≡ true)
 both true v e = never e
 both false v e = (refl, e)
@@ -34,7 +34,7 @@ if-so : (t v : Bool) → (if t then v else true) ≡ true → t ≡ true → v �
 if-so true v e f = e
 if-so false v e f = never f
 
--- The bytes bs that stand behind p: the last of p and bs is below 128, and a byte behind one below
+-- The bytes bs behind the byte p: the last of p and bs is below 128, and a byte behind one below
 -- 128 is not 128.
 record Tail (p : ℕ) (bs : List ℕ) : Type 0 where
   last : getD (p ∷ bs) (length bs) 0 < 128
@@ -70,7 +70,7 @@ parts-of p [] t = lt-ltb p 128 (t .last)
 parts-of p (b ∷ bs) t =
     rw (breaks-not p b (ltb p 128) refl (t .later 0 (omega arith))) (parts-of b bs (shorter p b bs t))
 
--- The rule of an identifier's body: its first byte is not 128, and the others stand behind it.
+-- The rule of an identifier's body: its first byte is not 128, and the others are its `Tail`.
 pub identifier-rule : (body : List ℕ) → identifierBody body ≡ true → IdentifierRule body
 unfolding identifierBody parts
 identifier-rule [] e = never e
@@ -100,7 +100,7 @@ getD-slice s a e i h = rw (getD-drop, getD-take)
 slice-past : (s : List ℕ) (a e : ℕ) → e ≤ a → slice a e s ≡ []
 slice-past s a e h = drop-of-length-le (take e s) {i = a} (simp length-take (omega arith))
 
--- The rule of an integer's body, read at the places of the file.
+-- The rule of an integer's body, read at the offsets of the file.
 record Held (s : List ℕ) (a e : ℕ) : Type 0 where
   some : a < e
   four : e ≤ a + 4
@@ -210,7 +210,7 @@ andDigit-below s end i v k h g = below (getD s i 0) v k (ltb i end) h g
 pub andDigit-next : (s : List ℕ) (end i v k r : ℕ) → r ≡ andDigit s end i v → v < k → Fits w8 (getD s i 0) → r < k * 256
 andDigit-next s end i v k r e h f = rw e (andDigit-below s end i v k h (f .fits))
 
--- what the code asks of a body before it reads the number, once the test u has passed
+-- what the code requires of a body before it reads the number, once the test u has passed
 pub integer-at : (s : List ℕ) (b : Cursor) (u : Bool) → u ≡ integerBody s b → u ≡ true
     → b .end ≤ length s → IntegerAt s b
 integer-at s b u p q h =

@@ -1,4 +1,4 @@
--- The opaque check accepts exactly the encodings of trees of as many levels as it is given, and
+-- The opaque check with l levels accepts exactly the encodings of trees of at most l levels, and
 -- counts their elements.
 use mathlib.Core.Path.{_≡_, refl, sym, _∙_}
 use mathlib.Core.List.{List}

@@ -29,13 +29,13 @@ use Rattle.der.proofs.Spans.{span-one, span-of, span-join, span-split, 
 pub tag-form : (t : ℕ) → eqb t 0 ≡ false → eqb (t % 32) 31 ≡ false → TagForm t
 tag-form t p q = record { not-zero = eqb-false t 0 p; low-bits = eqb-false (t % 32) 31 q }
 
--- the length octets that stand behind a tag are read as the body's extent
+-- the length octets behind a tag are read as the body's extent
 module _ (s : List ℕ) (at end b n : ℕ) (inside : end ≤ length s) (fits : b + n ≤ end) where
   within-is : (start size : ℕ) → start ≡ b → size ≡ n → within at start size end ≡ Body (cursor b (b + n))
   unfolding within
   within-is start size p q = rw (p, q, le-ltb end (b + n) fits)
 
-  -- the three forms, by what stands behind the tag
+  -- the three forms, by the octets behind the tag
   short-is : Span s (at + 1) b (n ∷ []) → n < 128 → extentAt s at end ≡ Body (cursor b (b + n))
   unfolding extentAt
   short-is p h =
@@ -85,7 +85,7 @@ unfolding elementAt
 element-is s at end t b i l g form x =
     rw (left-is s (cursor at end) l i, g, ne-eqb t 0 (form .not-zero), ne-eqb (t % 32) 31 (form .low-bits), x)
 
--- what is written as `tlv` is found: k is told where the body begins
+-- what is written as `tlv` is found; the continuation k takes the offset of the body
 pub header-then : {P : Type 0} (s : List ℕ) (at e end t : ℕ) (body : List ℕ) → TagForm t → length body < lengthBound
     → Span s at e (tlv t body) → e ≤ end → end ≤ length s
     → ((b : ℕ) → elementAt s (cursor at end) ≡ Found t (cursor b e) (cursor e end) → Span s b e body → P) → P
@@ -133,7 +133,7 @@ header-complete s c t b n h =
     let z : a ≡ b .at = omega (arith, p .size, h .body .size) in
     e ∙ rw (z, h .moved .next))
 
--- the cursor past an element stands at its body's end
+-- the cursor past an element is at its body's end
 pub header-next : (s : List ℕ) (c : Cursor) (t : ℕ) (b n : Cursor) → HeaderIs s c t b n
     → Span s (c .at) (n .at) (tlv t (bytesOf s b)) × Moved s c (n .at) n
 header-next s c t b n h =

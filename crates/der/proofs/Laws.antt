@@ -1,6 +1,6 @@
 -- The laws of `der`: what the crates above use in place of the definitions' text. Statements, with
--- their proofs elsewhere. `Bytes s` is asked where a list must be of numbers below 256: a length is
--- of one form only then.
+-- their proofs elsewhere. `Bytes s` is required where the numbers of a list must be below 256:
+-- only then is a length of one form.
 use mathlib.Core.Bool.{true}
 use mathlib.Core.Logic.{_↔_}
 use mathlib.Core.Path.{_≡_, refl}
@@ -49,8 +49,7 @@ pub expect-iff : (due : ℕ) (s : List ℕ) (c : Cursor) (t : ℕ) (b n : Cursor
 expect-iff due s c t b n =
     (placed.expected due s c (expectAt due s c) t b n refl, λ h. rw (← (h .0)) (placed.expect-is s c t b n (h .1)))
 
--- The length octets in the three forms that are read, and for any length that they stand for one
--- number.
+-- The length octets in the three forms that are read.
 pub octets-short : (n : ℕ) → n < 128 → lengthOctets n ≡ n ∷ []
 octets-short = octets.octets-short
 
@@ -69,13 +68,13 @@ pub identifier-iff : (s : List ℕ) (c : Cursor) (t : ℕ) (b n : Cursor) → By
     → identifierAt s c ≡ Found t b n ↔ IdentifierIs s c t b n
 identifier-iff s c t b n bytes = (values.identifier-sound s c t b n bytes, values.identifier-complete s c t b n)
 
--- The INTEGER v is read exactly where the octets of v stand, and v is below 2^31.
+-- The INTEGER v is read exactly where the octets of v are, and v is below 2^31.
 pub integer-iff : (s : List ℕ) (c : Cursor) (v : ℕ) (n : Cursor) → Bytes s
     → integerAt s c ≡ Value v n ↔ IntegerIs s c v n
 integer-iff s c v n bytes = (values.integer-sound s c v n bytes, values.integer-complete s c v n)
 
--- The octets of a number below 2^31 keep the rule and give the number back; a body that keeps the
--- rule is the octets of its number.
+-- The octets of a number below 2^31 keep the rule and are read as that number; a body that keeps
+-- the rule is the octets of its number.
 pub octets-of-integer : (v : ℕ) → v < integerBound → IntegerRule (integerOctets v) × (number (integerOctets v) ≡ v)
 octets-of-integer v h = (octets.integer-rule v h, octets.integer-number v)
 

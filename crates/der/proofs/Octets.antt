@@ -11,7 +11,7 @@ use Rattle.der.specs.Octets.{numberFrom, number, IntegerRule}
 use Rattle.der.specs.Span.{Bytes}
 use Rattle.der.proofs.Choices.{chosen-lt, chosen-le, either}
 
--- any fuel above the number gives its digits
+-- the digits are the same with any fuel above the number
 enough : (f g n : ℕ) → n < f → n < g → digitsFrom f n ≡ digitsFrom g n
 unfolding digitsFrom
 enough zero g n h k = absurd (omega arith)
@@ -99,7 +99,7 @@ digits-number d ds h b =
     let z : 0 * 256 + d ≡ d = omega arith in
     rw z (digits-from d ds (omega arith) (b .1) ∙ rw (digits-small d (b .0)))
 
--- length octets: the three short forms, and that they stand for one number alone
+-- length octets: the three short forms, and that they encode one number only
 pub octets-short : (n : ℕ) → n < 128 → lengthOctets n ≡ n ∷ []
 unfolding lengthOctets
 octets-short n h = chosen-lt n 128 _ _ h

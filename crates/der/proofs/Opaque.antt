@@ -174,7 +174,7 @@ module _ (l : ℕ) (s : List ℕ) (end at : ℕ) (w : Checked) (i : ℕ) (n : Cu
   pub step-fits : (m from : ℕ) → from + 2 * m ≤ at → length s < 2 ^ 64 → Fits w64 (m + i)
   step-fits m from h k = let v = went l s (cursor at end) w i n p q in omega (arith, v .long, v .within, v .inside)
 
--- a run's count has room for its parent, which was found in the bytes
+-- a run's count with one more for its parent, which was found in the bytes, fits 64 bits
 pub run-fits : (l : ℕ) (s : List ℕ) (c : Cursor) (x : Element) (t : ℕ) (b n : Cursor) (w : Checked) (m : ℕ) (e : Cursor)
     → x ≡ elementAt s c → x ≡ Found t b n → w ≡ elementsAt l s b → w ≡ Passed m e → length s < 2 ^ 64 → Fits w64 (m + 1)
 run-fits l s c x t b n w m e o f p q h =

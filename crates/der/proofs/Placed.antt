@@ -1,4 +1,4 @@
--- Where an accepted element stands: its body behind its header and within its parent, and the
+-- Where an accepted element is: its body behind its header and within its parent, and the
 -- header's bytes. Each fact is proved of the definition once, by cases on its answer.
 use mathlib.Core.Path.{_≡_, refl, sym, _∙_}
 use mathlib.Core.Bool.{Bool, true, false}
@@ -59,7 +59,7 @@ abbrev OfExtent : List ℕ → ℕ → ℕ → Extent → Type 0
 OfExtent s at end (Extent.Refused f) = Unit {0}
 OfExtent s at end (Body b) = BodyOf s at end b
 
--- a body of `size` bytes from `start`, whose length octets stand before it
+-- a body of `size` bytes from `start`, whose length octets are before it
 within-of : (s : List ℕ) (at end start size : ℕ) → at + 2 ≤ start → (Bytes s → size < lengthBound)
     → (Bytes s → drop (at + 1) s ≡ lengthOctets size ++ drop start s) → OfExtent s at end (within at start size end)
 unfolding within
@@ -126,7 +126,7 @@ module _ (s : List ℕ) (at end : ℕ) (inside : end ≤ length s) where
       (λ f. by-le (OfExtent s at end) _ _ _ _ (λ i. tt) (λ i. by-eq (OfExtent s at end) _ _ _ _ (λ j. tt) (two-of f i)))
       (λ m. tt))))
 
--- an element found at a cursor: its tag is of a form that is taken, and its body stands behind its
+-- an element found at a cursor: its tag is of a form that is taken, and its body is behind its
 -- header, within its parent
 pub record Placed (s : List ℕ) (c : Cursor) (t : ℕ) (b n : Cursor) : Type 0 where
   pub some : c .at < c .end

@@ -10,7 +10,7 @@ use mir.Val.{Fits}
 use Rattle.der.specs.Report.{Report}
 use Rattle.der.specs.Span.{Bytes}
 
--- a list whose every place holds a byte
+-- a list with a byte at every index
 pub all-bytes : (s : List ℕ) → ((i : ℕ) → Fits w8 (getD s i 0)) → Bytes s
 all-bytes [] h = tt
 all-bytes (b ∷ s) h = (omega (arith, h 0), all-bytes s (λ i. h (suc i)))

@@ -1,4 +1,4 @@
--- The laws of `Span`: bytes that stand from one offset up to another.
+-- The laws of `Span`: bytes from one offset up to another.
 use mathlib.Core.Path.{_≡_, refl, sym, ap, _∙_}
 use mathlib.Core.List.{List, [], _∷_, _++_, append-assoc, append-nil}
 use Prim.Native.Nat.{ℕ, zero, suc, _+_, _≤_, _<_}
@@ -37,7 +37,7 @@ module _ (s : List ℕ) where
         inside = q .inside;
       }
 
-  -- a span of two lists is a span of each; k is told where they meet
+  -- a span of two lists is a span of each; the continuation k takes the offset where they meet
   pub span-split : {P : Type 0} (a c : ℕ) (x y : List ℕ) → Span s a c (x ++ y)
       → ((b : ℕ) → Span s a b x → Span s b c y → P) → P
   span-split a c x y p k =
@@ -74,7 +74,7 @@ module _ (s : List ℕ) where
   pub slice-span : (a b : ℕ) (x : List ℕ) → Span s a b x → slice a b s ≡ x
   slice-span a b x p = span-same a b (slice a b s) x (span-slice a b (omega (arith, p .size)) (p .inside)) p
 
-  -- the byte i of a span, which stands at j
+  -- the byte i of a span, which is at the offset j
   pub span-at : (a b i j : ℕ) (x : List ℕ) → Span s a b x → a + i ≡ j → i < length x → getD s j 0 ≡ getD x i 0
   span-at a b i j x p e h =
       rw (← e)

@@ -1,5 +1,5 @@
--- The laws of opaque elements as trees: how long they are, and that their bytes stand for one tree
--- alone.
+-- The laws of opaque elements as trees: how long they are, and that their bytes encode one tree
+-- only.
 use mathlib.Core.Path.{_≡_, refl, sym, ap}
 use mathlib.Core.List.{List, [], _++_, append-assoc, append-nil}
 use Prim.Native.Nat.{ℕ, _*_, _≤_}
@@ -28,7 +28,7 @@ unfolding elements
 tree-some (primitive t body) = omega arith
 tree-some (constructed t xs) = omega arith
 
--- a tree is one element: k is told its tag and its body
+-- a tree is one element; the continuation k takes its tag and its body
 pub tree-element : {P : Type 0} (x : Tree) → Formed x
     → ((t : ℕ) (body : List ℕ) → TagForm t → encode x ≡ tlv t body → P) → P
 unfolding encode Formed
@@ -49,7 +49,7 @@ run-none = (tt, refl, refl, refl)
 not-empty : (x : Tree) (r : List ℕ) → encode x ++ r ≡ [] → ⊥
 not-empty x r e = omega (arith, ap length e, length-append (encode x) r, tree-long x, tree-some x)
 
--- an element's bytes, whatever follows them, stand for one tree, and a run's bytes for one run
+-- an element's bytes, whatever follows them, encode one tree only, and a run's bytes one run only
 mutual
   unfolding encode Formed
 

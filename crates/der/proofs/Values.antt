@@ -61,7 +61,7 @@ pub identifier-complete : (s : List ℕ) (c : Cursor) (t : ℕ) (b n : Cursor) �
 identifier-complete s c t b n h =
     rw (h .tag) (identifier-is s c b n (rw (h .tag) at (header-complete s c t b n (h .header))) (h .rule))
 
--- an identifier that is written is found: k is told where its body begins
+-- an identifier that is written is found; the continuation k takes the offset of its body
 pub identifier-then : {P : Type 0} (s : List ℕ) (at e end : ℕ) (body : List ℕ) → IdentifierRule body
     → length body < lengthBound
     → Span s at e (tlv identifierTag body) → e ≤ end → end ≤ length s

@@ -55,7 +55,8 @@ integerBody s b =
 unfoldable pub andDigit : List ℕ → ℕ → ℕ → ℕ → ℕ
 andDigit s end i v = if ltb i end then v * 256 + getD s i 0 else v
 
--- what reading a number asks of a body: `integerBody` took it, in a list that reaches so far
+-- what reading a number requires of a body: it lies in the list, isn't empty, and begins with a
+-- byte below 80 (hex)
 pub record IntegerAt (s : List ℕ) (b : Cursor) : Type 0 where
   pub inside : b .end ≤ length s
   pub some : b .at < b .end

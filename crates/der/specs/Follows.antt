@@ -19,7 +19,7 @@ pub record Moved (s : List ℕ) (c : Cursor) (stop : ℕ) (n : Cursor) : Type 0 
   pub inside : c .end ≤ length s
   pub next : n ≡ cursor stop (c .end)
 
--- an element stands at c: its tag t, its body b, and the cursor n past it
+-- an element begins at c: its tag t, its body b, and the cursor n past it
 pub record HeaderIs (s : List ℕ) (c : Cursor) (t : ℕ) (b n : Cursor) : Type 0 where
   pub form : TagForm t
   pub small : length (bytesOf s b) < lengthBound
@@ -27,19 +27,19 @@ pub record HeaderIs (s : List ℕ) (c : Cursor) (t : ℕ) (b n : Cursor) : Type 
   pub whole : Span s (c .at) (b .end) (tlv t (bytesOf s b))
   pub moved : Moved s c (b .end) n
 
--- an identifier stands at c
+-- an identifier begins at c
 pub record IdentifierIs (s : List ℕ) (c : Cursor) (t : ℕ) (b n : Cursor) : Type 0 where
   pub tag : t ≡ identifierTag
   pub header : HeaderIs s c t b n
   pub rule : IdentifierRule (bytesOf s b)
 
--- the INTEGER v stands at c
+-- the INTEGER v begins at c
 pub record IntegerIs (s : List ℕ) (c : Cursor) (v : ℕ) (n : Cursor) : Type 0 where
   pub small : v < integerBound
   pub whole : Span s (c .at) (n .at) (tlv integerTag (integerOctets v))
   pub moved : Moved s c (n .at) n
 
--- a tree of l levels at most stands at c: m elements
+-- a tree of l levels at most begins at c: m elements
 pub record OpaqueIs (l : ℕ) (s : List ℕ) (c : Cursor) (m : ℕ) (n : Cursor) : Type 0 where
   pub tree : Tree
   pub formed : Formed tree

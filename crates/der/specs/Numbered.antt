@@ -1,6 +1,6 @@
 -- The numbers, sizes and tags of this crate, each beside the name that the definitions use for it.
--- They are written out as the rules have them, and `numbers-named` among the laws says that each
--- name is what it stands for.
+-- They are written out as the rules have them, and `numbers-named` (proofs/Numbered.antt) says
+-- that each name has the value beside it.
 use mathlib.Core.List.{List, [], _∷_}
 use Prim.Native.Nat.{ℕ}
 use Rattle.der.specs.Named.{Named}

@@ -42,7 +42,7 @@ identifier x = tlv identifierTag x
 abbrev pub sequence : List ℕ → List ℕ
 sequence x = tlv sequenceTag x
 
--- the number that digits to the base 256 stand for, after those of v
+-- the number with these digits to the base 256 behind those of v
 unfoldable pub numberFrom : ℕ → List ℕ → ℕ
 numberFrom v [] = v
 numberFrom v (d ∷ ds) = numberFrom (v * 256 + d) ds

@@ -10,7 +10,7 @@ use Rattle.der.specs.declared.Checked.the-variants.{Passed}
 use Rattle.der.specs.declared.Integer.{Integer}
 use Rattle.der.specs.declared.Integer.the-variants.{Value}
 
--- the number of a refusal, 0 where there is none; its place, 0 where there is none; the values of
+-- the number of a refusal, 0 where there is none; its offset, 0 where there is none; the values of
 -- what is no refusal
 pub record Report : Type 0 where
   pub number : ℕ

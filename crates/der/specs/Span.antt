@@ -1,4 +1,4 @@
--- Where bytes stand: x fills the offsets from a up to b - 1 of s, the range a..b (Rule 1.2).
+-- Where bytes are: x fills the offsets from a up to b - 1 of s, the range a..b (Rule 1.2).
 use mathlib.Core.Path.{_≡_}
 use mathlib.Core.List.{List, [], _∷_, _++_}
 use Prim.Native.Nat.{ℕ, _+_, _≤_, _<_}

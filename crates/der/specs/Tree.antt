@@ -56,7 +56,7 @@ unfoldable mutual
   AllFormed none = Unit {0}
   AllFormed (more x xs) = Formed x × AllFormed xs
 
--- how many trees stand side by side
+-- the number of trees side by side
 unfoldable pub siblings : Trees → ℕ
 siblings none = 0
 siblings (more x xs) = suc (siblings xs)

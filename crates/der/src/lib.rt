@@ -57,8 +57,8 @@ pub struct Fault {
     pub offset: usize,
 }
 
-// A place in the file: the next byte of a parent's body, and that body's end. A cursor that ends
-// past the bytes, or before its own position, has no byte left.
+// A position in a parent's body: the offset of the next byte, and that of the body's end. A cursor
+// that ends past the bytes, or at or before its own position, has no byte left.
 pub struct Cursor {
     pub at: usize,
     pub end: usize,

@@ -32,7 +32,7 @@ chosen-last (x ∷ xs) (suc i) m =
     (λ e. rw (eq-eqb (suc (length xs)) (suc i) (omega arith)))
     (λ n. rw (ne-eqb (suc (length xs)) (suc i) (λ e. n (omega arith))))
 
--- the run of elements from a place on: at the end, before what is no element, and before one
+-- the run of elements from an offset on: at the end, before what is no element, and before one
 pub run-end : (fuel : ℕ) (s : List ℕ) (end at : ℕ) → end ≤ at → elementsFrom fuel s end at ≡ []
 unfolding elementsFrom
 run-end zero s end at h = refl
@@ -102,7 +102,7 @@ module _ (s : List ℕ) (i end start : ℕ) where
       walking-stops f q = all-seen (run-broken (g .fuel) s end at f (sym e ∙ q))
 
       module _ (t : ℕ) (b n : Cursor) (q : w ≡ Found t b n) where
-        -- the element ends past its own place and within its parent
+        -- the element ends past its own offset and within its parent
         ends-within : (at < n .at) × (n .at ≤ end)
         ends-within =
             let p = found-at s (cursor at end) w t b n e q in

@@ -1,5 +1,5 @@
--- Sizes that are told as one byte more than the longest file has if they are any more: sums and
--- elements of them, and the rules that `search` follows the code's sums by.
+-- Sizes that are capped at one byte more than the longest file has: sums and elements of them, and
+-- the rules by which `search` follows the code's sums.
 use mathlib.Core.Path.{_≡_, refl, sym, _∙_}
 use mathlib.Core.List.{List, _++_}
 use Prim.Native.Nat.{ℕ, _+_, _≤_, _<_}
@@ -24,11 +24,11 @@ pub by-size : {P : Type 0} (n : ℕ) → (n ≤ fileBytes → capped n ≡ n →
     → (fileBytes < n → capped n ≡ fileBytes + 1 → P) → P
 by-size n small past = either fileBytes n (λ h. past h (capped-past n h)) (λ h. small h (capped-small n h))
 
--- a size that is told small is the size
+-- a capped size that a file can have is the size itself
 pub capped-told : (n : ℕ) → capped n ≤ fileBytes → capped n ≡ n
 capped-told n h = by-size n (λ l e. e) (λ l e. absurd (omega (arith, h, e)))
 
--- two numbers that are told alike
+-- two numbers that are equal once they are capped
 pub record Near (a b : ℕ) : Type 0 where
   pub alike : capped a ≡ capped b
 
@@ -47,7 +47,7 @@ near-same a = record { alike = refl }
 pub near-is : (a b : ℕ) → a ≡ b → Near a b
 near-is a b e = rw e (near-same b)
 
--- what is told of a number is near it
+-- a capped number is near the number itself
 pub near-told : (r n : ℕ) → r ≡ capped n → Near r n
 near-told r n e =
     by-size n (λ h f. near-is r n (e ∙ f)) (λ h f. both-past r n (omega (arith, e, f)) h)
@@ -73,12 +73,12 @@ near-element n m p =
 pub near-then : (a b c : ℕ) → Near a b → Near b c → Near a c
 near-then a b c p q = record { alike = p .alike ∙ q .alike }
 
--- ---- rules: r is what a callee gave
+-- ---- rules: r is what a callee returned
 
 pub by-element : (r n m : ℕ) → r ≡ capped (elementSize n) → Near n m → Near r (elementSize m)
 by-element r n m e p = near-then _ _ _ (near-told r (elementSize n) e) (near-element n m p)
 
--- r was told, so it is what is told of what it is near
+-- where r is the capped size of a number, it is that of every number near it
 pub told : (r a c : ℕ) → r ≡ capped a → Near a c → r ≡ capped c
 told r a c e p = e ∙ p .alike
 

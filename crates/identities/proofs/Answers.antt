@@ -140,7 +140,7 @@ module _ (t : Table) (s : List ℕ) (out : List IdentityRow) where
       ∙ first-at (identityOf t s) (min (t .«bag_count») bagRows) i d
       (omega (arith, first-length (identityOf t s) (min (t .«bag_count») bagRows))))
 
-  -- what stands behind the rows in front is what stood there
+  -- what is behind the rows in front is as before
   behind : (xs : List IdentityRow) (i : ℕ) (d : IdentityRow) → length xs ≤ i
       → getD (xs ++ drop (length xs) out) i d ≡ getD out i d
   behind xs i d h =

@@ -38,7 +38,7 @@ use Rattle.attributes.proofs.Shown.{by-file, shown-bags}
 
 -- ---- the rows
 
--- row j of an array in which the first m of what f numbers stand
+-- row j of an array that begins with the first m of what f numbers
 row-in : {A : Type 0} (f : ℕ → A) (k m : ℕ) (none : A) (j : ℕ) → j < m → getD (padded k none (firstOf f m)) j none ≡ f j
 row-in f k m none j h = List·getD-append (firstOf f m) _ none j
     (omega (arith, first-length f m)) ∙ first-at f m j none h
@@ -55,7 +55,7 @@ row-past k j none xs h =
     ∙ all-none (k - length xs) (j - length xs) none
 
 module _ (t : Table) (s : List ℕ) where
-  -- no more rows stand in the array than bags are counted
+  -- the array has rows of no more bags than are counted
   few-rows : min (t .«bag_count») bagRows ≤ t .«bag_count»
   few-rows = omega arith
 
@@ -121,7 +121,7 @@ module _ (t : Table) (s : List ℕ) (k : ℕ) where
       λ h. by-certificate (λ r. r ≡ refusedBy notSound) (λ x. refl) (λ o. absurd (h o)),
     )
 
-    -- another answer than 11 is given exactly if the table is sound and pairing gives it
+    -- another answer than 11 is returned exactly if the table is sound and pairing returns it
     given : (r : Paired) (X : Type 0) → (refusedBy notSound ≡ r → ⊥)
         → (Sound t s → paired s (identityRows t s) k ≡ r → X)
         → (X → Sound t s × (paired s (identityRows t s) k ≡ r)) → certificateFor t s k ≡ r ↔ X

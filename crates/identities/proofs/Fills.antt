@@ -169,7 +169,7 @@ module _ (t : Table) (s : List ℕ) (out : List IdentityRow) where
           two true k = bad shortBuffer
           two false k = good (k refl) (h f refl)
 
-  -- no more rows are stored than there is room for
+  -- no more rows are stored than the caller has
   pub fill-count : fillingOf t s (length out) .count ≤ length out
   unfolding refusedFilling
   fill-count = by-filling (λ p q. p .count ≤ length out) (λ n. omega arith) (λ h k. h)

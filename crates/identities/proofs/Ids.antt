@@ -45,7 +45,7 @@ use Rattle.identities.specs.declared.Id.{Id}
 
 -- ---- the first localKeyID attribute, in the rows and in what they show
 
--- rows that stand before a list are counted
+-- rows that come before a list are counted
 shift-choice : (u : Bool) (at a b : ℕ) → a ≡ at + b → (if u then at else a) ≡ at + (if u then 0 else b)
 shift-choice true at a b e = omega arith
 shift-choice false at a b e = e

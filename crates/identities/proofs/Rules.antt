@@ -77,8 +77,8 @@ module _ (s : List ℕ) (bag : ℕ) (r : AttributeRow) where
   unfolding isLocalKey
   local-other h = rw (ne-eqb (r .bag) bag h)
 
--- Past the end of an array stands what stands for a row that isn't there; k rows, as the code is
--- told of them.
+-- Past the end of an array is what is taken for a row that isn't there; the array has k rows, as
+-- its type says.
 pub past-array : {A : Type 0} (B : Type 0) (f : A → B) (k i : ℕ) (xs : List A) (d : A) → length (map f xs) ≡ k → k ≤ i → d ≡ getD xs i d
 past-array B f k i xs d e h = let l : length (map f xs) ≡ length xs = length-map xs f in sym (List·getD-eq-default xs d {n = i} (omega (arith, e, l, h)))
 
@@ -122,7 +122,7 @@ module _ (t : Table) (s : List ℕ) (bag end i : ℕ) (e : i ≡ keyRow t s bag)
   unfolding idOf
   id-none h = rw (← e, le-ltb i (length (attributesOf t)) (omega (arith, counted, h)))
 
--- the identity row of a bag, by what opening its attributes gave
+-- the identity row of a bag, by what opening its attributes returned
 module _ (t : Table) (s : List ℕ) (bag : ℕ) (p : Position) (e : p ≡ openingOf t s bag) where
   pub opened-refused : (f : Fault) → p .item ≡ Item.Refused f → Identity.Refused f ≡ identityAt t s bag
   unfolding identityAt

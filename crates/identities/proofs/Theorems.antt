@@ -56,7 +56,7 @@ id-lies = ids.id-lies
 
 -- ---- the identity row of a bag
 
--- A row is given exactly if the table is sound and has the bag, and then it is this one;
+-- A row is returned exactly if the table is sound and has the bag, and then it is this one;
 pub identity-iff : (t : Table) (s : List ℕ) (n : ℕ) → Bytes s → (r : IdentityRow)
     → identityAt t s n ≡ Identity.Row r ↔ (Sound t s × (n < t .«bag_count») × (identityOf t s n ≡ r))
 identity-iff = answers.identity-iff
@@ -150,8 +150,8 @@ certificate-by-reading = certificates.certificate-by-reading
 
 -- ---- filling a caller's rows
 
--- A number is returned exactly if the table is sound and there is room, and it is the number of
--- bags;
+-- A number is returned exactly if the table is sound and there are enough rows, and it is the
+-- number of bags;
 pub filled-iff : (t : Table) (s : List ℕ) (out : List IdentityRow) → Bytes s → (n : ℕ)
     → fillOf t s out .answer ≡ Length n ↔ (Sound t s × (t .«bag_count» ≤ length out) × (t .«bag_count» ≡ n))
 filled-iff = answers.filled-iff
@@ -165,7 +165,7 @@ pub filled-10-iff : (t : Table) (s : List ℕ) (out : List IdentityRow) → Byte
     → fillOf t s out .answer ≡ Written.Refused (fault shortBuffer 0) ↔ (Sound t s × (length out < t .«bag_count»))
 filled-10-iff = answers.filled-10
 
--- Then row i is that of bag i, and behind them, and on refusal everywhere, stands what stood there.
+-- Then row i is that of bag i. The rows behind them, and on refusal all rows, are as before.
 pub filled-row : (t : Table) (s : List ℕ) (out : List IdentityRow) (n : ℕ) → fillOf t s out .answer ≡ Length n
     → (i : ℕ) (d : IdentityRow) → i < n
     → getD (fillOf t s out .rows) i d ≡ identityOf t s i

@@ -26,7 +26,7 @@ pub record Filled : Type 0 where
 abbrev pub refusal : ℕ → List IdentityRow → Filled
 refusal number out = record { answer = Written.Refused (fault number 0); rows = out }
 
--- the rows stand at the front, their number is returned, and what stands behind them is as before
+-- the rows are at the front, their number is returned, and what is behind them is as before
 abbrev pub success : List IdentityRow → List IdentityRow → Filled
 success xs out = record { answer = Length (length xs); rows = xs ++ drop (length xs) out }
 

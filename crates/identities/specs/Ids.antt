@@ -46,7 +46,7 @@ idInRow r = anId (r .«has_id») (r .id)
 
 -- ---- keys and certificates by the reading
 
--- what stands for a bag that isn't there
+-- what is taken for a bag that isn't there
 abbrev pub noBagValue : BagValue
 noBagValue = record { safe = 0; enclosing = Enclosing.None; content = empty-bag; has-set = false }
 

@@ -1,4 +1,4 @@
--- What listing a reading into a lent buffer comes to: the answer, and the buffer afterwards.
+-- What listing a reading into a caller's buffer comes to: the answer, and the buffer afterwards.
 use mathlib.Core.List.{List}
 use Prim.Native.Nat.{ℕ}
 use Rattle.buffer.specs.Written.{Outcome, intoBuffer}

@@ -1,5 +1,5 @@
-// Writes the listing of a file into a caller's buffer: three lines and one for each row, or the line of
-// a refusal. docs/USING.md has the forms.
+// Writes the listing of a file into a caller's buffer: three lines and one for each row, or the
+// line of a refusal. docs/USING.md has the forms.
 ghost use mathlib.Core.Path.{_≡_};
 ghost use lib.ListN.{length};
 ghost use Rattle.buffer.specs.Report.{writtenReport};
@@ -57,7 +57,7 @@ fn measured(size: usize, reading: Reading) -> usize
 }
 
 // Writes the listing of a file of this size. Nothing is written before it is known that the buffer
-// has room.
+// is long enough.
 pub fn list(size: usize, reading: Reading, out: &mut [u8]) -> Written
     ensures { λ r. ⌜ r ≡ listed size reading (now (out .entry)) .answer ⌝ }
     ensures { λ r. ⌜ writtenReport r ≡ writtenReport (listed size reading (now (out .entry)) .answer) ⌝ }

@@ -77,7 +77,7 @@ fn bag_parts(out: &mut [u8], at: usize, kind: BagKind, p: Parts) -> usize
     }
 }
 
-// How many attribute rows name the bag, if a set stands there.
+// How many attribute rows name the bag, if it has a set.
 fn bag_set(out: &mut [u8], at: usize, has_set: bool, own: usize) -> usize
     ensures { λ r. ⌜ Placed (now (out .entry)) at (setText «has_set» own) (now (out .exit)) r ⌝ }
 {

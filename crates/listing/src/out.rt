@@ -1,5 +1,5 @@
-// Ranges into a caller's buffer, at an offset; each function returns the offset behind them, as those
-// of `text` do.
+// Ranges into a caller's buffer, at an offset; each function returns the offset behind them, as
+// those of `text` do.
 ghost use Rattle.listing.specs.Lines.{rangeText, sealedText, typedText};
 ghost use Rattle.buffer.specs.Placed.{Placed};
 use pkcs12::Parts;

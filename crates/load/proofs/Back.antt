@@ -1,4 +1,4 @@
--- What was stored is loaded as it was: words that stand at a place are read there.
+-- What was stored is loaded as it was: words that are at an offset are read there.
 use mathlib.Core.Path.{_≡_, refl, sym, ap, _∙_}
 use mathlib.Core.Bool.{Bool, true, false}
 use mathlib.Core.List.{List, [], _∷_, _++_, append-assoc}
@@ -34,7 +34,7 @@ use Rattle.load.specs.Loaded.{partsLoaded, safeLoaded, bagLoaded, attrib
 use Rattle.load.specs.Wordable.{RangeFits, PartsFits, EnclosingFits, SafeFits, BagFits, AttributeFits, MacFits}
 use Rattle.words.proofs.Rows.{each-length}
 
--- ---- words that stand at a place
+-- ---- words that are at an offset
 
 pub record Stands (ws : List ℕ) (at : ℕ) (x : List ℕ) : Type 0 where
   pub rest : List ℕ
@@ -54,7 +54,7 @@ module _ (ws : List ℕ) (at : ℕ) where
   pub stands-word : (w : ℕ) (x : List ℕ) → Stands ws at (w ∷ x) → wordAt ws at ≡ w
   stands-word w x s = ap (wordAt ws) (sym (add-zero at)) ∙ sym (getD-drop at ws 0 0) ∙ ap (λ (l : List ℕ). getD l 0 0) (s .words)
 
--- ---- what a word stands for
+-- ---- what a word means
 
 range-same : (r : Range) → RangeFits r → wordRange (r .start) (r .end) ≡ r
 unfolding wordRange
@@ -91,7 +91,7 @@ unfolding setOf
 set-same false = refl
 set-same true = refl
 
--- ---- what stands at a place
+-- ---- what is at an offset
 
 module _ (ws : List ℕ) where
   pub range-back : (at : ℕ) (r : Range) → RangeFits r → Stands ws at (rangeWords r) → rangeLoaded ws at ≡ r
@@ -186,7 +186,7 @@ unfolding each
 each-take g xs d zero h e = refl
 each-take g xs d (suc n) h e = rw (each-take g xs d n (omega arith) (λ i l. e i (omega arith)), e n (omega arith)) (sym (take-suc xs n d (omega arith)))
 
--- rows of any kind that stand at a place, loaded from there
+-- rows of any kind that are at an offset, loaded from there
 pub rows-back : {A : Type 0} (P : A → Type 0) (words : A → List ℕ) (read : ℕ → A) (width rows count : ℕ) (none : A) (xs : List A) (ws : List ℕ) (at : ℕ)
     → ((x : A) → length (words x) ≡ width) → ((p : ℕ) (x : A) → P x → Stands ws p (words x) → read p ≡ x)
     → count ≤ rows → count ≡ length (take count xs) → xs ≡ padded rows none (take count xs) → Each P (take count xs)

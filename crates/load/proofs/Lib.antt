@@ -1,5 +1,5 @@
--- What is proved of loading, and of storing and loading: `Theorems` states it. Below: rows one by one
--- (`Rows`), what was stored loaded again (`Back`, `Loading`), the table of an accepted file
+-- What is proved of loading, and of storing and loading: `Theorems` states it. Below: rows one by
+-- one (`Rows`), what was stored loaded again (`Back`, `Loading`), the table of an accepted file
 -- (`Fitting`).
 pub mod Theorems
 pub mod Rows

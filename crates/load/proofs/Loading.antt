@@ -1,4 +1,4 @@
--- The table of parts that were read; a table that fits is loaded from its words, whatever stands
+-- The table of parts that were read; a table that fits is loaded from its words, whatever is
 -- behind them.
 use mathlib.Core.Path.{_≡_, refl, ap, _∙_}
 use mathlib.Core.List.{List, [], _∷_, _++_}
@@ -21,7 +21,7 @@ use Rattle.words.proofs.Whole.{safes-length, bags-length}
 use Rattle.load.proofs.Back.{Stands, stands-front, stands-back, stands-word, range-back, safe-back, bag-back}
 use Rattle.load.proofs.Back.{attribute-back, mac-back, rows-back}
 
--- each part is what the words have at its place
+-- each part is what the words have at its offset
 module _ (ws : List ℕ) (t : Table) where
   pub table-read : t .«safe_count» ≡ wordAt ws safeCountAt → t .«bag_count» ≡ wordAt ws bagCountAt → t .«attribute_count» ≡ wordAt ws attributeCountAt
       → t .elements ≡ wordAt ws elementsAt
@@ -49,7 +49,7 @@ module _ (t : Table) (w : Wordable t) (ws : List ℕ) (s : Stands ws 0 (wordsOf 
   abbrev attributes : List ℕ
   attributes = attributesWords (t .attributes) (t .«attribute_count»)
 
-  -- ---- where the parts stand
+  -- ---- where the parts are
 
   head-stands : Stands ws 0 (headWords t)
   unfolding wordsOf
@@ -78,7 +78,7 @@ module _ (t : Table) (w : Wordable t) (ws : List ℕ) (s : Stands ws 0 (wordsOf 
   fields-back : macLoaded ws macFieldsAt ≡ t .mac
   fields-back = mac-back ws macFieldsAt (t .mac) (w .mac) (stands-back ws macInputAt (rangeWords (t .«mac_input»)) (macWords (t .mac)) fields-stand)
 
-  -- a count at its place among the words
+  -- a count at its offset among the words
   count-back : (x : List ℕ) (n : ℕ) (y : List ℕ) → headWords t ≡ x ++ (countWord n ∷ y) → n ≤ greatestWord → wordAt ws (0 + length x) ≡ n
   count-back x n y e h = stands-word ws (0 + length x) (countWord n) y (stands-back ws 0 x (countWord n ∷ y) (rw e at head-stands)) ∙ count-same n h
 

@@ -1,6 +1,6 @@
 -- What is proved of storing a table as words and loading it. `wordsOf t`: the words of the table t.
--- `tableIn ws`: the table that the words ws stand for. `Wordable t`: the rows of t past its counts
--- are empty, the counts are within the sizes, and every number of t fits.
+-- `tableIn ws`: the table that is loaded from the words ws. `Wordable t`: the rows of t past its
+-- counts are empty, the counts are within the sizes, and every number of t fits.
 use mathlib.Core.Path.{_≡_, refl, sym, ap, _∙_}
 use mathlib.Core.List.{List, [], _++_, append-nil}
 use Prim.Native.Nat.{ℕ}
@@ -22,7 +22,7 @@ use Rattle.load.proofs.Fitting as fitting
 pub words-count : (t : Table) → length (wordsOf t) ≡ tableWords
 words-count = words-length
 
--- A table that fits is loaded from its words as it was, whatever stands behind them.
+-- A table that fits is loaded from its words as it was, whatever is behind them.
 pub stored-is-loaded : (t : Table) → Wordable t → (rest : List ℕ) → tableIn (wordsOf t ++ rest) ≡ t
 stored-is-loaded = stored-loaded
 

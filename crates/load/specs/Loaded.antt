@@ -1,4 +1,4 @@
--- The table that words stand for; words that aren't there count as 0.
+-- The table that is loaded from words; words that aren't there count as 0.
 use mathlib.Core.Bool.{Bool, true, false}
 use mathlib.Core.List.{List, [], _∷_}
 use Prim.Native.Nat.{ℕ, _+_, _-_, _*_, min}
@@ -30,7 +30,7 @@ use Rattle.words.specs.Layout.{bagsAt, attributesAt, greatestNumber}
 abbrev pub wordAt : List ℕ → ℕ → ℕ
 wordAt ws i = getD ws i 0
 
--- ---- what a word stands for
+-- ---- what a word means
 
 -- a row's number; there is no row with the greatest one
 abbrev pub numberOf : ℕ → ℕ
@@ -56,7 +56,7 @@ bagKindOf w =
 unfoldable pub setOf : ℕ → Bool
 setOf w = if eqb w 0 then false else true
 
--- ---- what stands at a place
+-- ---- what is at an offset
 
 unfoldable pub rangeLoaded : List ℕ → ℕ → Range
 rangeLoaded ws at = wordRange (wordAt ws at) (wordAt ws (at + 1))

@@ -1,4 +1,4 @@
-// What words stand for, at a place among those of a table. Words that aren't there count as 0.
+// What is loaded from the words of a table, at an offset. Words that aren't there count as 0.
 ghost use mathlib.Core.Path.{_≡_};
 ghost use Prim.Native.Nat.{_+_, _≤_};
 ghost use Rattle.pkcs12.specs.Numbers.{safeRows, bagRows, attributeRows};

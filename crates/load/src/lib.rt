@@ -1,4 +1,4 @@
-// The table that plain words stand for; the words are those that `words` stores.
+// Loads a table from plain words; the words are those that `words` stores.
 ghost use mathlib.Core.Path.{_≡_};
 ghost use Rattle.load.specs.Loaded.{tableIn};
 
@@ -6,7 +6,7 @@ mod get;
 
 use pkcs12::Table;
 
-// The table that words stand for.
+// The table that is loaded from words.
 pub fn table(words: &[u32]) -> Table
     ensures { λ r. ⌜ r ≡ tableIn (now (words .entry)) ⌝ }
 {

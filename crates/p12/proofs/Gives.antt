@@ -1,4 +1,5 @@
--- The ways out of the calls: what the functions below gave is what the call gives.
+-- The ways out of the calls: what the functions below returned is what the call returns and
+-- stores.
 use mathlib.Core.Path.{_≡_, refl, sym, ap, _∙_}
 use mathlib.Core.Bool.{Bool, true, false}
 use mathlib.Core.List.{List, _++_}
@@ -41,7 +42,7 @@ two-and p h = (p .0, (p .1, h))
 pub three-and : {A B C D : Type 0} → A × (B × C) → D → A × (B × (C × D))
 three-and p h = (p .0, (p .1 .0, (p .1 .1, h)))
 
--- what a call gives is this
+-- what a call returns and stores is this
 abbrev pub Gives : Called → ℕ → List ℕ → ℕ → Type 0
 Gives c n m v = (n ≡ c .number) × ((m ≡ c .memory) × (v ≡ c .value))
 
@@ -71,7 +72,7 @@ module _ (f room : List ℕ) (u : Bool) (h : u ≡ ltb (length room) tableWords)
         ap (λ (o : Outcome). o .buffer) (stored-whole t room (ltb-false _ _ (sym h ∙ q)))
         ∙ ap (λ (n : ℕ). wordsOf t ++ drop n room) (words-length t)
 
-    -- what reading gave, and its table that was stored
+    -- what reading returned, and its table that was stored
     pub read-stored : (rd : Reading) → rd ≡ readFile f → (n : ℕ) → n ≡ readNumber (rd .answer)
         → (z : List ℕ) → z ≡ stored (rd .table) room .buffer → (k : ℕ) → k ≡ readOffset (rd .answer)
         → Gives (readCall f room) n z k
@@ -85,7 +86,7 @@ module _ (f room : List ℕ) (u : Bool) (h : u ≡ ltb (length room) tableWords)
 -- ---- texts: the listing, the pairs
 
 module _ (f room : List ℕ) (rd : Reading) (e : rd ≡ readFile f) where
-  -- what writing a text gave is what a call gives
+  -- what writing a text returned is what a call returns and stores
   abbrev Wrote : (Reading → Outcome) → Called → Type 0
   Wrote text c =
       (w : Written) (z : List ℕ) → w ≡ text rd .answer → z ≡ text rd .buffer

@@ -1,4 +1,4 @@
--- What `p12_read` leaves in the memory, and what the calls that take a table from it give.
+-- What `p12_read` leaves in the memory, and what the calls that take a table from it return.
 use mathlib.Core.Path.{_≡_, refl, sym, ap, subst, _∙_}
 use mathlib.Core.List.{List, _++_}
 use Prim.Native.Nat.{ℕ, _≤_, _<_}
@@ -30,7 +30,7 @@ unfolding readCall
 short-is-10 f words h = sym (at-lt _ _ _ _ _ h refl)
 
 module _ (f words : List ℕ) (h : tableWords ≤ length words) where
-  -- the number, the words of a table with what stands behind them, and the offset
+  -- the number, the words of a table with what is behind them, and the offset
   abbrev told : Answer → Table → Called
   told x t = called (readNumber x) (wordsOf t ++ drop tableWords words) (readOffset x)
 

@@ -1,8 +1,8 @@
--- What is proved of the calls for C together: what one gives is what another takes, and what a
+-- What is proved of the calls for C together: what one stores is what another takes, and what a
 -- refusal leaves. The proofs are elsewhere. `Bytes f`: each number of the list is below 256.
 -- `IsAccepted f`: `readFile f` accepts. `tableFrom f`: the table of the reading of f. `readCall`,
--- `writeCall`: what `p12_read` and `p12_write` give. `Is11 words s`: the calls that take a table
--- from these words, over the bytes s, are 11, and leave what they would write to.
+-- `writeCall`: what `p12_read` and `p12_write` return and store. `Is11 words s`: the calls that
+-- take a table from these words, over the bytes s, are 11, and leave what they would write to.
 use mathlib.Core.Path.{_≡_}
 use mathlib.Core.List.{List, _++_}
 use Prim.Native.Nat.{ℕ, _≤_, _<_}
@@ -33,20 +33,19 @@ short-is-11 = unsound.short-is-11
 -- ---- reading into memory
 
 module _ (f words : List ℕ) (h : tableWords ≤ length words) where
-  -- An accepted file is read into the words of its table, whatever stood there; words behind them
+  -- An accepted file is read into the words of its table, whatever was there; words behind them
   -- stay.
   pub read-stores : IsAccepted f → readCall f words ≡ called ok (wordsOf (tableFrom f) ++ drop tableWords words) 0
   read-stores = memory.read-stores f words h
 
-  -- After a refused file every word of the table is 0, whatever stood there; words behind them
-  -- stay.
+  -- After a refused file every word of the table is 0, whatever was there; words behind them stay.
   pub refused-is-cleared : (x : Fault) → readFile f .answer ≡ Answer.Refused x
       → readCall f words ≡ called (x .number) (replicate tableWords 0 ++ drop tableWords words) (x .offset)
   refused-is-cleared = memory.refused-is-cleared f words h
 
   module _ (b : Bytes f) where
-    -- The table that a later call loads from the memory is the one that reading gave, for every
-    -- file.
+    -- The table that a later call loads from the memory is the one that reading returned, for
+    -- every file.
     pub read-is-loaded : tableIn (readCall f words .memory) ≡ tableFrom f
     read-is-loaded = memory.read-is-loaded f words h b
 

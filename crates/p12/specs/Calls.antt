@@ -1,5 +1,5 @@
--- What the calls for C give, in terms of the definitions of the crates below. A call's number is 0
--- or that of the refusal.
+-- What the calls for C return and store, in terms of the definitions of the crates below. A call's
+-- number is 0, that of the refusal, or `done`.
 use mathlib.Core.Path.{_≡_}
 use mathlib.Core.List.{List, _++_}
 use Prim.Native.Nat.{ℕ}
@@ -54,7 +54,8 @@ pairedNumber p = pairedReport p .number
 abbrev pub pairedRow : Paired → ℕ
 pairedRow p = getD (pairedReport p .values) 0 0
 
--- what a call gives: its number, the memory that it writes to, and the value behind a pointer
+-- what a call returns and stores: its number, the memory that it writes to, and the value behind a
+-- pointer
 pub record Called : Type 0 where
   pub number : ℕ
   pub memory : List ℕ
@@ -80,11 +81,12 @@ readCall f memory =
     called (readNumber (readFile f .answer)) (wordsOf (readFile f .table) ++ drop tableWords memory)
     (readOffset (readFile f .answer))
 
--- what is due of the table that words stand for; memory with fewer words than a table holds none
+-- what is due of the table that is loaded from words; memory with fewer words than a table holds
+-- none
 abbrev pub onTable : {A : Type 0} → List ℕ → A → (Table → A) → A
 onTable words none good = if ltb (length words) tableWords then none else good (tableIn words)
 
--- `p12_write`: the file of the table that words stand for; 11 for fewer words
+-- `p12_write`: the file of the table that is loaded from words; 11 for fewer words
 unfoldable pub writeCall : List ℕ → List ℕ → List ℕ → Called
 writeCall words s buffer = onTable words (called notSound buffer 0) (λ t. wrote (writeFile t s buffer))
 
@@ -109,10 +111,10 @@ pub record Is11 (words s : List ℕ) : Type 0 where
   pub attribute : (bag i : ℕ) (buffer : List ℕ) → attributeCall words s bag i buffer ≡ called notSound buffer 0
   pub certificate : (key : ℕ) → certificateCall words s key ≡ refusedBy notSound
 
--- `p12_list`: the listing of what reading gives
+-- `p12_list`: the listing of what reading returns
 unfoldable pub listCall : List ℕ → List ℕ → Called
 listCall f buffer = wrote (listed (length f) (readFile f) buffer)
 
--- `p12_pairs`: the pairs of what reading gives
+-- `p12_pairs`: the pairs of what reading returns
 unfoldable pub pairsCall : List ℕ → List ℕ → Called
 pairsCall f buffer = wrote (pairsListed f (readFile f) buffer)

@@ -1,3 +1,3 @@
--- What the calls for C give.
+-- What the calls for C return and store.
 pub mod Calls
 pub mod Numbered

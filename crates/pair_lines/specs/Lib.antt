@@ -1,4 +1,4 @@
--- The text of a file's pairs, what writing it gives, and how many lines a text has.
+-- The text of a file's pairs, what writing it comes to, and how many lines a text has.
 pub mod Lines
 pub mod Listed
 pub mod Counts

@@ -1,4 +1,4 @@
--- What writing the pairs of a file into a buffer gives: the answer and the buffer afterwards.
+-- What writing the pairs of a file into a buffer comes to: the answer and the buffer afterwards.
 use mathlib.Core.List.{List}
 use Prim.Native.Nat.{ℕ}
 use Rattle.buffer.specs.Written.{Outcome, intoBuffer}

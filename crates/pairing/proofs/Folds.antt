@@ -100,8 +100,8 @@ kept-met k n j d [] h = tt
 kept-met k n zero d (r ∷ rs) h = (rw (eq-eqb k n (omega arith)), kept-past k (n + 1) r rs (omega arith))
 kept-met k n (suc j) d (r ∷ rs) h = (rw (ne-eqb k n (λ q. omega arith)), kept-met k (n + 1) j d rs (omega arith))
 
--- how many there are of a list, two standing for more, and the first of them where none was met
--- before
+-- how many there are of a list, where 2 means two or more, and the first of them where none was
+-- met before
 unfoldable many : List ℕ → ℕ → ℕ
 many [] c = c
 many (m ∷ ms) c = many ms (tallied true c)
@@ -144,7 +144,7 @@ unfolding many tallied
 many-two [] = refl
 many-two (m ∷ ms) = many-two ms
 
--- the count and the first of the matches tell which answer is due
+-- the count and the first of the matches show which answer is due
 answer-of : (k : ℕ) (key : IdentityRow) (t : Bool) (ms : List ℕ)
     → answered (search k key t (many ms 0) (front ms 0 0))
     ≡ (if t then (if isKey (key .kind) then onlyOne ms else refusedBy noRow) else refusedBy notSound)
@@ -153,7 +153,7 @@ answer-of k key t [] = refl
 answer-of k key t (m ∷ []) = refl
 answer-of k key t (m ∷ n ∷ ms) = rw (many-two ms)
 
--- what the first pass tells
+-- what the first pass shows
 first : (s : List ℕ) (rows : List IdentityRow) (k : ℕ)
     → again (passed s 0 rows (begun k)) ≡ search k (getD rows k noIdentity) (all (idLies s) rows) 0 0
 unfolding again begun

@@ -113,7 +113,7 @@ certificate-says Crl e = never e
 certificate-says Secret e = never e
 certificate-says Nested e = never e
 
--- a key's row is there: what stands for a row that isn't is no key
+-- a key's row is there: what is taken for a row that isn't there is no key
 row-says : (rows : List IdentityRow) (k : ℕ) → isKey (getD rows k noIdentity .kind) ≡ true → IsKey rows k
 unfolding isKey
 row-says rows k e =
@@ -122,14 +122,14 @@ row-says rows k e =
 
 -- ---- the rows that pair with a key
 
--- what a list of numbers tells of those that P holds of
+-- what a list of numbers shows of those that P holds of
 abbrev Listed : (ℕ → Type 0) → List ℕ → Type 0
 Listed P [] = (j : ℕ) → P j → ⊥
 Listed P (n ∷ []) = P n × ((i : ℕ) → P i → i ≡ n)
 Listed P (n ∷ m ∷ ns) = (n < m) × P n × P m
 
 module _ (s : List ℕ) (key : IdentityRow) where
-  -- row j is one of these, where n stand before them, and pairs with the key
+  -- row j is one of these, where n come before them, and pairs with the key
   record Pairing (n : ℕ) (rows : List IdentityRow) (j : ℕ) : Type 0 where
     index : ℕ
     number : j ≡ n + index
@@ -209,7 +209,7 @@ module _ (s : List ℕ) (rows : List IdentityRow) (k : ℕ) where
 
   -- ---- the answers
 
-  -- what holds of each answer, with what it says, holds of the one that is given
+  -- what holds of each answer, with what it says, holds of the one that is returned
   pub by-answer : (P : Paired → Type 0)
       → ((IdsLie s rows → ⊥) → P (refusedBy notSound))
       → (IdsLie s rows → (IsKey rows k → ⊥) → P (refusedBy noRow))

@@ -30,7 +30,7 @@ module _ {A : Type 0} where
   pub not-is-false : (t : Bool) (r x y : A) → not t ≡ false → r ≡ x → r ≡ (if t then x else y)
   not-is-false t r x y q e = rw (not-false t q) e
 
--- what a callee told of parts is told of the bytes that they are
+-- what a callee returned for parts holds for the bytes that they are
 pub same-parts : (r : Bool) (x y u v : List ℕ) → x ≡ u → y ≡ v → r ≡ sameBytes x y → r ≡ sameBytes u v
 same-parts r x y u v p q e = rw (← p, ← q) e
 
@@ -53,7 +53,7 @@ pub ruleset pairs = (
   same,
 )
 
--- one row more, from what each callee told
+-- one row more, from what each callee returned
 pub visit-is : (s : List ℕ) (i : ℕ) (r : IdentityRow) (st : Search) (p : Bool) (k : IdentityRow) (t : Bool) (c l : ℕ)
     → p ≡ pairsWith s (st .key) r → k ≡ keyAt (st .number) i (st .key) r → t ≡ both (st .sound) (idLies s r)
     → c ≡ tallied p (st .count) → l ≡ firstAt p (st .count) i (st .row)

@@ -31,7 +31,7 @@ only-certificate = proved.only
 pub five-answers : (s : List ℕ) (rows : List IdentityRow) (k : ℕ) → Answered (paired s rows k)
 five-answers = proved.answers
 
--- ---- the refusals, in the order in which they are asked
+-- ---- the refusals, in the order in which they are tested
 
 -- 11 exactly if an id does not lie in the bytes
 pub refused-11-iff : (s : List ℕ) (rows : List IdentityRow) (k : ℕ)

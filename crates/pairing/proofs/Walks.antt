@@ -1,5 +1,5 @@
 -- Steps that walks by hand share: the test of a `while`, that a `&[u8]` holds bytes, what a call
--- gave, what a callee with one plain parameter asks.
+-- returned, what a callee with one plain parameter requires.
 use types.Kit as Kit
 use mathlib.Core.Path.{_≡_, refl}
 use Prim.Native.Nat.{ℕ, _-_}
@@ -84,7 +84,7 @@ module _ {M : Type 1} (𝓤 : URA M) (H : Heap 𝓤) (A : Atoms 𝓤) (W : Given
       rewrite ! 1 (λ (z : Res (E .signature) (y .0 .0)). ‵ (typeAt (E .signature .result) (y .0 .0) .own z (v ∷ []))) e
       refl $ at-once ! $ done !))
 
-  -- what a callee with one parameter, no lifetime and no `requires` asks
+  -- the precondition of a callee with one parameter, no lifetime and no `requires`
   pub alone : (R : RattleType) (x : R .Denot) (v : Val) → ent 𝓤 (sem 𝓤 H A (R .own x (v ∷ [])))
       (sep 𝓤 (sep 𝓤 (emp 𝓤) (sem 𝓤 H A (owns (R ∷ []) (x, tt) (v ∷ [], tt)))) (emp 𝓤))
   alone R x v = qed W (‵ (R .own x (v ∷ [])) ∷ []) ∵ nothing ! $ move ! (1 ∷ 0 ∷ []) $ fjoin ! $ nothing ! $

@@ -21,7 +21,7 @@ use Rattle.pairing.specs.declared.Paired.{Paired}
 abbrev pub identity : BagKind → Bool → Range → IdentityRow
 identity k h r = record { kind = k; «has_id» = h; id = r }
 
--- what stands for a row that isn't there: it is no key
+-- what is taken for a row that isn't there: it is no key
 abbrev pub noIdentity : IdentityRow
 noIdentity = identity BagKind.None false noRange
 
@@ -56,7 +56,7 @@ sameId s k r = both (k .«has_id») (both (r .«has_id») (sameBytes (bytesIn s 
 unfoldable pub pairsWith : List ℕ → IdentityRow → IdentityRow → Bool
 pairsWith s k r = both (isCertificate (r .kind)) (sameId s k r)
 
--- the numbers of those rows, where n rows stand before these
+-- the numbers of those rows, where n rows come before these
 unfoldable pub matching : List ℕ → IdentityRow → ℕ → List IdentityRow → List ℕ
 matching s k n [] = []
 matching s k n (r ∷ rs) = if pairsWith s k r then n ∷ matching s k (n + 1) rs else matching s k (n + 1) rs

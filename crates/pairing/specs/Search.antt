@@ -20,7 +20,7 @@ search n k t c r = record { number = n; key = k; sound = t; count = c; row = r }
 unfoldable pub keyAt : ℕ → ℕ → IdentityRow → IdentityRow → IdentityRow
 keyAt number i key row = if eqb number i then row else key
 
--- how many match: none, one, or more, which 2 stands for
+-- how many match: 0, 1, or 2, which means two or more
 unfoldable pub tallied : Bool → ℕ → ℕ
 tallied pairs count = if pairs then (if eqb count 0 then 1 else 2) else count
 
@@ -35,7 +35,7 @@ visited s i r st =
     (tallied (pairsWith s (st .key) r) (st .count))
     (firstAt (pairsWith s (st .key) r) (st .count) i (st .row))
 
--- all rows, where n stand before these
+-- all rows, where n come before these
 unfoldable pub passed : List ℕ → ℕ → List IdentityRow → Search → Search
 passed s n [] st = st
 passed s n (r ∷ rs) st = passed s (n + 1) rs (visited s n r st)

@@ -16,7 +16,8 @@ pub const NO_CERTIFICATE: u8 = 13;
 
 pub const MORE_CERTIFICATES: u8 = 14;
 
-// What pairing goes by: a bag's kind, whether it has an id, and the id's range in the lent bytes.
+// What pairing goes by: a bag's kind, whether it has an id, and the id's range in the caller's
+// bytes.
 pub struct IdentityRow {
     pub kind: BagKind,
     pub has_id: bool,
@@ -38,8 +39,8 @@ pub enum Paired {
 }
 
 // What is known after some rows: the number of the key's row, that row once it was met, whether
-// every id lies in the bytes, and of the certificates with the key's id how many there are, two
-// standing for more, and the row of the first.
+// every id lies in the bytes, and of the certificates with the key's id how many there are, where
+// 2 means two or more, and the row of the first.
 struct Search {
     number: usize,
     key: IdentityRow,
@@ -134,7 +135,7 @@ fn key_at(number: usize, i: usize, key: IdentityRow, row: IdentityRow) -> Identi
     key
 }
 
-// One more match; two stand for more.
+// One more match; 2 means two or more.
 fn tallied(pairs: bool, count: usize) -> usize
     ensures { λ r. ⌜ r ≡ tallied pairs count ⌝ }
 {

@@ -71,7 +71,7 @@ identifier-of s c = go (identifierAt s c) refl
     go (Element.Refused f) e = tt
     go (Found t b n) e = head-of s c t b n (identified s c (identifierAt s c) t b n refl e)
 
--- an integer, whose body isn't told
+-- an integer; nothing is said of its body
 abbrev pub OfInteger : List ℕ → Cursor → Integer → Type 0
 OfInteger s c (Integer.Refused f) = Unit {0}
 OfInteger s c (Value v n) = Past s c 0 2 n

@@ -37,8 +37,7 @@ use Rattle.parts.specs.InFile.{inFile}
 use Rattle.parts.specs.Steps.{typedValueAt}
 use Rattle.parts.proofs.Past.{Past, valued, algorithm-past, encrypted-info-past}
 
--- an answer that a callee gave, taken apart: v is what the definition names, w what the code
--- matched on
+-- an answer of a callee, taken apart: v is what the definition names, w what the code matched on
 module _ {A : Type 0} where
   pub parts-refused : (v w : PartsAt) (f : Fault) (r : A) (bad : Fault → A) (good : Parts → ℕ → Cursor → A)
       → w ≡ v → w ≡ PartsAt.Refused f → r ≡ bad f → r ≡ onParts v bad good
@@ -48,7 +47,7 @@ module _ {A : Type 0} where
       → w ≡ v → w ≡ PartsAt.Found x k n → r ≡ good x k n → r ≡ onParts v bad good
   parts-found v w x k n r bad good p q e = rw (sym p ∙ q) e
 
--- The body of an element in a file that isn't too long has room in a range.
+-- The body of an element lies in the bytes and, in a file that isn't too long, fits a range.
 module _ (s : List ℕ) (c : Cursor) (w : Element) (t : ℕ) (b n : Cursor) where
   body-stop : elementAt s c ≡ Found t b n → (b .at ≤ b .end) × (b .end ≤ length s)
   body-stop e =
@@ -73,7 +72,7 @@ module _ (s : List ℕ) (c : Cursor) (w : Element) (t : ℕ) (b n : Cursor) wher
   pub identifier-inside : w ≡ identifierAt s c → w ≡ Found t b n → b .end ≤ length s
   identifier-inside p q = body-stop (identified s c w t b n p q) .1
 
--- an element that was checked, in such a file: its places, and its count with k more
+-- an element that was checked, in such a file: its offsets, and its count with k more
 module _ (s : List ℕ) (c : Cursor) (m : ℕ) (n : Cursor) (o : One s c m n) (h : length s ≤ fileBytes) where
   one-from : c .at ≤ fileBytes
   one-from = omega (arith, o .long, o .within, o .inside)

@@ -1,5 +1,5 @@
--- Attributes that were accepted, in a list of bytes: the value, by the rules, where it stands, and
--- the rows that were added. And the one law of a run.
+-- Attributes that were accepted, in a list of bytes: the value, by the rules, where it is, and the
+-- rows that were added. And the one law of a run.
 use mathlib.Core.Path.{_≡_, refl, sym, _∙_}
 use mathlib.Core.List.{List, [], _∷_, _++_}
 use Prim.Native.Nat.{ℕ, _+_, _-_, _≤_, _<_}
@@ -37,7 +37,7 @@ use Rattle.pkcs12.proofs.Parents.{by-expect, by-identifier, by-elements
 use Rattle.pkcs12.proofs.Parents.{laid-to, closed, closed-identifier, opaques-count}
 use Rattle.pkcs12.proofs.Grown.{Grown, grown-counting, grown-none, grown-then, grown-as, grown-attribute}
 
--- what holds of rows that a part gave; a refusal has nothing to hold
+-- what holds of the rows that a part returned; nothing has to hold of a refusal
 abbrev pub OfWalked : (Rows → Cursor → Type 0) → Walked → Type 0
 OfWalked Q (Refused f) = Unit {0}
 OfWalked Q (Went st n) = Q st n
@@ -163,7 +163,7 @@ module _ (s : List ℕ) (bytes : Bytes s) where
       })
       st c
 
-  -- the set of bag `number` at the end of the bag's body `par`, if one stands there
+  -- the set of bag `number` at the end of the bag's body `par`, if there is one
   pub record SetIs (par : Range) (number : ℕ) (st : Rows) (c : Cursor) (st′ : Rows) (n : Cursor) : Type 0 where
     pub value : Set
     pub rows : List AttributeRow

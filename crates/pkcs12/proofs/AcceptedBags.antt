@@ -1,5 +1,5 @@
 -- Bags and safe contents that were accepted, in a list of bytes: the value, by the rules, where it
--- stands, and the rows that were added.
+-- is, and the rows that were added.
 use mathlib.Core.Bool.{Bool, true, false}
 use mathlib.Core.Path.{_≡_, refl, ap}
 use mathlib.Core.List.{List, [], _∷_, _++_, append-nil, append-assoc}
@@ -44,7 +44,7 @@ use Rattle.pkcs12.proofs.AcceptedParts.{OfParts, LeafIs, key-of, shroud
 use Rattle.pkcs12.proofs.AcceptedAttributes.{OfWalked, by-walked, run-of, SetIs, set-of}
 
 module _ (s : List ℕ) (bytes : Bytes s) where
-  -- What stands in the body `v` of a bag's [0], from c to f: its bytes, the rows that it adds
+  -- What is in the body `v` of a bag's [0], from c to f: its bytes, the rows that it adds
   -- behind the bag's own, and the bag in front of others.
   record ContentIs (l : ℕ) (w : Owner) (k : BagKind) (h : Bool) (st : Rows) (v : Range) (c : Cursor) (st′ : Rows) (f : Cursor) : Type 0 where
     content : List ℕ
@@ -63,7 +63,7 @@ module _ (s : List ℕ) (bytes : Bytes s) where
         → BagLaid s from mid w (length (st .bags)) k p v content set row own → BagsLaid s mid to w (length (st .bags) + suc (length below)) xs rows rest
         → BagsLaid s from to w (length (st .bags)) (front set xs) (row ∷ (below ++ rows)) (deep ++ (own ++ rest))
 
-  -- a leaf between places that are written otherwise
+  -- a leaf between offsets that are written otherwise
   leaf-at : (from to start end : ℕ) (p : Parts) (x : Leaf) → from ≡ start → to ≡ end → LeafLaid s from to p x → LeafLaid s start end p x
   leaf-at from to start end p x d e l = rw (d, e) at l
 
@@ -160,7 +160,7 @@ module _ (s : List ℕ) (bytes : Bytes s) where
     content-of w Secret h st v c room i = leaf-of l w Secret h st v c room (typedAt false s c) (typed-of s bytes secret v c i)
     content-of w Nested h st v c room i = nest-of l w h st v c room (inner _ _ c) (inner-of _ _ v c i)
 
-    -- a bag in the body `par`, from c to n: it stands in front of any bags that follow
+    -- a bag in the body `par`, from c to n: it is put in front of any bags that follow
     record BagStep (w : Owner) (par : Range) (st : Rows) (c : Cursor) (st′ : Rows) (n : Cursor) : Type 0 where
       front : Bags → Bags
       spelling : List ℕ

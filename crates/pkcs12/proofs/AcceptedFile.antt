@@ -1,4 +1,4 @@
--- A file that was accepted, in a list of bytes: its reading, by the rules, where it stands, its
+-- A file that was accepted, in a list of bytes: its reading, by the rules, where it is, its
 -- elements, and that it is what the reading is written as.
 use mathlib.Core.Path.{_≡_, refl}
 use mathlib.Core.List.{List, _++_}

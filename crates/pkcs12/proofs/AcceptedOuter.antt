@@ -1,5 +1,5 @@
 -- The EncryptedData of a safe and the MacData of a file that were accepted: the value, where it
--- stands, and its elements.
+-- is, and its elements.
 use mathlib.Core.Path.{_≡_, refl, _∙_}
 use mathlib.Core.List.{List, _++_}
 use Prim.Native.Nat.{ℕ, _+_, _≤_, _<_}

@@ -1,5 +1,5 @@
 -- Parts that were accepted, in a list of bytes: the value that they hold, by the rules, where it
--- stands, and its elements.
+-- is, and its elements.
 use mathlib.Core.Bool.{Bool, true, false}
 use mathlib.Core.Path.{_≡_, refl, sym}
 use mathlib.Core.List.{List, [], _++_}
@@ -105,7 +105,7 @@ module _ (s : List ℕ) (bytes : Bytes s) where
       Good : PartsAt → Type 0
       Good = OfParts (AlgorithmIs par c)
 
-  -- where an algorithm stands, whatever the value beside it
+  -- where an algorithm is, whatever the value beside it
   pub again : {from to : ℕ} {a : Algorithm} (p : Parts) (v : Range) → AlgorithmLaid s from to p a → AlgorithmLaid s from to (withValue p v) a
   again p v l = record { body = l .body; rest = l .rest; element = l .element; type = l .type; parameters = l .parameters }
 
@@ -152,7 +152,7 @@ module _ (s : List ℕ) (bytes : Bytes s) where
       Good : PartsAt → Type 0
       Good = OfParts (SealedIs par c)
 
-  -- what stands in [0] of a bag of this kind
+  -- what is in [0] of a bag of this kind
   abbrev pub LeafIs : BagKind → Range → Cursor → Parts → ℕ → Cursor → Type 0
   LeafIs kind = Is s (λ x. ValidLeaf x × (kindOfLeaf x ≡ kind)) leafCount (LeafLaid s) leafBytes
 

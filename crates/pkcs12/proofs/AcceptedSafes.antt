@@ -1,5 +1,5 @@
--- Safes and files that were accepted, in a list of bytes: the value, by the rules, where it stands,
--- and the rows.
+-- Safes that were accepted, in a list of bytes: the value, by the rules, where it is, and the rows
+-- that were added.
 use mathlib.Core.Path.{_≡_, refl}
 use mathlib.Core.List.{List, [], _∷_, _++_}
 use Prim.Native.Nat.{ℕ, _+_, _≤_, _<_}
@@ -99,8 +99,8 @@ module _ (s : List ℕ) (bytes : Bytes s) where
       Good : Walked → Type 0
       Good = OfWalked (DataIs J par c)
 
-  -- What stands behind the type of a safe, in the body `body` of its ContentInfo, from m to e: its
-  -- [0], the rows that it adds, and the safe in front of others.
+  -- What follows the type of a safe, in the body `body` of its ContentInfo, from m to e: its [0],
+  -- the rows that it adds, and the safe in front of others.
   record RestIs (body : Range) (type : List ℕ) (st : Rows) (m : Cursor) (st′ : Rows) (e : Cursor) : Type 0 where
     content : List ℕ
     value : Range
@@ -269,7 +269,7 @@ module _ (s : List ℕ) (bytes : Bytes s) where
         past = u .past;
       }
 
-  -- what stands behind a type x, of the types that are served
+  -- what follows a type x, of the types that are served
   record Rest (body : Range) (x : List ℕ) (st : Rows) (m : Cursor) (st′ : Rows) (e : Cursor) : Type 0 where
     type : List ℕ
     matches : x ≡ type

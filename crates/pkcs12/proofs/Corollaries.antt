@@ -184,7 +184,7 @@ opaque-elements x o = rw (← (o .whole)) (opaques-count (o .as-trees) (o .forme
 pub same-elements : (x : List ℕ) (o p : Opaques x) → o .as-trees ≡ p .as-trees
 same-elements x o p = trees-unique (o .as-trees) (p .as-trees) (o .formed) (p .formed) (o .whole ∙ sym (p .whole))
 
--- ---- where an element stands
+-- ---- where an element is
 
 pub element-within : (s : List ℕ) (from to t : ℕ) (r : Range) (x : List ℕ) → ElementLaid s from to t r x
     → (from + 2 ≤ r .start) × (r .start ≤ r .end) × (r .end ≤ to)

@@ -1,5 +1,5 @@
--- What the parts that make no row are written as is read: up to its end, wherever it stands in a
--- file of at most 65,535 bytes.
+-- What the parts that make no row are written as is read: up to its end, wherever it is in a file
+-- of at most 65,535 bytes.
 use mathlib.Core.Bool.{Bool, true, false}
 use mathlib.Core.Path.{_≡_, refl, sym, _∙_}
 use mathlib.Core.List.{List, [], _∷_, _++_}
@@ -86,12 +86,12 @@ pub mac-some : (m : MacData) → 1 ≤ length (macBytes m)
 unfolding macBytes
 mac-some m = some-byte _ _
 
--- nothing is left where a cursor stands at its end
+-- nothing is left where a cursor is at its end
 pub finished : (e : ℕ) → finishAt (cursor e e) ≡ Passed 0 (cursor e e)
 finished e = finish-done (cursor e e) (omega arith)
 
 module _ (s : List ℕ) (small : length s ≤ fileBytes) where
-  -- an element that is written is found: k is told where its body begins
+  -- an element that is written is found; the continuation k takes the offset of its body
   found-then : {P : Type 0} (t at e end : ℕ) (body : List ℕ) → TagForm t → Span s at e (tlv t body) → e ≤ end → end ≤ length s
       → ((b : ℕ) → expectAt t s (cursor at end) ≡ Found t (cursor b e) (cursor e end) → Span s b e body → P) → P
   found-then t at e end body form p h i k =
@@ -110,7 +110,7 @@ module _ (s : List ℕ) (small : length s ≤ fileBytes) where
       let l : 2 + length body ≤ length (tlv t body) = tlv-long t body in
       tag-left s (cursor at end) (omega (arith, p .size)) i ∙ span-at s at e 0 at (tlv t body) p (omega arith) (omega arith) ∙ tlv-first t body
 
-  -- a SEQUENCE of x and y: k is told where they meet
+  -- a SEQUENCE of x and y; the continuation k takes the offset where they meet
   pub sequence-then : {P : Type 0} (at e end : ℕ) (x y : List ℕ) → Span s at e (sequence (x ++ y)) → e ≤ end → end ≤ length s
       → ((b m : ℕ) → expectAt sequenceTag s (cursor at end) ≡ Found sequenceTag (cursor b e) (cursor e end) → Span s b m x → Span s m e y → m ≤ e → P) → P
   sequence-then at e end x y p h i k =
@@ -180,7 +180,7 @@ module _ (s : List ℕ) (small : length s ≤ fileBytes) where
       tagged-then sequenceTag at e end x (o .opaque) (o .due) p h i
       (λ b f. opaque-then at e end x (o .opaque) p h i (λ m g. rw (f, g) refl))
 
-  -- an opaque element, an OCTET STRING where f asks for one
+  -- an opaque element, an OCTET STRING where f requires one
   value-then : {P : Type 0} (f : Bool) (at e end : ℕ) (x : List ℕ) → Opaque x → (f ≡ true → getD x 0 0 ≡ octetStringTag) → Span s at e x
       → e ≤ end → end ≤ length s → ((m : ℕ) → valueAt f s (cursor at end) ≡ Passed m (cursor e end) → P) → P
   unfolding valueAt

@@ -163,7 +163,7 @@ module _ (s : List ℕ) (small : length s ≤ fileBytes) where
       (record { safes = n .safes; bags = n .bags; attributes = n .attributes }) room (omega arith)))
       (λ st′ g m. rw (tag-of s small setTag at e e (attributesBytes xs) p (omega arith) (p .inside), f, g, finished e) (refl, m)))
 
-  -- a SafeBag around any content that is read, whether or not a set is said to stand
+  -- a SafeBag around any content that is read, whether or not the flag says that there is a set
   bag-passes : (inner : Owner → Rows → Cursor → Walked) (kind : BagKind) (content : List ℕ) (set : Set) (w : Owner) (at e end : ℕ) (st : Rows)
       (x y z x′ y′ z′ : ℕ) → Served kind → ValidSet set → Span s at e (bagBytes kind content set) → Sizes st x y z → y < bagRows
       → z′ + attributesOf set ≤ attributeRows
@@ -215,7 +215,7 @@ module _ (s : List ℕ) (small : length s ≤ fileBytes) where
       (run-is (bagAt (safeContentsAt l s) s w) b e (counting st 1) x y z (each b q))
       (λ st′ g n. rw (f, g) (refl, n)))
 
-  -- the bags of a SafeContents below which l more levels may stand
+  -- the bags of a SafeContents below which there may be l more levels
   bags-pass : (xs : Bags) (l : ℕ) (w : Owner) (at end fuel : ℕ) (st : Rows) (x y z : ℕ) → ValidBags l xs → Span s at end (bagsBytes xs)
       → Sizes st x y z → y + bagsIn xs ≤ bagRows → z + attributesIn xs ≤ attributeRows → end ≤ at + fuel
       → Reaches (looped (bagAt (safeContentsAt l s) s w) end fuel st at) (cursor end end) x (y + bagsIn xs) (z + attributesIn xs)
@@ -269,7 +269,7 @@ module _ (s : List ℕ) (small : length s ≤ fileBytes) where
       contents-pass l w st (bagsBytes xs) at e x (y + bagsIn xs) (z + attributesIn xs) p
       (λ b r. bags-pass xs l w b e (e - b) _ x y z v r (record { safes = n .safes; bags = n .bags; attributes = n .attributes }) room more (omega arith))
 
-  -- what stands behind the type of a plain safe
+  -- what follows the type of a plain safe
   plain-passes : (xs : Bags) (at e : ℕ) (st : Rows) (x y z : ℕ) → ValidContents levels xs
       → Span s at e (tlv contextTag (octetString (sequence (bagsBytes xs)))) → Sizes st x y z → y + bagsIn xs ≤ bagRows
       → z + attributesIn xs ≤ attributeRows → Reaches (plainAt s st (cursor at e)) (cursor e e) (x + 1) (y + bagsIn xs) (z + attributesIn xs)
@@ -352,7 +352,7 @@ module _ (s : List ℕ) (small : length s ≤ fileBytes) where
       (data-passes (safesAt s) (sequence (safesBytes (v .safes))) m e _ _ _ t (λ a u. all-pass v a e r u))
       (λ st o n. k st (rw (f, g, j, same-self dataType, o, finished e))))
 
-  -- what stands behind the version, and the whole file
+  -- what follows the version, and the whole file
   body-passes : (v : Pfx) (at e : ℕ) → Valid v → Span s at e (dataBytes (safesBytes (v .safes)) ++ macBytes (v .mac))
       → bodyAt s (cursor at e) .answer ≡ Accepted
   unfolding bodyAt

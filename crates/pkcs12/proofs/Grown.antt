@@ -1,4 +1,5 @@
--- Rows that grew: what was added to each list, the elements counted, and that there was room.
+-- Rows that grew: what was added to each list, the elements counted, and that the rows still fit a
+-- table.
 use mathlib.Core.Path.{_≡_, refl, sym, ap, _∙_}
 use mathlib.Core.List.{List, [], _∷_, _++_, append-nil, append-assoc}
 use Prim.Native.Nat.{ℕ, _+_, _≤_, _<_}
@@ -18,7 +19,7 @@ pub record Longer {A : Type 0} (n : ℕ) (x y a : List A) : Type 0 where
   pub fits : length x ≤ n → length y ≤ n
 
 module _ {A : Type 0} (n : ℕ) where
-  -- by nothing, by one row where there was room for it, and by one thing after another
+  -- by nothing, by one row where a row was left, and by one thing after another
   longer-none : (x : List A) → Longer n x x []
   longer-none x = record { lists = sym (append-nil x); fits = λ h. h }
 
@@ -33,7 +34,7 @@ module _ {A : Type 0} (n : ℕ) where
   pub longer-length : (x y a : List A) → Longer n x y a → length y ≡ length x + length a
   longer-length x y a p = ap length (p .lists) ∙ length-append x a
 
--- the rows have room in a table
+-- the rows fit a table
 pub record Fits (st : Rows) : Type 0 where
   pub safes : length (st .safes) ≤ safeRows
   pub bags : length (st .bags) ≤ bagRows

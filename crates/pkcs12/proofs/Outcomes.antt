@@ -1,4 +1,4 @@
--- The answers of writing: which one is given exactly if what.
+-- The answers of writing, and what is true exactly if each is returned.
 use mathlib.Core.Bool.{Bool, true, false}
 use mathlib.Core.Logic.{_↔_}
 use mathlib.Core.Path.{_≡_, refl, ap}
@@ -51,8 +51,7 @@ module _ (t : Table) (s buffer : List ℕ) where
           (λ b. rw (writes-short t s buffer f h a b) (short f h a b))
           (λ b. rw (writes-file t s buffer f h a b) (good f h a b)))
 
-  -- a length: the file stands at the front of the buffer, is accepted, and shows the table's
-  -- reading
+  -- a length: the file is at the front of the buffer, is accepted, and shows the table's reading
   abbrev Begins : List ℕ → ℕ → Type 0
   Begins after n =
       (f : List ℕ) × (length f ≡ n) × (after ≡ f ++ drop n buffer) × IsAccepted f × (readingFrom f ≡ readingOf t s)

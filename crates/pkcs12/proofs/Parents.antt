@@ -1,5 +1,5 @@
--- Elements in the body of their parent: what is told of an element that was accepted, for the parts
--- above it.
+-- Elements in the body of their parent: what is known of an element that was accepted, for the
+-- parts above it.
 use mathlib.Core.Path.{_≡_, refl, sym, ap, _∙_}
 use mathlib.Core.List.{List, [], _∷_}
 use Prim.Native.Nat.{ℕ, _≤_}
@@ -111,7 +111,7 @@ closed s par c t b n x i h p =
       past = in-next s par c n (n .at) i (omega (arith, w .size)) (o .1);
     }
 
--- the same between places that are written otherwise
+-- the same between offsets that are written otherwise
 pub laid-at : {s : List ℕ} {from to t : ℕ} {r : Range} {x : List ℕ} (start end : ℕ) → from ≡ start → to ≡ end
     → ElementLaid s from to t r x → ElementLaid s start end t r x
 laid-at start end d e l = rw (d, e) at l
@@ -128,7 +128,7 @@ pub closed-identifier : (s : List ℕ) (par : Range) (c : Cursor) (t : ℕ) (b n
     → Closed s par c identifierTag b n (bytesOf s b)
 closed-identifier s par c t b n i d = closed-any s par c identifierTag b n i (rw (d .tag) at (d .header))
 
--- an opaque element: it is valid, its elements, and where it stands
+-- an opaque element: it is valid, its elements, and where it is
 pub record Settled (s : List ℕ) (par : Range) (c : Cursor) (m : ℕ) (n : Cursor) (x : List ℕ) : Type 0 where
   pub valid : Opaque x
   pub count : m ≡ opaqueCount x
@@ -176,8 +176,8 @@ first-byte s c t b n e x h p l =
     ∙ span-at s (c .at) (b .end) 0 (c .at) (tlv t (bytesOf s b)) (h .whole) (omega arith) (omega (arith, tlv-long t (bytesOf s b)))
     ∙ tlv-first t (bytesOf s b)
 
--- parts that were found: the value that they hold, by its rule, its elements, where it stands in
--- the body `par`, and its bytes from c to n
+-- parts that were found: the value that they hold, by its rule, its elements, where it is in the
+-- body `par`, and its bytes from c to n
 pub record Is (s : List ℕ) {A : Type 0} (Rule : A → Type 0) (count-of : A → ℕ) (Laid : ℕ → ℕ → Parts → A → Type 0)
     (bytes-of : A → List ℕ) (par : Range) (c : Cursor) (p : Parts) (m : ℕ) (n : Cursor) : Type 0 where
   pub value : A

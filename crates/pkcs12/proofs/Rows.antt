@@ -43,7 +43,7 @@ own-split n (r ∷ rs) = go (eqb (r .bag) n) (eqb-true (r .bag) n) (own-split n 
     go true h e = cc (ap {B = AttributeValue} (λ (b : ℕ). record { bag = b; attribute = r .attribute }) (h refl))
     go false h e = refl
 
--- likewise of its set, which stands if it was to stand
+-- likewise of its set, which is present exactly if t says so
 set-split : (t : Bool) (n : ℕ) (rs : List AttributeValue) → (rs ≡ setValues n (setOf t n rs) ++ pastSet t n rs) × (stands (setOf t n rs) ≡ t)
 set-split true n rs = (own-split n rs, refl)
 set-split false n rs = (refl, refl)
@@ -219,7 +219,7 @@ enclosing-same : (e : Enclosing) → sameEnclosing e e ≡ true
 enclosing-same Enclosing.None = refl
 enclosing-same (Bag n) = eq-eqb n n refl
 
--- the first row, if there is one, stands in another safe or in an enclosing bag before e
+-- the first row, if there is one, is in another safe or in an enclosing bag before e
 abbrev Behind : ℕ → Enclosing → List BagValue → Type 0
 Behind k e = First (λ r. r .safe ≡ k → rank (r .enclosing) < rank e)
 
@@ -248,7 +248,7 @@ nest-taken : (f l k : ℕ) (e : Enclosing) (n : ℕ) (x : Bags) (set : Set) (m :
 unfolding bagsFrom
 nest-taken f l k e n x set m rows later rest past t q h p = let s = set-taken n set past h in rw (eq-eqb k k refl, enclosing-same e, q, s .0, s .1, p)
 
--- bags whose rows stand in front are taken, and no more
+-- bags whose rows are in front are taken, and no more
 bags-taken : (f l k : ℕ) (e : Enclosing) (n : ℕ) (x : Bags) (rows : List BagValue) (rest : List AttributeValue)
     → ValidBags l x → length (bagValues k e n x ++ rows) ≤ f → rank e ≤ n → Behind k e rows → Outside n (n + bagsIn x) rest
     → bagsFrom f l k e n (bagValues k e n x ++ rows) (attributeValues n x ++ rest) ≡ record { bags = x; next = n + bagsIn x; rows = rows; rest = rest }
@@ -290,7 +290,7 @@ outside-safes a b n [] h = tt
 outside-safes a b n (plain x ∷ xs) h = outside-bags a b n x _ h (outside-safes a b (n + bagsIn x) xs (omega arith))
 outside-safes a b n (encrypted x ∷ xs) h = outside-safes a b (n + 0) xs (omega arith)
 
--- safes whose rows stand there are read from them
+-- safes are read back from their rows
 safes-taken : (k n : ℕ) (xs : List Safe) → ValidSafes xs
     → safesFrom k n (safeValues xs) (bagsOfSafes k n xs) (attributesOfSafes n xs) ≡ some xs
 unfolding ValidSafes safesFrom safeValues bagsOfSafes attributesOfSafes

@@ -1,5 +1,5 @@
--- What rows show of the bytes that a reading stands in: the reading's own values, in ranges that
--- lie in the bytes, and as many as it has.
+-- What rows show of the bytes that hold a reading: the reading's own values, in ranges that lie in
+-- the bytes, and as many as it has.
 use mathlib.Core.Path.{_≡_, refl}
 use mathlib.Core.List.{List, [], _∷_, _++_, map, map-append}
 use Prim.Native.Nat.{ℕ, _+_}
@@ -77,7 +77,7 @@ held s r x p = (slice-span s (r .start) (r .end) x p, record { order = omega (ar
 piece-held : {s : List ℕ} {from to : ℕ} {r : Range} {x : List ℕ} → PieceLaid s from to r x → Held s r x
 piece-held {s = s} {r = r} {x = x} l = held s r x (rw (l .starts, l .ends) (l .bytes))
 
--- an algorithm and its octets, wherever they stand and whatever their tag
+-- an algorithm and its octets, wherever they are and whatever their tag
 sealed-held : {s : List ℕ} {from to a b t : ℕ} (p : Parts) (x : Sealed) → AlgorithmLaid s from to p (x .algorithm) → ElementLaid s a b t (p .value) (x .octets)
     → (sealedIn s p ≡ x) × SealedLies s p
 sealed-held {s = s} p x a o =
@@ -158,7 +158,7 @@ record SafesAre (s : List ℕ) (k n : ℕ) (xs : List Safe) (safes : List SafeRo
   pub in-bags : BagsShow s rows (bagsOfSafes k n xs) (bagsInSafes xs)
   pub in-attributes : AttributesShow s own (attributesOfSafes n xs) (attributesInSafes xs)
 
--- where the safes stand, their rows show them
+-- where the safes are in the bytes, their rows show them
 safes-show : (s : List ℕ) (from to k n : ℕ) (xs : List Safe) (safes : List SafeRow) (rows : List BagRow) (own : List AttributeRow)
     → SafesLaid s from to k n xs safes rows own → SafesAre s k n xs safes rows own
 unfolding safeValues bagsOfSafes attributesOfSafes bagsInSafes attributesInSafes

@@ -1,4 +1,4 @@
--- The bytes of a reading stand for that reading alone, whatever follows them.
+-- The bytes of a reading encode that reading only, whatever follows them.
 use mathlib.Core.Path.{_≡_, refl, sym, ap, _∙_}
 use mathlib.Core.List.{List, [], _∷_, _++_}
 use Prim.Native.Nat.{ℕ, _≤_}
@@ -18,7 +18,7 @@ use Rattle.pkcs12.specs.Encode.{attributesBytes, setBytes, leafBytes, ba
 use Rattle.pkcs12.specs.Encode.{safeBytes, safesBytes, iterationsBytes, macBytes, encode}
 use Rattle.pkcs12.specs.declared.kind.BagKind.{BagKind}
 
--- values that are told by their bytes, whatever follows, and by their bytes alone
+-- values that their bytes determine, whatever follows the bytes, and where nothing follows them
 abbrev Begins : {A : Type 0} → (A → List ℕ) → Type 0
 Begins {A} f = (x y : A) (r q : List ℕ) → f x ++ r ≡ f y ++ q → (x ≡ y) × (r ≡ q)
 
@@ -42,7 +42,7 @@ empty t a e = omega (arith, ap length e, tlv-long t a)
 filled : (t : ℕ) (a r : List ℕ) → tlv t a ++ r ≡ [] → ⊥
 filled t a r e = omega (arith, ap length e, length-append (tlv t a) r, tlv-long t a)
 
--- a list of things that are told by their bytes and aren't empty
+-- a list of things that their bytes determine and whose bytes aren't empty
 module _ {A : Type 0} (f : A → List ℕ) (g : List A → List ℕ) (end : g [] ≡ []) (step : (x : A) (xs : List A) → g (x ∷ xs) ≡ f x ++ g xs)
     (begins : Begins f) (some : (x : A) (r : List ℕ) → f x ++ r ≡ [] → ⊥) where
   list-tells : Tells g
@@ -93,7 +93,7 @@ set-tells absent (present ys) e = absurd (empty _ _ (sym e))
 set-tells (present xs) absent e = absurd (empty _ _ e)
 set-tells (present xs) (present ys) e = let p = attributes-tell xs ys (tlv-tells _ _ _ e) in cc
 
--- the last byte of a bag's identifier, which tells its kind
+-- the last byte of a bag's identifier, which determines its kind
 abbrev last : BagKind → ℕ
 last k = getD (identifierOf k) 10 0
 

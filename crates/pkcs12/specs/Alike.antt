@@ -44,7 +44,7 @@ pub record BagsAlike (r q : BagRow) : Type 0 where
   pub has-set : r .«has_set» ≡ q .«has_set»
   pub parts : BagPartsAlike (r .kind) (r .parts) (q .parts)
 
--- two lists are equally long, and P holds of each two rows in one place
+-- two lists are equally long, and P holds of each two rows at the same index
 unfoldable pub Pairwise : {A : Type 0} → (A → A → Type 0) → List A → List A → Type 0
 Pairwise P [] [] = Unit {0}
 Pairwise P [] (y ∷ ys) = ⊥

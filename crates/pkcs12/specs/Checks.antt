@@ -1,6 +1,6 @@
--- The rules of a sound table as tests, all but the order of its rows. With `readingOf`, which asks
--- for that order, they are proved to be `Sound` (see Sound.antt, and `file-iff-sound` among the
--- theorems).
+-- The rules of a sound table as tests, all but the order of its rows. With `readingOf`, which
+-- requires that order, they are proved to be `Sound` (see Sound.antt, and `file-iff-sound` among
+-- the theorems).
 use mathlib.Core.Bool.{Bool, true, false}
 use mathlib.Core.List.{List, [], _∷_}
 use Prim.Native.Nat.{ℕ}
@@ -77,7 +77,7 @@ isTyped s p = both (namesType s (p .identifier)) (holdsOpaque s (p .value))
 unfoldable pub isCertificate : List ℕ → Parts → Bool
 isCertificate s p = both (isTyped s p) (if sameBytes (bytesIn s (p .identifier)) x509Certificate then hasTag s (p .value) octetStringTag else true)
 
--- what a row's kind asks of its parts; an empty row is none
+-- what a row's kind requires of its parts; an empty row fails
 unfoldable pub safeHolds : List ℕ → SafeKind → Parts → Bool
 safeHolds s SafeKind.None p = false
 safeHolds s Plain p = true

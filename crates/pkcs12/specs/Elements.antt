@@ -38,7 +38,7 @@ abbrev pub setCount : Set → ℕ
 setCount absent = 0
 setCount (present xs) = attributesCount xs + 1
 
--- SEQUENCE, bagId, [0], what stands in it, and the set; a nested bag has the SEQUENCE of its
+-- SEQUENCE, bagId, [0], what is in it, and the set; a nested bag has the SEQUENCE of its
 -- SafeContents
 unfoldable pub bagsCount : Bags → ℕ
 bagsCount none = 0

@@ -26,7 +26,7 @@ sealedBytes x = sequence (algorithmBytes (x .algorithm) ++ octetString (x .octet
 unfoldable pub contentInfo : List ℕ → List ℕ → List ℕ
 contentInfo type content = sequence (identifier type ++ tlv contextTag content)
 
--- Rules 3.5, 3.8: of type data, with an OCTET STRING whose body is a SEQUENCE of what is given
+-- Rules 3.5, 3.8: of type data, with an OCTET STRING whose body is a SEQUENCE with the body x
 unfoldable pub dataBytes : List ℕ → List ℕ
 dataBytes x = contentInfo dataType (octetString (sequence x))
 
@@ -43,7 +43,7 @@ unfoldable pub setBytes : Set → List ℕ
 setBytes absent = []
 setBytes (present xs) = tlv setTag (attributesBytes xs)
 
--- what stands in [0] of a bag, but for the nested kind
+-- what is in [0] of a bag, but for the nested kind
 unfoldable pub leafBytes : Leaf → List ℕ
 leafBytes (key v) = v
 leafBytes (shrouded x) = sealedBytes x

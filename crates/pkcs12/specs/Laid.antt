@@ -1,4 +1,4 @@
--- Where a reading stands in a file (Rule 4.2: every range lies within its parent's body). Elements
+-- Where a reading is in a file (Rule 4.2: every range lies within its parent's body). Elements
 -- fill the body of their parent one behind another, from the file down, and each range is the body
 -- of its element, or a whole opaque one. The rows are those of the table, and the fields that a
 -- row's kind doesn't use are 0 or none (Rule 5.24).
@@ -32,13 +32,13 @@ use Rattle.pkcs12.specs.declared.row.BagRow.{BagRow}
 use Rattle.pkcs12.specs.declared.row.AttributeRow.{AttributeRow}
 use Rattle.pkcs12.specs.declared.row.Mac.{Mac}
 
--- an element with the tag t fills the places from..to; the range r is its body, the bytes x
+-- an element with the tag t fills the range from..to; the range r is its body, the bytes x
 pub record ElementLaid (s : List ℕ) (from to t : ℕ) (r : Range) (x : List ℕ) : Type 0 where
   pub element : Span s from to (tlv t x)
   pub body : Span s (r .start) (r .end) x
   pub ends : r .end ≡ to
 
--- the range r is the places from..to, with the bytes x: one opaque element, or nothing
+-- the range r is from..to, with the bytes x: one opaque element, or nothing
 pub record PieceLaid (s : List ℕ) (from to : ℕ) (r : Range) (x : List ℕ) : Type 0 where
   pub starts : r .start ≡ from
   pub ends : r .end ≡ to
@@ -97,7 +97,7 @@ pub data AttributesLaid (s : List ℕ) (n : ℕ) : ℕ → ℕ → List Attribut
   one-attribute : {from mid to : ℕ} {a : Attribute} {xs : List Attribute} {r : AttributeRow} {rs : List AttributeRow}
       → AttributeLaid s from mid n a r → AttributesLaid s n mid to xs rs → AttributesLaid s n from to (a ∷ xs) (r ∷ rs)
 
--- the set of bag n, or no place where it is absent
+-- the set of bag n, or no byte where it is absent
 pub data SetLaid (s : List ℕ) (n : ℕ) : ℕ → ℕ → Set → List AttributeRow → Type 0 where
   no-set : {at : ℕ} → SetLaid s n at at absent []
   one-set : {from to : ℕ} {xs : List Attribute} {rs : List AttributeRow} (body : Range)

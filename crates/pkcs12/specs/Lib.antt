@@ -1,6 +1,6 @@
 -- What a PKCS #12 file is, twice: as the standard's values and what they are written as (`Syntax`,
 -- `Encode`, `Valid`), and as the walk over any bytes that the reading call follows (`Walk`).
--- Between them stand the rows (`Values`, `Table`).
+-- Between them are the rows (`Values`, `Table`).
 pub mod Numbers
 pub mod Identifiers
 pub mod Syntax

@@ -1,6 +1,6 @@
 -- The numbers, sizes, tags and identifiers of the rules, each beside the name that the definitions
 -- use for it. They are written out as the rules have them, and `numbers-named` among the theorems
--- says that each name is what it stands for.
+-- says that each name has the value beside it.
 use mathlib.Core.List.{List, [], _∷_}
 use Prim.Native.Nat.{ℕ}
 use Rattle.pkcs12.specs.Numbers.{notServed, noRow, safeRows, bagRows, attributeRows, levels, ciphertextTag}

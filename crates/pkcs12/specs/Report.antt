@@ -24,7 +24,7 @@ answerReport Accepted = passing []
 answerReport (Answer.Refused f) = refusing f
 
 -- Rule 3.14: a kind by its last byte, 01 to 06. Rule 5.7: a bagId of another kind is 7, here at 0:
--- the body of a bagId doesn't say where it stands in a file
+-- the body of a bagId doesn't say where it is in a file
 unfoldable pub kindReport : BagKind → Report
 kindReport Key = passing (1 ∷ [])
 kindReport ShroudedKey = passing (2 ∷ [])

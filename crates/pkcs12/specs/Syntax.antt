@@ -1,5 +1,5 @@
 -- The values that a file holds (Rule 4.1; sections 1 to 3 of the rules): bytes by value, no
--- offsets. This is what a reading is. Above each type is the ASN.1 production that it stands for,
+-- offsets. This is what a reading is. Above each type is the ASN.1 production that it represents,
 -- and how the two differ. A value of these types may break a rule: Valid.antt has the rules.
 use mathlib.Core.List.{List}
 use Prim.Native.Nat.{ℕ}

@@ -115,7 +115,7 @@ sameEnclosing Enclosing.None (Bag m) = false
 sameEnclosing (Bag n) Enclosing.None = false
 sameEnclosing (Bag n) (Bag m) = eqb n m
 
--- the attributes at the front that name bag n, and what stands behind them
+-- the attributes at the front that name bag n, and what is behind them
 unfoldable pub ownOf : ℕ → List AttributeValue → List Attribute
 ownOf n [] = []
 ownOf n (r ∷ rs) = if eqb (r .bag) n then r .attribute ∷ ownOf n rs else []
@@ -156,7 +156,7 @@ abbrev pub onLevel : {A : Type 0} → ℕ → A → (ℕ → A) → A
 onLevel zero no-level below = no-level
 onLevel (suc l) no-level below = below l
 
--- The bags at the front that stand in safe k and enclosing bag e, the first of which is row n, with
+-- The bags at the front that are in safe k and enclosing bag e, the first of which is row n, with
 -- all that they enclose; l levels are left below them. The first argument bounds the number of
 -- rows.
 unfoldable pub bagsFrom : ℕ → ℕ → ℕ → Enclosing → ℕ → List BagValue → List AttributeValue → Taken
@@ -199,6 +199,6 @@ abbrev pub withMac : MacData → Option (List Safe) → Option Pfx
 withMac m option.none = option.none
 withMac m (some xs) = some (record { safes = xs; mac = m })
 
--- the reading that rows show, if they stand in the order a reading gives
+-- the reading that rows show, if they are in the order that a reading has
 unfoldable pub treeOf : Values → Option Pfx
 treeOf v = withMac (v .mac) (safesFrom 0 0 (v .safes) (v .bags) (v .attributes))

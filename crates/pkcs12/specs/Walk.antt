@@ -218,7 +218,7 @@ abbrev pub leafAt : PartsAt → BagKind → Owner → Bool → Rows → Walked
 leafAt x kind w has-set st =
     onParts x Refused (λ p k f. Went (addBag st (bagRow kind (w .safe) (w .enclosing) p has-set) (k + 3)) f)
 
--- what stands in [0] of a bag, by its kind; `inner` reads the SafeContents of a nested bag. The
+-- what is in [0] of a bag, by its kind; `inner` reads the SafeContents of a nested bag. The
 -- bag's SEQUENCE, bagId and [0] are counted with its row. (`None` doesn't come here: the bagId was
 -- refused.)
 abbrev pub contentAt : (Owner → Rows → Cursor → Walked) → List ℕ → BagKind → Owner → Bool → Rows → Cursor → Walked

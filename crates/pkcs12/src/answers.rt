@@ -10,7 +10,7 @@ pub enum Answer {
     Refused(Fault),
 }
 
-// What reading a file gives. The table of a refused file is empty.
+// What reading a file returns. The table of a refused file is empty.
 pub struct Reading {
     pub answer: Answer,
     pub table: Table,

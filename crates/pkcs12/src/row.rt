@@ -28,7 +28,7 @@ pub struct BagRow {
     pub safe: u16,
     pub enclosing: Enclosing,
     pub parts: Parts,
-    // whether a set of attributes stands there
+    // whether the bag has a set of attributes
     pub has_set: bool,
 }
 

@@ -40,7 +40,7 @@ use Rattle.reader.proofs.Stores.{withCount, storedAttribute, attribute-
 use Rattle.reader.proofs.Stores.{rows-of, rows-again}
 use Rattle.reader.proofs.Loops.{Rowing, rowing-start, rowing-end, rowing-refused, rowing-on}
 
--- where the set of a bag stands: its body, within the bytes
+-- where the set of a bag is: its body, within the bytes
 abbrev OfSet : List ℕ → Cursor → Set → Type 0
 OfSet s c (Set.Refused f) = Unit {0}
 OfSet s c Set.None = Unit {0}
@@ -61,7 +61,7 @@ set-of s e c =
     (λ h. by-checked (OfSet s c) (λ x. Unit {0}) _ _ (λ f. tt) (λ z g u. tt) (finishAt c) tt))
     (finishAt e) tt
 
--- an attribute was found only where there was room for its row
+-- an attribute was found only where a row was left for it
 abbrev OfRoom : Bool → PartsAt → Type 0
 OfRoom full (PartsAt.Refused f) = Unit {0}
 OfRoom full (PartsAt.Found p k n) = full ≡ false
@@ -97,7 +97,7 @@ module _ (s : List ℕ) (number : ℕ) (t : Table) (rows : t ≡ tableOf (rowsIn
       → attributeAt s number (rowsIn t) c ≡ Went (addAttribute (rowsIn t) (attributeRow number (a .identifier) (a .value)) k) n
   attribute-found a k n q = attribute-is ∙ rw q
 
-  -- the facts of a turn: room for the row, how far it goes, and the table with the row
+  -- the facts of a turn: a row is left, and how far the turn goes
   pub attribute-room : (a : Parts) (k : ℕ) (n : Cursor) → x ≡ PartsAt.Found a k n → t .«attribute_count» < attributeRows
   attribute-room a k n q = leb-false attributeRows (t .«attribute_count») (rw (sym p ∙ q) at (room-of s (leb attributeRows (t .«attribute_count»)) c))
 

@@ -1,4 +1,4 @@
--- The walk's definitions as the code takes them: first what stands before the rows, then the rows.
+-- The walk's definitions as the code takes them: first what comes before the rows, then the rows.
 -- Each law moves what is done with an answer (F) below the tests and calls that the answer depends
 -- on.
 use mathlib.Core.Path.{_≡_, refl, sym, _∙_}
@@ -113,7 +113,7 @@ attribute-law s number st c =
     F : PartsAt → Walked
     F x = onParts x Refused (λ p k n. Went (addAttribute st (attributeRow number (p .identifier) (p .value)) k) n)
 
--- the end of a bag: where its set stands, then its attributes
+-- the end of a bag: where its set is, then its attributes
 pub end-law : (s : List ℕ) (number : ℕ) (st : Rows) (e c n : Cursor)
     → onSet (setHeadAt s e c) Refused (Went st n)
     (λ b m. onWalked (run (attributeAt s number) (counting st 1) b) Refused (λ st′ f. onChecked (finishAt m) Refused (λ z g. Went st′ n)))

@@ -1,5 +1,5 @@
 -- The file's definition as the code takes it: the file is opened down to its AuthenticatedSafe,
--- then its safes, then what stands behind them. Each law follows both sides through the tests that
+-- then its safes, then what follows them. Each law follows both sides through the tests that
 -- they share.
 use mathlib.Core.Path.{_≡_, refl, sym}
 use mathlib.Core.List.{List}
@@ -71,7 +71,7 @@ last-law s st mac file =
     F : MacAt → Reading
     F y = onMac y refused (accepted st)
 
--- the ends of what the safes stand in, then the MAC
+-- the ends of what the safes are in, then the MAC
 close-law : (s : List ℕ) (st : Rows) (safes string content mac file : Cursor)
     → onMac (closeAt s Accepted safes string content mac file) refused (accepted st)
     ≡ afterValue s mac file (onChecked (finishAt safes) Refused (λ z h. onChecked (finishAt string) Refused (λ z i. Went st content)))

@@ -1,4 +1,4 @@
--- The walk's bags and safes as the code takes them: what stands before the rows, then the rows (see
+-- The walk's bags and safes as the code takes them: what comes before the rows, then the rows (see
 -- Bridge). Then what the code's progress says of the walk.
 use mathlib.Core.Path.{_≡_, refl, sym, ap, _∙_}
 use mathlib.Core.Bool.{true, false}
@@ -65,7 +65,7 @@ module _ (inner : Owner → Rows → Cursor → Walked) (s : List ℕ) (w : Owne
   leaf-law (PartsAt.Refused f) kind e n = refl
   leaf-law (PartsAt.Found p k f) kind e n = refl
 
-  -- a bag of any kind, from what stands in [0] on
+  -- a bag of any kind, from what is in [0] on
   content-law : (kind : BagKind) (v e n : Cursor)
       → afterBag (bagValueAt s kind v e n) ≡ onWalked (contentAt inner s kind w (ltb (e .at) (e .end)) st v) Refused
       (λ st′ f. bagEndAt s (length (st .bags)) st′ f e n)

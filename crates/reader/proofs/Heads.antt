@@ -1,4 +1,4 @@
--- The same rules for what stands before rows: bags, sets, safes and the file around them.
+-- The same rules for what comes before rows: bags, sets, safes and the file around them.
 use mathlib.Core.Path.{_≡_, refl, sym, _∙_}
 use mathlib.Core.Bool.{Bool, true, false}
 use mathlib.Core.List.{List}
@@ -78,7 +78,7 @@ elements-fits s due c x t b n w m e k p q f g h l =
     let r = ran opaqueLevels s b w m e p q in
     omega (arith, o .body .size, o .body .within, o .inside, r .long, r .stop (o .body .size), leb-true k 16 l)
 
--- the value of a bag of each kind has room for three more
+-- the value of a bag of each kind counts at most 65,535 elements
 module _ (s : List ℕ) (c : Cursor) (w : PartsAt) (h : length s ≤ fileBytes) where
   past-small : ((p : Parts) (k : ℕ) (n : Cursor) → w ≡ PartsAt.Found p k n → Past s c 0 k n) → SmallParts w
   past-small past = go w refl
@@ -111,7 +111,7 @@ pub sealed-count : (s : List ℕ) (c : Cursor) (w : PartsAt) (p : Parts) (k : �
     → w ≡ PartsAt.Found p k n → length s ≤ fileBytes → k ≤ fileBytes
 sealed-count s c w p k n e f h = small s c k n (sealed-past s c w p k n (in-file s w _ e h) f) h
 
--- what stands in [0], by the kind that the code matched on; x is what was read there
+-- what is in [0], by the kind that the code matched on; x is what was read there
 module _ (s : List ℕ) (kind : BagKind) (v e n : Cursor) (r : Bag) where
   pub value-none : kind ≡ BagKind.None → r ≡ Bag.Refused (fault notServed (v .at)) → r ≡ bagValueAt s kind v e n
   unfolding bagValueAt

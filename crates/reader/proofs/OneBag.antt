@@ -40,8 +40,9 @@ use Rattle.reader.proofs.BridgeRows.{bag-law, progress-went, progress-r
 use Rattle.reader.proofs.Stores.{storedBag, bag-count, stored-bag, rows-of, rows-again}
 use Rattle.reader.proofs.Loops.{count-of}
 
--- What stands before a bag's row: there was room for the row, its elements are no more than the
--- bytes before its attributes, and nested contents stand behind three headers.
+-- What is known of a bag before its row is stored: a row is left for it, its elements are no more
+-- than the bytes before its attributes, and nested contents begin at least three bytes past its
+-- start and end before its attributes.
 abbrev OfBag : List ℕ → Cursor → Bool → Before → Type 0
 OfBag s c full (Before.Refused f) = Unit {0}
 OfBag s c full (Before.Leaf kind p k f e n) = (full ≡ false) × (c .at + k ≤ e .at) × (e .at ≤ length s)

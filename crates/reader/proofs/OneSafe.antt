@@ -46,8 +46,8 @@ use Rattle.reader.proofs.BridgeRows.{safe-law, progress-rows}
 use Rattle.reader.proofs.Stores.{storedSafe, safe-count, stored-safe, rows-of, rows-again}
 use Rattle.reader.proofs.Loops.{Rowing, rowing-start, rowing-end, rowing-refused, rowing-on, count-of}
 
--- What stands before a safe's bags: there was room for its row, and plain contents stand behind
--- four headers.
+-- What is known of a safe before its bags are read: a row is left for it, and plain contents begin
+-- at least four bytes past its start.
 abbrev OfSafe : List ℕ → Cursor → Bool → Contents → Type 0
 OfSafe s c full (Contents.Refused f) = Unit {0}
 OfSafe s c full (Contents.Plain o f e n) = (full ≡ false) × (c .at + 4 ≤ o .at) × (o .at ≤ length s)
@@ -90,7 +90,7 @@ safe-of s full c =
     by-identifier s (OfSafe s c full) _ (λ f. tt) b _
     (λ t i m j. value-of s c full y m n (omega (arith, h, j)) (bytesOf s i) (b .at))))
 
--- contents that were read, and whether they end what they stand in
+-- contents that were read, and whether they end what they are in
 closed-not : (g : Fault) (a b c : Cursor) → closedAt (Answer.Refused g) a b c ≡ Checked.Refused g
 unfolding closedAt
 closed-not g a b c = refl

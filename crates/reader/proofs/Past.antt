@@ -39,7 +39,7 @@ use Rattle.parts.proofs.Past.{sealed-of, key-of, typed-of, encrypted-of}
 abbrev PastRows : List ℕ → Cursor → ℕ → Walked → Type 0
 PastRows s c i = OfWalked (λ st n. Past s c i (st .count) n)
 
--- the facts of rows that a part gave
+-- the facts of the rows that a part returned
 rows-past : (s : List ℕ) (c : Cursor) (i : ℕ) (x : Walked) (st : Rows) (n : Cursor) → PastRows s c i x → x ≡ Went st n → Past s c i (st .count) n
 rows-past s c i x st n h e = rw e at h
 
@@ -99,7 +99,7 @@ set-of s number st c l =
     Good : Walked → Type 0
     Good = OfWalked (λ st′ n. Room (c .at) (c .end) (st .count) (st′ .count))
 
--- what stands in [0] of a bag, whose own three elements are counted with it
+-- what is in [0] of a bag, whose own three elements are counted with it
 leaf-of : (s : List ℕ) (c : Cursor) (kind : BagKind) (w : Owner) (h : Bool) (st : Rows) (x : PartsAt) → PastParts s c x
     → PastRows s c (st .count + 3) (leafAt x kind w h st)
 leaf-of s c kind w h st (PartsAt.Refused f) p = tt
@@ -180,7 +180,7 @@ data-of s inner i inner-of c =
     Good : Walked → Type 0
     Good = OfWalked (λ st n. Within c (i + 1) (st .count) n)
 
--- what stands behind the type of a safe: of the elements counted here, one may belong to the safe's
+-- what follows the type of a safe: of the elements counted here, one may belong to the safe's
 -- SEQUENCE and identifier before it
 abbrev PastValue : Rows → Cursor → Walked → Type 0
 PastValue st c = OfWalked (λ st′ n. Within c (st .count + 1) (st′ .count) n)

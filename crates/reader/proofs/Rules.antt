@@ -16,8 +16,7 @@ use Rattle.pkcs12.specs.declared.row.Mac.{Mac}
 use Rattle.pkcs12.specs.declared.answers.MacAt.{MacAt}
 use Rattle.parts.proofs.Rules.{answers as parts-answers}
 
--- an answer that a callee gave, taken apart: v is what the definition names, w what the code
--- matched on
+-- an answer of a callee, taken apart: v is what the definition names, w what the code matched on
 module _ {A : Type 0} where
   pub mac-refused : (v w : MacAt) (f : Fault) (r : A) (bad : Fault → A) (good : Mac → ℕ → Cursor → A)
       → w ≡ v → w ≡ MacAt.Refused f → r ≡ bad f → r ≡ onMac v bad good
@@ -27,7 +26,7 @@ module _ {A : Type 0} where
       → w ≡ v → w ≡ MacAt.Found x k n → r ≡ good x k n → r ≡ onMac v bad good
   mac-found v w x k n r bad good p q e = rw (sym p ∙ q) e
 
--- a test of what a callee gave: u is its answer
+-- a test of what a callee returned: u is its answer
 module _ {A : Type 0} where
   pub given-eq : (a b u : ℕ) (r x y : A) → u ≡ a → u ≡ b → r ≡ x → r ≡ (if eqb a b then x else y)
   given-eq a b u r x y p q e = rw (eq-eqb a b (sym p ∙ q)) e

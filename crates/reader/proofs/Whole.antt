@@ -45,7 +45,7 @@ use Rattle.reader.proofs.BridgeFile.{file-law}
 abbrev pub withMac : Table → Mac → ℕ → Table
 withMac t x k = table (t .safes) (t .«safe_count») (t .bags) (t .«bag_count») (t .attributes) (t .«attribute_count») x (t .«mac_input») (t .elements + k)
 
--- ---- what is known of an opened file: the MAC input and the AuthenticatedSafe's body stand within
+-- ---- what is known of an opened file: the MAC input and the AuthenticatedSafe's body lie within
 -- the bytes
 
 abbrev OfOpened : List ℕ → Opened → Type 0
@@ -122,7 +122,7 @@ unfolding emptyTable tableOf
 count-of (Refused f) at end r = omega arith
 count-of (Went st n) at end r = omega (arith, r .long)
 
--- ---- what is done with the answer of what stands behind the safes
+-- ---- what is done with the answer of what follows the safes
 
 abbrev accepted : Table → Mac → ℕ → Cursor → Reading
 accepted t x k n = record { answer = Accepted; table = withMac t x k }
@@ -174,7 +174,7 @@ module _ (s : List ℕ) (short : length s ≤ fileBytes) (c₀ : Cursor) (start 
     pub body-inside : body .end ≤ length s
     body-inside = facts .3
 
-    -- the safes, which the code holds as y, and what stands behind them
+    -- the safes, which the code holds as y, and what follows them
     module _ (y : Progress) (z : y ≡ progress (run (safeAt s) (startRows input) body)) (v : MacAt)
         (u : v ≡ closeAt s (y .answer) safes string content mac rest) where
       closed-is : onMac v refused (accepted (y .table)) ≡ readFile s

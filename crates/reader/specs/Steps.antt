@@ -67,7 +67,7 @@ onSet (Set.Refused f) bad none good = bad f
 onSet Set.None bad none good = none
 onSet (Set.Found b n) bad none good = good b n
 
--- where the set stands at c, behind [0] of the bag, in whose body e is left
+-- the set at c, behind [0] of the bag, in whose body e is left
 unfoldable pub setHeadAt : List ℕ → Cursor → Cursor → Set
 setHeadAt s e c =
     onChecked (finishAt e) Set.Refused
@@ -75,7 +75,7 @@ setHeadAt s e c =
     if eqb (tagAt s c) setTag then onElement (expectAt setTag s c) Set.Refused (λ t b n. Set.Found b n) else
     onChecked (finishAt c) Set.Refused (λ z g. Set.None))
 
--- the count of parts has room for more
+-- the count of parts is at most 65,535, so that a little can be added to it
 abbrev pub SmallParts : PartsAt → Type 0
 SmallParts (PartsAt.Refused f) = Unit {0}
 SmallParts (PartsAt.Found p k n) = k ≤ fileBytes
@@ -89,7 +89,7 @@ onBag (Bag.Nested v e n) bad leaf nest = nest v e n
 unfoldable pub leafOf : BagKind → PartsAt → Cursor → Cursor → Bag
 leafOf kind x e n = onParts x Bag.Refused (λ p k f. Bag.Leaf kind p (k + 3) f e n)
 
--- what stands in [0], by the kind of the bag
+-- what is in [0], by the kind of the bag
 unfoldable pub bagValueAt : List ℕ → BagKind → Cursor → Cursor → Cursor → Bag
 bagValueAt s BagKind.None v e n = Bag.Refused (fault notServed (v .at))
 bagValueAt s Key v e n = leafOf Key (keyAt s v) e n
@@ -247,11 +247,11 @@ abbrev pub progress : Walked → Progress
 progress (Refused f) = record { answer = Answer.Refused f; table = emptyTable; next = cursor 0 0 }
 progress (Went st n) = record { answer = Accepted; table = tableOf st noMac; next = n }
 
--- The elements that stand before the first safe are counted at its start.
+-- The number of elements before the first safe, which are counted at the start.
 unfoldable pub startCount : ℕ
 startCount = 7
 
--- what the code asks of the bytes and of the table at an offset
+-- what the code requires of the bytes and of the table at an offset
 pub record Ready (s : List ℕ) (t : Table) (at : ℕ) : Type 0 where
   pub short : length s ≤ fileBytes
   pub rows : t ≡ tableOf (rowsIn t) noMac

@@ -1,4 +1,4 @@
-// Bags and their attributes up to the rows that they make: each function gives what stands at the
+// Bags and their attributes up to the rows that they make: each function returns what is at the
 // cursor, or the first fault.
 ghost use mathlib.Core.Bool.{true, false};
 ghost use mathlib.Core.Path.{_≡_};
@@ -19,7 +19,7 @@ use pkcs12::Parts;
 use pkcs12::PartsAt;
 use range::Range;
 
-// What stands in a bag before its attributes.
+// What is in a bag before its attributes.
 pub(crate) enum Bag {
     Leaf {
         kind: BagKind,
@@ -37,7 +37,7 @@ pub(crate) enum Bag {
     Refused(Fault),
 }
 
-// Where the attributes of a bag stand.
+// Where the attributes of a bag are.
 pub(crate) enum Set {
     None,
     Found { body: Cursor, next: Cursor },
@@ -76,7 +76,7 @@ fn attribute_values(s: &[u8], i: Cursor, m: Cursor, n: Cursor) -> PartsAt
     }
 }
 
-// An attribute, where the table has room for it.
+// An attribute; it is refused if the table is full.
 pub(crate) fn attribute(s: &[u8], full: bool, c: Cursor) -> PartsAt
     requires { ⌜ length (now s) ≤ fileBytes ⌝ }
     ensures { λ r. ⌜ r ≡ attributePartsAt (now (s .entry)) full c ⌝ }
@@ -103,7 +103,7 @@ pub(crate) fn attribute(s: &[u8], full: bool, c: Cursor) -> PartsAt
     }
 }
 
-// Where the set stands behind [0], whose element ends at e.
+// The set at c, behind [0] of the bag, in whose body e is left.
 pub(crate) fn set_at(s: &[u8], e: Cursor, c: Cursor) -> Set
     ensures { λ r. ⌜ r ≡ setHeadAt (now (s .entry)) e c ⌝ }
 {
@@ -149,7 +149,7 @@ fn leaf(kind: BagKind, value: PartsAt, set: Cursor, next: Cursor) -> Bag
     }
 }
 
-// What stands in [0], with body v, of a bag of this kind.
+// What is in [0], with body v, of a bag of this kind.
 fn bag_value(s: &[u8], kind: BagKind, v: Cursor, set: Cursor, next: Cursor) -> Bag
     requires { ⌜ length (now s) ≤ fileBytes ⌝ }
     ensures { λ r. ⌜ r ≡ bagValueAt (now (s .entry)) kind v set next ⌝ }
@@ -201,7 +201,7 @@ fn is_none(kind: BagKind) -> bool
     }
 }
 
-// The bag whose bagId stands at `at`, with body i; n is past the bag.
+// The bag whose bagId is at `at`, with body i; n is past the bag.
 fn bag_of(s: &[u8], at: usize, i: Cursor, m: Cursor, n: Cursor) -> Bag
     requires { ⌜ (length (now s) ≤ fileBytes) × (i .at ≤ i .end) × (i .end ≤ length (now s)) ⌝ }
     ensures { λ r. ⌜ r ≡ bagOfAt (now (s .entry)) at i m n ⌝ }
@@ -219,7 +219,7 @@ fn bag_of(s: &[u8], at: usize, i: Cursor, m: Cursor, n: Cursor) -> Bag
     }
 }
 
-// A bag up to its attributes, where the table has room for it.
+// A bag up to its attributes; it is refused if the table is full.
 pub(crate) fn bag_at(s: &[u8], full: bool, c: Cursor) -> Bag
     requires { ⌜ length (now s) ≤ fileBytes ⌝ }
     ensures { λ r. ⌜ r ≡ bagHeadAt (now (s .entry)) full c ⌝ }

@@ -1,9 +1,9 @@
-// Rows: safes, safe contents, bags and their attributes. The table goes by value: what reads a part
-// takes the table and gives it back with the rows of that part, or gives the empty table with the
-// first fault. A function keeps what it has so far in one place, and a call's answer goes there:
-// then the table is copied less. Where a function makes its answer itself, a refusal is named
-// before it is returned (`none`): a call straight into the answer would cost the other ways out a
-// copy.
+// Rows: safes, safe contents, bags and their attributes. The table is passed by value: what reads
+// a part takes the table and returns it with the rows of that part, or returns the empty table
+// with the first fault. A function keeps what it has so far in one variable, and a call's answer
+// goes there: then the table is copied less. Where a function makes its answer itself, a refusal
+// is named before it is returned (`none`): a call straight into the answer would cost the other
+// ways out a copy.
 ghost use mathlib.Core.Path.{_≡_};
 ghost use Prim.Native.Nat.{_≤_};
 ghost use lib.Dec.{ltb};
@@ -33,7 +33,7 @@ use pkcs12::SafeRow;
 use pkcs12::Table;
 use range::Range;
 
-// The elements that stand before the first safe: PFX, version, ContentInfo, its type, [0],
+// The number of elements before the first safe: PFX, version, ContentInfo, its type, [0],
 // OCTET STRING, and the SEQUENCE of the safes.
 const START_COUNT: usize = 7;
 
@@ -268,7 +268,7 @@ pub(crate) fn safe_contents(
     }
 }
 
-// The table at the first safe: the MAC input m, and the elements that stand before.
+// The table at the first safe: the MAC input m, and the number of elements before the safe.
 fn start(m: Cursor) -> Table
     requires { ⌜ (m .at ≤ fileBytes) × (m .end ≤ fileBytes) ⌝ }
     ensures { λ r. ⌜ r ≡ tableOf (startRows m) noMac ⌝ }

@@ -1,4 +1,4 @@
-// Safes up to the rows that they make: the ContentInfo of each, and what stands in it.
+// Safes up to the rows that they make: the ContentInfo of each, and what is in it.
 ghost use mathlib.Core.Path.{_≡_};
 ghost use Prim.Native.Nat.{_≤_};
 ghost use lib.ListN.{length};
@@ -119,7 +119,7 @@ fn encrypted(s: &[u8], c: Cursor, n: Cursor) -> Contents
     }
 }
 
-// What stands behind the type of a safe, with body i, at `at`; n is past the safe.
+// What follows the type of a safe; the type is at `at`, with body i, and n is past the safe.
 fn safe_value(s: &[u8], i: Cursor, at: usize, c: Cursor, n: Cursor) -> Contents
     requires { ⌜ (length (now s) ≤ fileBytes) × (i .at ≤ i .end) × (i .end ≤ length (now s)) ⌝ }
     ensures { λ r. ⌜ r ≡ safeOfAt (now (s .entry)) (bytesOf (now (s .entry)) i) at c n ⌝ }
@@ -142,7 +142,7 @@ fn safe_value(s: &[u8], i: Cursor, at: usize, c: Cursor, n: Cursor) -> Contents
     })
 }
 
-// A safe up to its bags, where the table has room for it.
+// A safe up to its bags; it is refused if the table is full.
 pub(crate) fn safe(s: &[u8], full: bool, c: Cursor) -> Contents
     requires { ⌜ length (now s) ≤ fileBytes ⌝ }
     ensures { λ r. ⌜ r ≡ safeHeadAt (now (s .entry)) full c ⌝ }

@@ -112,7 +112,7 @@ module _ (s : List ℕ) where
       more : Made
       more = moreAttributes (madeIn st)
 
-  -- the set of attributes, if it stands there, and the end of the bag
+  -- the set of attributes, if it is there, and the end of the bag
   set-link : {A : Type 0} (P : A → Account → Type 0) (bad : Fault → A)
       (strict : (f : Fault) → P (bad f) (stops (f .number) (f .offset)))
       (number : ℕ) (st : Rows) (c : Cursor) → Lies s c → (after : Left) (good : Rows → Cursor → A)

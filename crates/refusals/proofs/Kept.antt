@@ -1,6 +1,6 @@
--- Wherever the account stops, the number is 1 to 8 and the place lies within what was left; where
--- it goes on, it goes to the same end. Proved of the one rule for elements and of each way to put
--- rules together, then of the grammar.
+-- Wherever the account stops, the number is 1 to 8 and the offset is at most the end of what was
+-- left; where it goes on, it goes to the same end. Proved of the one rule for elements and of each
+-- way to put rules together, then of the grammar.
 use mathlib.Core.Bool.{Bool, true, false}
 use mathlib.Core.Path.{_≡_, refl}
 use mathlib.Core.List.{List, [], _∷_}

@@ -166,7 +166,7 @@ pub link-full : (s : List ℕ) (e : Cursor) (made : Made) (after : Left) → e .
     → closed (goes made (here s e)) after ≡ goes made after
 link-full s e made after h = rw (none-left s (e .at) (e .end) (omega arith)) refl
 
--- where something must stand that may not be left out: 7 at the parent's end
+-- an element that is refused by 7, at the parent's end, where it is missing
 pub link-served : (s : List ℕ) {A : Type 0} (P : A → Account → Type 0) (bad : Fault → A) (K : Account → Account)
     (strict : (f : Fault) → P (bad f) (K (stops (f .number) (f .offset))))
     (e : Cursor) (lies : Lies s e) (made : Made) (rule : Rule) (good : A)
@@ -185,7 +185,7 @@ link-served s P bad K strict e lies made rule good g =
     rw (le-leb (e .end) (e .at) h, none-chosen s (e .at) (e .end) (stops 7 (e .at)) (rule made (here s e)) h)
     (rw z (strict _)))
 
--- the tag that may stand next
+-- the tag of an element that may be absent, as both test it
 pub first-tag : (s : List ℕ) (c : Cursor) (t : ℕ) → Lies s c → eqb 0 t ≡ false → eqb (tagAt s c) t
     ≡ firstIs t (bytesOf s c)
 unfolding tagAt

@@ -41,7 +41,7 @@ number-is x e =
     (λ h. rw (lt-leb 2 (number x) (omega arith), le-leb (number x) 1 h) refl))
 
 module _ (s : List ℕ) (made : Made) where
-  -- the iterations, if they stand there, and the end of their parent
+  -- the iterations, if they are there, and the end of their parent
   iterations-link : {A : Type 0} (P : A → Account → Type 0) (bad : Fault → A)
       (strict : (f : Fault) → P (bad f) (stops (f .number) (f .offset)))
       (c : Cursor) → Lies s c → (after : Left) (p : Parts) (salt : Range) (k : ℕ) (good : Mac → ℕ → Cursor → A)

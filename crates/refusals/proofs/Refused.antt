@@ -1,5 +1,5 @@
 -- A refusal is where the account stops, and the other way round; and what follows of numbers,
--- places, cut files and bytes after a file.
+-- offsets, cut files and bytes after a file.
 use mathlib.Core.Path.{_≡_, refl, sym, ap, _∙_}
 use mathlib.Core.List.{List, [], _∷_, _++_}
 use Prim.Native.Nat.{ℕ, _+_, _≤_, _<_}
@@ -48,7 +48,7 @@ goes-at f m l Accepted a q e = refl
 pub goes-accepted : (f : List ℕ) (m : Made) (l : Left) → accountOf f ≡ goes m l → IsAccepted f
 goes-accepted f m l e = goes-at f m l (readFile f .answer) (accountOf f) (file-agrees f) e
 
--- ---- numbers and places
+-- ---- numbers and offsets
 
 -- the account of a file, by its length
 too-long : (f : List ℕ) → 65535 < length f → accountOf f ≡ stops 9 0
@@ -96,7 +96,7 @@ nine-is-long f p e =
 
 -- ---- accepted files, cut or with bytes after them
 
--- what stands in the SEQUENCE of a file
+-- what is in the SEQUENCE of a file
 rule : Rule
 rule = primitive 0x02 version before outer before served macData
 

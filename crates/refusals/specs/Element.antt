@@ -20,7 +20,7 @@ pub record Made : Type 0 where
   pub bags : ℕ
   pub attributes : ℕ
 
--- the account stops with a number at a place, or goes on with what is left of the parent
+-- the account stops with a number at an offset, or goes on with what is left of the parent
 pub data Account : Type 0 where
   stops : ℕ → ℕ → Account
   goes : Made → Left → Account

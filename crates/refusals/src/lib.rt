@@ -1,3 +1,3 @@
-// Refusals, written down a second time, with theorems only: the numbers that reading a file gives
-// back, and no code. The numbers that reading gives are 1 to this one.
+// Refusals of files, defined a second time (specs/), and theorems about them (proofs/). There is
+// no code here. The numbers of the refusals that reading returns are 1 to this one.
 pub const LAST_NUMBER: u8 = 9;

@@ -44,7 +44,7 @@ pub encrypted-version-sized : Sized 3 (integer encryptedVersion)
 unfolding integerOctets digits digitsFrom tlv lengthOctets
 encrypted-version-sized = near-is 3 _ refl
 
--- ---- what stands in [0] of a bag, by its kind
+-- ---- what is in [0] of a bag, by its kind
 
 module _ (s : List ℕ) (k : BagKind) (p : Parts) (r : ℕ) where
   pub content-none : k ≡ BagKind.None → 0 ≡ capped (length (contentOf s k p))

@@ -1,4 +1,5 @@
--- Measuring rows: what the code's loops and calls give is the size of what the definitions take.
+-- Measuring rows: what the code's loops and calls return is the size of what the definitions
+-- take.
 use mathlib.Core.Path.{_≡_, refl, sym, ap, _∙_}
 use mathlib.Core.Bool.{Bool, true, false, not}
 use mathlib.Core.List.{List, [], _++_}

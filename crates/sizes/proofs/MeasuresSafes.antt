@@ -1,4 +1,4 @@
--- Measuring safes: what the code's calls and its loop give is the size of what the definitions
+-- Measuring safes: what the code's calls and its loop return is the size of what the definitions
 -- take.
 use mathlib.Core.Path.{_≡_, refl, sym, _∙_}
 use mathlib.Core.List.{List, [], _++_}

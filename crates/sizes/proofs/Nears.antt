@@ -1,4 +1,4 @@
--- Sizes of bags, ContentInfos and files that are told alike.
+-- Sizes of bags, ContentInfos and files that are reported alike.
 use Prim.Native.Nat.{ℕ}
 use mathlib.Core.Path.{_≡_}
 use Rattle.encode.specs.Sizes.{capped}

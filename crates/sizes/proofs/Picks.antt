@@ -212,7 +212,7 @@ module _ (t : Table) (s : List ℕ) where
 
   -- ---- one bag, by what its row's content is
 
-  -- it takes a row or more, and stands in front of any others
+  -- it takes a row or more, and its bytes come before those of any others
   pub bag-ahead : (l k n m : ℕ) (p : OnePicked) → bagPicked t s l k n m ≡ some p → n < p .bag
   unfolding bagPicked bagsPicked
   bag-ahead l k n m p e =

@@ -63,7 +63,7 @@ module _ {A B : Type 0} (f : A → B) (c : ℕ) (l : List A) (h : c ≤ length l
 same-or : {A : Type 0} (a b : ℕ) → (a ≡ b → A) → ((a ≡ b → ⊥) → A) → A
 same-or {A} a b f g = by-eq (λ (x : ℕ). A) 0 0 a b f g
 
--- the choices that both readings make of a row, with what each gives
+-- the choices that both readings make of a row, with what each returns
 same-choice : {A B : Type 0} (f : A → B) (t u : Bool) (c : Content) (l : ℕ) (x : B) (a : A) (p : Leaf → B)
     (q : Leaf → A) (d : ℕ → B) (e : ℕ → A)
     → x ≡ f a → ((y : Leaf) → p y ≡ f (q y)) → ((m : ℕ) → d m ≡ f (e m))

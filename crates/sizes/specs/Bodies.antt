@@ -23,7 +23,7 @@ sealedBody x = algorithmBytes (x .algorithm) ++ octetString (x .octets)
 unfoldable pub typedBody : List ℕ → List ℕ → List ℕ
 typedBody t v = identifier t ++ tlv contextTag v
 
--- what stands in [0] of a bag that holds no bags; an empty row and a nested bag have nothing here
+-- what is in [0] of a bag that holds no bags; an empty row and a nested bag have nothing here
 unfoldable pub contentOf : List ℕ → BagKind → Parts → List ℕ
 contentOf s k p = onContent (contentIn s k p) [] leafBytes []
 

@@ -68,7 +68,7 @@ ownFrom t s (suc f) n m =
 unfoldable pub ownPicked : Table → List ℕ → ℕ → ℕ → OwnPicked
 ownPicked t s n m = ownFrom t s (attributeEnd t - m) n m
 
--- the set of bag n, if one stands there
+-- the set of bag n, if it has one
 pub record SetPicked : Type 0 where
   pub set : Set
   pub next : ℕ

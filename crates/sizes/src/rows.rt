@@ -1,6 +1,6 @@
 // Rows in the order of a reading: which rows a bag, safe contents and the safes take, and the size
 // of what they are written as. The numbers of the next bag row and of the next attribute row are
-// kept; what doesn't belong where it stands is left.
+// kept; a row that doesn't belong at that point isn't taken.
 ghost use mathlib.Core.Path.{_≡_};
 ghost use Prim.Native.Nat.{_+_, _<_};
 ghost use lib.Dec.{eqb};
@@ -33,7 +33,7 @@ pub struct Owned {
     pub next: usize,
 }
 
-// Bags that stand side by side: their size, and the next bag and attribute rows.
+// Bags that follow one another: their size, and the next bag and attribute rows.
 pub struct Taken {
     pub size: usize,
     pub bag: usize,
@@ -61,7 +61,7 @@ pub struct Safes {
     pub attribute: usize,
 }
 
-// A set that stands there, by the size of its attributes.
+// A set that is there, by the size of its attributes.
 fn present(body: usize, next: usize) -> Owned
     ensures { λ r. ⌜ r ≡ presentAs body next ⌝ }
 {
@@ -69,7 +69,7 @@ fn present(body: usize, next: usize) -> Owned
     Owned { body, size, next }
 }
 
-// The set of a bag, if one stands there; its attributes from an attribute row on.
+// The set of a bag, if it has one; its attributes from an attribute row on.
 pub fn set(table: Table, bytes: &[u8], has_set: bool, bag: usize, from: usize) -> Owned
     ensures { λ r. ⌜ r ≡ setSized (setPicked table (now (bytes .entry)) «has_set» bag from) ⌝ }
 {
@@ -139,7 +139,7 @@ pub fn form_of(kind: BagKind) -> Form
     }
 }
 
-// One bag, by what stands in its [0] and by its set; the bag row behind it is `next`.
+// One bag, by the size of what is in its [0] and by its set; the bag row behind it is `next`.
 fn one_bag(content: usize, owned: Owned, next: usize) -> One
     ensures { λ r. ⌜ r ≡ oneOf (elementSize (bagSize content (owned .size))) next (owned .next) ⌝ }
 {

@@ -36,7 +36,7 @@ zero-either : (t : ℕ) → eqb t 0 ≡ eqb 0 t
 zero-either zero = refl
 zero-either (suc t) = eqb·suc-zero t ∙ sym (eqb·zero-suc t)
 
--- what a callee told of the part x is told of the bytes y that the part is
+-- what a callee returned for the part x holds for the bytes y that the part is
 module _ (x y : List ℕ) where
   pub body-of : (r : Bool) → x ≡ y → r ≡ identifierBody x → r ≡ identifierBody y
   body-of r p e = rw (sym p) e
@@ -89,7 +89,7 @@ module _ (x : List ℕ) (c : Cursor) (w : Checked) where
   unfolding allOpaque
   all-passed m n p e q = rw (← p, ← e, q)
 
--- what a row's kind asks, by the kind that the code met
+-- what a row's kind requires, by the kind that the code met
 module _ (s : List ℕ) (p : Parts) where
   module _ (k : SafeKind) where
     pub safe-none : k ≡ SafeKind.None → false ≡ safeHolds s k p
@@ -152,7 +152,7 @@ module _ {A : Type 0} (test : A → Bool) (xs : List A) (n : ℕ) where
     pub enough : n ≤ length xs
     pub rest : all test (take n xs) ≡ all test (drop i (take n xs))
 
-  -- an array of k rows, as the code is told of it
+  -- an array of k rows, as its type says
   pub starts : (B : Type 0) (f : A → B) (k : ℕ) → length (map f xs) ≡ k → n ≤ k → Testing 0
   starts B f k e h = let l : length (map f xs) ≡ length xs = length-map xs f in
       record { enough = omega (arith, e, l, h); rest = refl }
@@ -177,7 +177,7 @@ module _ {A : Type 0} (test : A → Bool) (xs : List A) (n : ℕ) where
       let l : length (take n xs) ≡ n = length-take-le n xs (g .enough) in
       sym (g .rest ∙ rw (drop-of-length-le (take n xs) {i = i} (omega (arith, l, h))))
 
--- The counts fit: u is what the code was told of it.
+-- The counts fit: u is what the code's test of them returned.
 abbrev Fit : Table → Type 0
 Fit t = (t .«safe_count» ≤ safeRows) × (t .«bag_count» ≤ bagRows) × (t .«attribute_count» ≤ attributeRows)
 

@@ -32,7 +32,7 @@ use Rattle.sizes.proofs.Reading.{CountsFit, reading-law}
 use Rattle.sound.specs.Measured.{measured}
 use Rattle.sound.specs.declared.Measured.the-variants.{Unsound, Size}
 
--- the arrays of a table, as the code is told of them
+-- the arrays of a table have the lengths that their types say
 pub record Arrays (t : Table) : Type 0 where
   pub safes : length (t .safes) ≡ safeRows
   pub bags : length (t .bags) ≡ bagRows
@@ -73,7 +73,7 @@ fits t s a k =
       attribute-length = a .attributes;
     }
 
--- u is what testing the rules gave
+-- u is what testing the rules returned
 module _ (t : Table) (s : List ℕ) (u : Bool) (p : u ≡ keepsRules t s) where
   pub breaks-rules : not u ≡ true → Unsound ≡ measured t s
   unfolding measured fileOf

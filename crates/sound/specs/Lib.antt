@@ -1,3 +1,3 @@
--- What measuring a table gives.
+-- What measuring a table returns.
 pub mod Measured
 pub mod Report

@@ -1,4 +1,4 @@
--- What measuring a table gives.
+-- What measuring a table returns.
 use mathlib.Core.List.{List}
 use Prim.Native.Nat.{ℕ}
 use lib.ListN.{length}

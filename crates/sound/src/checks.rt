@@ -146,7 +146,7 @@ fn is_typed(bytes: &[u8], parts: Parts) -> bool
     holds_opaque(bytes, parts.value)
 }
 
-// An X.509 certificate stands in an OCTET STRING.
+// An X.509 certificate is in an OCTET STRING (Rule 3.19).
 fn is_certificate(bytes: &[u8], parts: Parts) -> bool
     ensures { λ r. ⌜ r ≡ isCertificate (now (bytes .entry)) parts ⌝ }
 {

@@ -10,7 +10,7 @@ mod checks;
 use pkcs12::Table;
 
 // `Unsound`: the table is not sound, and makes no file. A size past that of the longest file is
-// told as `encode::size::PAST`.
+// returned as `encode::size::PAST`.
 pub enum Measured {
     Unsound,
     Size(usize),

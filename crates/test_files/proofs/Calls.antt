@@ -33,7 +33,7 @@ module _ {M : Type 1} (𝓤 : URA M) (H : Heap 𝓤) (A : Atoms 𝓤) (T : Ended
   Called = tripleOf 𝓤 H A (T .signature) (closing 𝓤 H A T c)
 
   -- of one call: the type of its result, the tokens, and what is said of the last values of what
-  -- was lent by `&mut`
+  -- was passed by `&mut`
   module _ (y : Called .Ghost) where
     abbrev Result : RattleType
     Result = typeAt (T .signature .result) (y .0 .0)
@@ -68,7 +68,7 @@ module _ {M : Type 1} {𝓤 : URA M} {H : Heap 𝓤} {A : Atoms 𝓤} {K : Type 
       peeks t (Result 𝓤 H A T c y) (Is (Result 𝓤 H A T c y)) (shows 𝓤 H A (Result 𝓤 H A T c y)) r (v ∷ [])
       (λ is. k v r is ws))))
 
-  -- the same of a call that is lent nothing by `&mut`
+  -- the same of a call to which nothing is passed by `&mut`
   pub asks : K → FmC 𝓤 H (W .laws) C → {rest : Body} (T : Ended) (c : Clauses 𝓤 T) → Triple 𝓤 (C f) (Called 𝓤 H A T c)
       → (y : Called 𝓤 H A T c .Ghost) → Opds K W (raw (Called 𝓤 H A T c .pre y) ∷ Γ) E xs (Called 𝓤 H A T c .args y)
       → ((v : Val) (r : Result 𝓤 H A T c y .Denot) → Is (Result 𝓤 H A T c y) r (v ∷ [])
@@ -77,12 +77,12 @@ module _ {M : Type 1} {𝓤 : URA M} {H : Heap 𝓤} {A : Atoms 𝓤} {K : Type 
   asks t fm T c known y os k = asks-last t fm T c known y os (λ v r is ws. move t (2 ∷ []) $ drop t $ k v r is)
 
 module _ {M : Type 1} {𝓤 : URA M} {H : Heap 𝓤} {A : Atoms 𝓤} {K : Type 0} {W : Given 𝓤 H A} {Γ : List (Item 𝓤)} where
-  -- a contract that asks or says nothing: P is left
+  -- a contract that requires or ensures nothing: P is left
   pub says-nothing : K → {P : SProp 𝓤} → Step K W Γ (prop P) Γ (prop (sep 𝓤 P (emp 𝓤)))
   says-nothing t {P} = step (λ s. suffices t P (via 𝓤 (sep 𝓤 (emp 𝓤) P) (emp∗ 𝓤 P) (comm∗ 𝓤 (emp 𝓤) P)) $ s)
 
 module _ {M : Type 1} (𝓤 : URA M) (H : Heap 𝓤) (A : Atoms 𝓤) (W : Given 𝓤 H A) where
-  -- what a callee with one parameter asks, beside the tokens P
+  -- what a callee with one parameter requires, beside the tokens P
   pub of-one : (R : RattleType) (x : R .Denot) (v : Val) (P : SProp 𝓤)
       → ent 𝓤 (⋆ 𝓤 H A (‵ (R .own x (v ∷ [])) ∷ raw P ∷ []))
       (sep 𝓤 (sep 𝓤 P (sem 𝓤 H A (owns (R ∷ []) (x, tt) (v ∷ [], tt)))) (emp 𝓤))

@@ -1,5 +1,5 @@
--- What walks that make an attribute reader share: the contracts of the calls, what each asks, and
--- facts of a reader that a call returned.
+-- What walks that make an attribute reader share: the contracts of the calls, what each requires,
+-- and facts of a reader that a call returned.
 use mathlib.Core.Path.{refl}
 use Prim.Native.Nat.{ℕ, _<_, _^_}
 use mathlib.Core.List.{List, [], _∷_}

@@ -1,7 +1,7 @@
 // Runs calls on the table of an accepted file: an attribute reader of each bag, and identity rows,
 // each by itself and all stored in an array. docs/TESTS.md has the form of the lines.
-// `three_calls`, `part_of` and `fill_rows` are proved by a walk, so each is a row of calls; the rest
-// is done over them.
+// `three_calls`, `part_of` and `fill_rows` are proved by a walk, so each is a row of calls; the
+// rest is done over them.
 use attributes::Item;
 use buffer::Written;
 use der::Fault;
@@ -24,7 +24,7 @@ const UNUSED: IdentityRow = IdentityRow {
     id: Range { start: 1, end: 2 },
 };
 
-// What three calls of an attribute reader gave.
+// What three calls of an attribute reader returned.
 struct Three {
     first: Item,
     second: Item,
@@ -58,7 +58,7 @@ fn three_calls(table: Table, file: &[u8], bag: usize) -> Three {
     }
 }
 
-// The part of the file that a reader of one bag's attributes gives for a range.
+// The summary of the part of the file that a reader of one bag's attributes returns for a range.
 fn part_of(table: Table, file: &[u8], bag: usize, named: Range) -> Summary {
     summed(attributes::part(attributes::open(table, file, bag), named))
 }

@@ -26,7 +26,7 @@ use stdio::write_decimal;
 use stdio::write_hex;
 use stdio::write_text;
 
-// Bytes of a frame's parts: what stands in front of the rows, a row of each kind, the MAC fields.
+// Bytes of a frame's parts: what is in front of the rows, a row of each kind, the MAC fields.
 const HEAD: usize = 13;
 
 const SAFE: usize = 13;
@@ -128,7 +128,7 @@ fn mac(s: &[u8], at: usize) -> Mac
     }
 }
 
-// How many rows of each kind stand in the frame.
+// How many rows of each kind are in the frame.
 struct Rows {
     safes: u8,
     bags: u8,
@@ -179,7 +179,7 @@ impl Rows {
     }
 }
 
-// The table with these n rows, from that place of the frame on, as far as it has rows.
+// The table with n rows from an offset of the frame on, as far as it has rows.
 fn with_safes(mut table: Table, s: &[u8], start: usize, n: usize) -> Table
     requires { ⌜ (start < 10000) × (n < 256) ⌝ }
 {
@@ -229,7 +229,7 @@ fn table_of(s: &[u8], rows: Rows) -> Table {
     table
 }
 
-// What stands at a place of the buffer before the writer is called.
+// The byte at an offset of the buffer before the writer is called.
 fn pattern(i: usize) -> u8 {
     let low = i % 256;
     ((low * 7 + 3) % 256) as u8
@@ -243,7 +243,7 @@ fn fill(out: &mut [u8]) {
     }
 }
 
-// Whether the buffer is as it was filled, from that place on.
+// Whether the buffer is as it was filled, from an offset on.
 fn unchanged(out: &[u8], from: usize) -> bool {
     let mut i = from;
     while i < out.len() {

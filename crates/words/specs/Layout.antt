@@ -1,4 +1,4 @@
--- How many words each part of a table takes, and where it stands.
+-- How many words each part of a table takes, and its offset.
 use Prim.Native.Nat.{ℕ, _+_, _*_}
 use Rattle.pkcs12.specs.Numbers.{safeRows, bagRows, attributeRows}
 
@@ -14,7 +14,7 @@ partsWidth = 3 * rangeWidth
 abbrev pub safeWidth : ℕ
 safeWidth = 1 + partsWidth
 
--- kind, safe, enclosing bag, parts, whether a set stands there
+-- kind, safe, enclosing bag, parts, whether it has a set
 abbrev pub bagWidth : ℕ
 bagWidth = 4 + partsWidth
 

@@ -27,7 +27,7 @@ pub const ATTRIBUTE_WIDTH: usize = 1 + 2 * RANGE_WIDTH;
 
 pub const MAC_WIDTH: usize = PARTS_WIDTH + RANGE_WIDTH + 1;
 
-// Where each part stands.
+// The offset of each part, in words.
 pub const ELEMENTS_AT: usize = 0;
 
 pub const SAFE_COUNT_AT: usize = 1;
@@ -63,8 +63,8 @@ fn too_few() -> Written
     })
 }
 
-// Stores a table as words at the front of the memory, and gives their number; 10 if there are
-// fewer.
+// Stores a table as words at the front of the memory, and returns their number; 10 if the memory
+// has fewer.
 pub fn store(table: Table, out: &mut [u32]) -> Written
     ensures { λ r. ⌜ r ≡ stored table (now (out .entry)) .answer ⌝ }
     ensures { λ r. ⌜ writtenReport r ≡ writtenReport (stored table (now (out .entry)) .answer) ⌝ }
@@ -77,7 +77,7 @@ pub fn store(table: Table, out: &mut [u32]) -> Written
     Written::Length(TABLE_WORDS)
 }
 
-// Stores one attribute row as words, as it stands in a table; 10 if there are fewer.
+// Stores one attribute row as words, as it is in a table; 10 if the memory has fewer.
 pub fn store_row(row: AttributeRow, out: &mut [u32]) -> Written
     ensures { λ r. ⌜ r ≡ storedRow row (now (out .entry)) .answer ⌝ }
     ensures { λ r. ⌜ writtenReport r ≡ writtenReport (storedRow row (now (out .entry)) .answer) ⌝ }

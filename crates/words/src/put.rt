@@ -1,5 +1,5 @@
-// Words into a lent memory, at an offset in words; the answer is the offset behind them. What lies
-// past the end of the memory is not stored, but counted.
+// Stores words in a caller's memory, at an offset in words; the answer is the offset behind them.
+// What lies past the end of the memory is not stored, but counted.
 ghost use mathlib.Core.Path.{_≡_};
 ghost use mathlib.Core.List.{[], _∷_};
 ghost use lib.ListN.{replicate};
@@ -127,7 +127,7 @@ fn safe(out: &mut [u32], at: usize, row: SafeRow) -> usize
     parts(out, second, row.parts)
 }
 
-// What stands before the parts of a bag.
+// What is before the parts of a bag.
 fn bag_head(out: &mut [u32], at: usize, kind: BagKind, safe: u16, enclosing: Enclosing) -> usize
     ensures { λ r. ⌜ Placed (now (out .entry)) at (bagNumber kind ∷ safe ∷ enclosingNumber enclosing ∷ []) (now (out .exit)) r ⌝ }
 {
@@ -183,7 +183,7 @@ fn mac(out: &mut [u32], at: usize, mac: Mac) -> usize
     word(out, iterations, mac.iterations)
 }
 
-// What stands before the rows.
+// What is before the rows.
 fn head(out: &mut [u32], at: usize, table: Table) -> usize
     ensures { λ r. ⌜ Placed (now (out .entry)) at (headWords table) (now (out .exit)) r ⌝ }
 {

@@ -1,4 +1,4 @@
--- Elements of a file, each behind its header: what stands before the content of a bag, of a
+-- Elements of a file, each behind its header: what is before the content of a bag, of a
 -- ContentInfo and of data, and the whole.
 use mathlib.Core.Path.{_≡_, refl, sym, ap, _∙_}
 use mathlib.Core.List.{List, _++_, append-assoc}

@@ -1,4 +1,5 @@
--- The algebra of writing what is no longer than a file: parts behind parts, an element behind its header.
+-- The algebra of writing what is no longer than a file: parts behind parts, an element behind its
+-- header.
 use mathlib.Core.Path.{_≡_, refl}
 use mathlib.Core.List.{List, _++_}
 use Prim.Native.Nat.{ℕ, _≤_}
@@ -37,7 +38,7 @@ put-element t {d} {at} {n} {m} {p} {b} {e} {r} f s g = record { done = go }
         let l : length b ≤ fileBytes = omega (arith, h .short, tlv-long t b) in
         element-by n d at t m p b e r (near-small n (length b) s l) f (g .done (record { short = l }))
 
--- the same with a size that was told, and with one that was counted
+-- the same with the capped size of the body
 pub put-sized : (t : ℕ) {d : List ℕ} {at n : ℕ} {m : List ℕ} {p : ℕ} {b e : List ℕ} {r : ℕ}
     → Placed d at (header t n) m p → n ≡ capped (length b) → Put Short m p b e r → Put Short d at (tlv t b) e r
 put-sized t {n = n} {b = b} f s g = put-element t f (sized-told n b s) g

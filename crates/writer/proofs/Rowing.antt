@@ -48,7 +48,7 @@ use Rattle.writer.proofs.Elements.{bag-put}
 
 -- ---- a set
 
--- the loop of `set`, from the place p of the buffer m on: the attributes seen so far are written
+-- the loop of `set`, from the offset p of the buffer m on: the attributes seen so far are written
 pub record SetPutting (t : Table) (s : List ℕ) (n from end : ℕ) (m : List ℕ) (p : ℕ) (e : List ℕ) (r next : ℕ) : Type 0 where
   pub seen-bytes : List ℕ
   pub seen : OwnSeen t s n from next seen-bytes
@@ -154,7 +154,7 @@ module _ (t : Table) (s : List ℕ) (l k n from : ℕ) (row : BagRow) (e : row �
       unfolding bagsPart
       next-is = taken-attribute (bagsPicked t s (l - 1) k (Bag n) (n + 1) from) inner i ∙ sym (a .attribute)
 
-      -- what is asked of the set behind the bags
+      -- what writing the set behind the bags requires
       pub nest-body : owned .body ≡ capped (length (setBody (setPicked t s (row .«has_set») n (all .attribute) .set)))
       nest-body = rw next-is at (owned-body (setPicked t s (row .«has_set») n (inner .attribute)) owned w)
 
@@ -180,7 +180,7 @@ module _ (t : Table) (s : List ℕ) (l k n from : ℕ) (row : BagRow) (e : row �
 
 -- ---- bags side by side
 
--- the loop of `bags`, from the place p of the buffer m on
+-- the loop of `bags`, from the offset p of the buffer m on
 pub record BagsPutting (t : Table) (s : List ℕ) (l k : ℕ) (e : Enclosing) (first from end : ℕ) (m : List ℕ) (p : ℕ) (z : List ℕ) (r : RowsEnd) : Type 0 where
   pub seen-bytes : List ℕ
   pub seen : BagsSeen t s l k e first from (r .bag) (r .attribute) seen-bytes
@@ -189,7 +189,7 @@ pub record BagsPutting (t : Table) (s : List ℕ) (l k : ℕ) (e : Enclosing) (f
   pub within : end ≤ bagRows
   pub long : length z ≡ length m
 
--- what one row gave, if it was a bag
+-- what writing one row did: nothing is written if it was no bag
 abbrev OneGave : List ℕ → ℕ → Option OnePicked → ℕ → ℕ → List ℕ → RowsEnd → Type 0
 OneGave d at option.none n m z r = (Put Short d at [] z (r .at)) × (r .bag ≡ n) × (r .attribute ≡ m)
 OneGave d at (some p) n m z r = (Put Short d at (bagsBytes (p .front none)) z (r .at)) × (r .bag ≡ p .bag) × (r .attribute ≡ p .attribute)

@@ -76,7 +76,7 @@ module _ (t : Table) (s : List ℕ) (k first from : ℕ) where
   some-row Plain h e = (_, safe-is-plain t s k first from (getD (t .safes) k noSafe) refl h)
   some-row Encrypted h e = (_, safe-is-encrypted t s k first from (getD (t .safes) k noSafe) refl h)
 
--- the loop of `safes`, from the place p of the buffer m on
+-- the loop of `safes`, from the offset p of the buffer m on
 pub record SafesPutting (t : Table) (s : List ℕ) (end : ℕ) (m : List ℕ) (p : ℕ) (z : List ℕ) (r : RowsEnd) (k : ℕ) : Type 0 where
   pub seen-bytes : List ℕ
   pub seen : SafesSeen t s k (r .bag) (r .attribute) seen-bytes
@@ -85,7 +85,7 @@ pub record SafesPutting (t : Table) (s : List ℕ) (end : ℕ) (m : List ℕ) (p
   pub within : end ≤ safeRows
   pub long : length z ≡ length m
 
--- what a safe gave
+-- what writing a safe did
 safe-gave : (d : List ℕ) (at : ℕ) (p : SafePicked) (n m : ℕ) (z : List ℕ) (r : RowsEnd) → RowsPut d at (safePart (some p) n m) z r
     → (Put Short d at (safeBytes (p .safe)) z (r .at)) × (r .bag ≡ p .bag) × (r .attribute ≡ p .attribute)
 unfolding safePart

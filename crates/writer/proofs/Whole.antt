@@ -1,4 +1,4 @@
--- The four outcomes of writing, by what measuring the table gave.
+-- The four outcomes of writing, by what measuring the table returned.
 use mathlib.Core.Path.{_≡_, refl, sym, ap, _∙_}
 use mathlib.Core.Bool.{Bool, true, false}
 use mathlib.Core.List.{List}
@@ -34,7 +34,7 @@ use Rattle.writer.proofs.Puts.{whole-put}
 some-same : {A : Type 0} (x y : A) → some x ≡ some y → x ≡ y
 some-same x y e = cc
 
--- a reading that stands behind tests is that reading
+-- if a choice by tests returns a reading, it is the one behind them
 behind : (a b c : Bool) (x y : Pfx) → (if a then (if b then (if c then some x else option.none) else option.none) else option.none) ≡ some y → x ≡ y
 behind true true true x y e = some-same x y e
 behind true true false x y e = cc
@@ -64,7 +64,7 @@ file-at t s f a e = go (keepsRules t s) refl e
         ap encode (sym (reading-is t s (fits t s a k) (w .0) (w .1))) ∙ w .2
     go false k h = cc
 
--- what measuring tells of the file
+-- what measuring shows of the file
 abbrev Tells : Measured → Option (List ℕ) → Type 0
 Tells Unsound option.none = Unit {0}
 Tells Unsound (some f) = ⊥

@@ -58,6 +58,6 @@ isEmptySafe SafeKind.None = true
 isEmptySafe Plain = false
 isEmptySafe Encrypted = false
 
--- the reading that the rows show if they stand in order
+-- the reading that the rows show if they are in order
 unfoldable pub readingAt : Table → List ℕ → Pfx
 readingAt t s = record { safes = safesPicked t s 0 0 0 .safes; mac = macShown s (t .mac) }

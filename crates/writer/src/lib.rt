@@ -1,4 +1,4 @@
-// Writes the file of a table into a lent buffer.
+// Writes the file of a table into a caller's buffer.
 ghost use mathlib.Core.Path.{_≡_};
 ghost use Rattle.der.specs.Element.{fault};
 ghost use Rattle.der.specs.Span.{Bytes};
@@ -22,8 +22,8 @@ fn refused(number: u8) -> Written
 }
 
 // Writes the file that the table makes of the bytes its ranges point into. Nothing is written
-// before it is known that the table is sound, that the file isn't too long and that the buffer has
-// room for it.
+// before it is known that the table is sound, that the file isn't too long and that the buffer is
+// long enough for it.
 pub fn write(table: Table, bytes: &[u8], out: &mut [u8]) -> Written
     ensures { λ r. ⌜ r ≡ writeFile table (now (bytes .entry)) (now (out .entry)) .answer ⌝ }
     ensures { λ r. ⌜ writtenReport r ≡ writtenReport (writeFile table (now (bytes .entry)) (now (out .entry)) .answer) ⌝ }

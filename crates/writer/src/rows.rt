@@ -22,20 +22,20 @@ use pkcs12::SafeRow;
 use pkcs12::Table;
 use sizes::rows::Form;
 
-// The place behind what was written, and the next attribute row.
+// The offset behind what was written, and the next attribute row.
 pub(crate) struct SetEnd {
     pub(crate) at: usize,
     pub(crate) next: usize,
 }
 
-// The place behind what was written, and the next bag and attribute rows.
+// The offset behind what was written, and the next bag and attribute rows.
 pub(crate) struct RowsEnd {
     pub(crate) at: usize,
     pub(crate) bag: usize,
     pub(crate) attribute: usize,
 }
 
-// The set of a bag, if one stands there, by the size of its attributes.
+// The set of a bag, if it has one, by the size of its attributes.
 fn set(
     out: &mut [u8],
     at: usize,

@@ -1,4 +1,4 @@
--- The calls are made one by one; where every further call gives the same, the rest are left out.
+-- The calls are made one by one; where every further call returns the same, the rest are left out.
 use mathlib.Core.Path.{_∙_}
 use Rattle.der.proofs.Promised.{promised}
 use Rattle.attributes.specs.Report.{itemReport}

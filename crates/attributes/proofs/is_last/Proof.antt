@@ -1,4 +1,4 @@
--- By what was given.
+-- By the item.
 use mathlib.Core.Path.{sym, ap}
 use Rattle.attributes.specs.Reader.{isLast}
 use borrow.Author.Needs.{needs}

@@ -1,6 +1,6 @@
 -- `open`, walked by hand: `opening` answers with a position, and the file and that position make
--- the reader. The file is lent three times: to the call, at the exit, and in the result. The table
--- and the row number own nothing but facts. No axiom.
+-- the reader. The file is needed three times: for the call, at the exit, and in the result. The
+-- table and the row number own nothing but facts. No axiom.
 use mathlib.Core.Path.{_≡_, refl, ap}
 use Prim.Native.Nat.{ℕ, _<_, _^_}
 use mathlib.Core.List.{List, [], _∷_}
@@ -147,7 +147,7 @@ module _ {M : Type 1} (𝓤 : URA M) (H : Heap 𝓤) (A : Atoms 𝓤) (W : Given
           pass1 ! (init ! 4 refl (shr-slice-lawful 𝓤 H A W (named 0) κ u8 .typed f (v ∷ []) f-is .0)) $
           pass1 ! (init ! 2 refl (tt, record { fits = fits })) $ pass0 ! $
           move ! (10 ∷ []) $ use1 W (raw (Opened 𝓤 H A mem run .pre to) ⊛ ‵ (Lent κ f)) apart $ split ! $
-          -- [the demand; the file; room for _4; …; _3; …; _2; …; _1; …; room for _0; …]
+          -- [the precondition; the file; space for _4; …; _3; …; _2; …; _1; …; space for _0; …]
           calls-at ! fm (Opened 𝓤 H A mem run) known to
           (and-then ! (load ! (from ! (stop !)) (look ! 8 refl))
           (and-then ! (load ! (from ! (stop !)) (look ! 6 refl))
@@ -156,8 +156,8 @@ module _ {M : Type 1} (𝓤 : URA M) (H : Heap 𝓤) (A : Atoms 𝓤) (W : Given
           ⊛ raw (ensured 𝓤 H A opening.ended (opening.clauses 𝓤 H A mem run) (κ, tt) args tt p)))) (id⊢ 𝓤 _) $
           await ! tt $ pick ! (λ p.
           split ! $ move ! (1 ∷ []) $ use1 W (raw (fact 𝓤 (Said p))) (said p) $ heard ! (Said p) (λ e. split ! $ move ! (1 ∷ []) $
-          -- [the position; the token; the file; room for _4; …; _3; …; _2; …; _1; …; room for _0;
-          -- …]
+          -- [the position; the token; the file; space for _4; …; _3; …; _2; …; _1; …; space for
+          -- _0; …]
           peeks ! P.the-row (Is P.the-row) (shows 𝓤 H A P.the-row) p (u ∷ []) (λ is.
           land ! (from ! (stop !)) (init ! 3 refl (LL.lawful P.the-type P′.the-laws 𝓤 H A W .typed p (u ∷ []) is .0)) $
           assigns ! (agg ! (and-then ! (load ! (from ! (stop !)) (look ! 7 refl))

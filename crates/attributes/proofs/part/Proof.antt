@@ -95,7 +95,7 @@ module _ {M : Type 1} (𝓤 : URA M) (H : Heap 𝓤) (A : Atoms 𝓤) (W : Given
         ∷ ‵ (owns (R.the-row ∷ ShrSlice (named 0) κ u8 ∷ []) (range, (d .file, tt)) passed) ∷ []) ∵
         join ! $ frame ! $ done !
 
-    -- the call's demand, met out of the reader, which stays whole
+    -- the call's precondition, met out of the reader, which stays whole
     apart : ent 𝓤 (onEntry 𝓤 H A part.signature (κ, tt) (q, tt) (d, (range, tt)) at)
         (sep 𝓤 (Named 𝓤 H A mem run .pre to) (sem 𝓤 H A (Own κ d)))
     apart =
@@ -138,7 +138,7 @@ module _ {M : Type 1} (𝓤 : URA M) (H : Heap 𝓤) (A : Atoms 𝓤) (W : Given
           (from ! (stop !))
           (init ! 0 refl (shr-slice-lawful 𝓤 H A W erased κ u8 .typed (d .file) (v ∷ []) (file-is κ d p) .0)) $
           move ! (8 ∷ []) $ use1 W (raw (Named 𝓤 H A mem run .pre to) ⊛ ‵ (Own κ d)) apart $ split ! $
-          -- [the demand; the reader; _3; …; _2; …; _1; …; room for _0; …]
+          -- [the precondition; the reader; _3; …; _2; …; _1; …; space for _0; …]
           calls-at ! fm (Named 𝓤 H A mem run) known to (and-then ! (load ! (from ! (stop !)) (look ! 4 refl))
           (and-then ! (load ! (from ! (stop !)) (look ! 2 refl)) (no-more !))) (λ u.
           use1 W (later (some (λ (x : RefT (List ℕ)).
@@ -147,7 +147,7 @@ module _ {M : Type 1} (𝓤 : URA M) (H : Heap 𝓤) (A : Atoms 𝓤) (W : Given
           (range, (d .file, tt)) tt x)))) (id⊢ 𝓤 _) $ await ! tt $ pick ! (λ x.
           split ! $ move ! (1 ∷ []) $ use1 W (raw (fact 𝓤 (Said x))) (said x) $ heard ! (Said x) (λ e.
           split ! $ move ! (1 ∷ []) $
-          -- [the part; the token; the reader; _3; …; _2; …; _1; …; room for _0; …]
+          -- [the part; the token; the reader; _3; …; _2; …; _1; …; space for _0; …]
           peeks ! (ShrSlice (named 0) κ u8) (Is (ShrSlice (named 0) κ u8))
           (shows 𝓤 H A (ShrSlice (named 0) κ u8)) x (u ∷ []) (λ is.
           land ! (from ! (stop !)) (init ! 9 refl (shr-slice-lawful 𝓤 H A W (named 0) κ u8 .typed x (u ∷ []) is .0)) $

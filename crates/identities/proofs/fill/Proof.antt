@@ -1,9 +1,9 @@
 -- `identities::fill` meets its contract: a walk of its MIR, by hand. `prepared` says how many rows
--- are stored, and each turn stores the row that `row_at` gives; of both the proof knows only their
--- contracts. The borrow of the caller's rows is opened once, before the loop, and closed once,
--- after it. The invariant: the first i of the caller's rows are those of the filling (`storedTo`).
--- What a plain struct owns is made where it is asked. The bytes are lent to `prepared`, and what
--- they own is kept for the exit.
+-- are stored, and each turn stores the row that `row_at` returns; of both the proof knows only
+-- their contracts. The borrow of the caller's rows is opened once, before the loop, and closed
+-- once, after it. The invariant: the first i of the caller's rows are those of the filling
+-- (`storedTo`). What a plain struct owns is made where it is required. The bytes are passed to
+-- `prepared`, and what they own is kept for the exit.
 use mathlib.Core.Path.{_≡_, refl, sym, ap, subst}
 use mathlib.Core.Bool.{not}
 use Prim.Native.Nat.{ℕ, _+_, _-_, _*_, _≤_, _<_, _^_, zero-le}
@@ -249,7 +249,7 @@ module _ {M : Type 1} (𝓤 : URA M) (H : Heap 𝓤) (A : Atoms 𝓤) (W : Given
       nothing ! $ move ! (3 ∷ 0 ∷ []) $ join ! $
       use2 W (raw (Prepared 𝓤 H A mem run .pre to-prepared)) asked $ frame ! $ done !
 
-  -- ---- the loop, over what `prepared` gave
+  -- ---- the loop, over what `prepared` returned
   module _ (found : Filling) (is-found : Is F.the-row found (low found ∷ [])) where
     -- how many rows are stored, and the caller's rows once i are
     abbrev m : ℕ
@@ -358,7 +358,7 @@ module _ {M : Type 1} (𝓤 : URA M) (H : Heap 𝓤) (A : Atoms 𝓤) (W : Given
           is-answer : Is Wr.the-row (found .answer) (lowAnswer (found .answer) ∷ [])
           is-answer = LL.owed F.the-type F′.the-laws found (low found ∷ []) is-found .0
 
-      -- `row_at` gives row i, it is stored in its place, and i goes up
+      -- `row_at` returns row i, it is stored at index i, and i goes up
       goes-on : (x : Now) → T (ltb (x .pos) m) → Sq W (Tested x) (runs C Λ En stores (anyQ (Turned x)))
       unfolding afterTurn
       goes-on x less =
@@ -430,7 +430,7 @@ module _ {M : Type 1} (𝓤 : URA M) (H : Heap 𝓤) (A : Atoms 𝓤) (W : Given
       looped : Sq W (At start) (runs C Λ En body.t-5 (atRet En Post))
       looped = first ! $ blocks ! $ loops ! 𝓣 Nearer Nearer-wf At turns start
 
-      -- what `prepared` gave is stored: the count is read, and the borrow is opened
+      -- what `prepared` returned is stored: the count is read, and the borrow is opened
       abbrev Got : List (Item 𝓤)
       Got = ‵ (froom tyPtr l₁₁ 0) ∷ ‵ (fdies tyPtr l₁₁) ∷ ‵ (froom word l₁₀ 0) ∷ ‵ (fdies word l₁₀)
           ∷ ‵ (froom I′.mir l₉ 0) ∷ ‵ (fdies I′.mir l₉)
@@ -463,7 +463,7 @@ module _ {M : Type 1} (𝓤 : URA M) (H : Heap 𝓤) (A : Atoms 𝓤) (W : Given
     Ev = (Wr′.mir, l₀) ∷ (Tb′.mir, l₁) ∷ (bytesTy, l₂) ∷ (outTy, l₃) ∷ (F′.mir, l₄) ∷ (word, l₅) ∷ (word, l₆)
         ∷ (word, l₇) ∷ (tyBool, l₈) ∷ (I′.mir, l₉) ∷ (word, l₁₀) ∷ (tyPtr, l₁₁) ∷ []
 
-    -- what `prepared` gives
+    -- what `prepared` returns
     abbrev found₀ : Filling
     found₀ = fillingOf table (now ys) n
 
@@ -480,7 +480,7 @@ module _ {M : Type 1} (𝓤 : URA M) (H : Heap 𝓤) (A : Atoms 𝓤) (W : Given
         ∷ (‵ (flft κ q) ⊛ ‵ (flft κ′ q′) ⊛ ‵ ftrue)
         ∷ ‵ (owns (Tb.the-row ∷ ShrSlice (named 0) κ u8 ∷ MutSlice (named 1) κ′ I.the-row ∷ []) args at) ∷ []
 
-    -- the room is read, and `prepared` is called on it
+    -- the number of the caller's rows is read, and `prepared` is called with it
     begins : Sq W Stored (runs (𝓣 .C) (𝓣 .Λ) Ev body.t-1 (atRet Ev Post))
     begins =
         assigns ! (of-opd ! (load ! (from ! (fld ! refl (stop !))) (look-in ! 16 (sub ! 1 refl (whole !)))))

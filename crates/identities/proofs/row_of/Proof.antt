@@ -1,4 +1,4 @@
--- The kind and the id that the callees gave.
+-- The kind and the id that the callees returned.
 use Rattle.identities.specs.Identities.{identityOf}
 use borrow.Author.Needs.{needs}
 use Rattle.identities.proofs.row_of.Statement.{statement}

@@ -1,4 +1,4 @@
--- The place behind the listing is its length.
+-- The offset behind the listing is its length.
 use Rattle.listing.specs.Lines.{listing}
 use Rattle.listing.proofs.Short.{counted}
 use Rattle.buffer.proofs.Placing.{placed-end}

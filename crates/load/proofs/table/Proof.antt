@@ -1,4 +1,4 @@
--- Each part at its place.
+-- Each part at its offset.
 use Rattle.load.proofs.Loading.{table-read}
 use native.Mathlib.Omega.{arith}
 use borrow.Author.Needs.{needs}

@@ -1,4 +1,4 @@
--- Words that are too few; else by what the call gave: a row is stored, or nothing is.
+-- Words that are too few; else by what the call returned: a row is stored, or nothing is.
 use Rattle.der.proofs.Promised.{all-bytes}
 use Rattle.p12.proofs.Gives.{two-and, attribute-short, attribute-stored, attribute-ready, attribute-done}
 use Rattle.p12.proofs.Gives.{attribute-refused}

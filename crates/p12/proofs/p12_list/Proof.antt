@@ -1,4 +1,4 @@
--- What listing wrote, of what reading gave.
+-- What listing wrote, of what reading returned.
 use Rattle.der.proofs.Promised.{all-bytes}
 use Rattle.p12.proofs.Gives.{three-and, list-wrote}
 use borrow.Author.Needs.{needs}

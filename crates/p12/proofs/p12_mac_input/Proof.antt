@@ -1,4 +1,4 @@
--- The range in the table that reading gave.
+-- The range in the table that reading returned.
 use Rattle.der.proofs.Promised.{all-bytes}
 use Rattle.p12.proofs.Gives.{three-and, input-gives}
 use borrow.Author.Needs.{needs}

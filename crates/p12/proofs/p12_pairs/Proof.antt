@@ -1,4 +1,4 @@
--- What pairing wrote, of what reading gave.
+-- What pairing wrote, of what reading returned.
 use Rattle.der.proofs.Promised.{all-bytes}
 use Rattle.p12.proofs.Gives.{three-and, pairs-wrote}
 use borrow.Author.Needs.{needs}

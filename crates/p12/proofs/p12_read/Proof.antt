@@ -1,4 +1,4 @@
--- Memory that is too short; else what reading gave, with its table stored.
+-- Memory that is too short; else what reading returned, with its table stored.
 use Rattle.der.proofs.Promised.{all-bytes}
 use Rattle.p12.proofs.Gives.{three-and, read-short, read-stored}
 use borrow.Author.Needs.{needs}

@@ -161,7 +161,7 @@ module _ {M : Type 1} (𝓤 : URA M) (H : Heap 𝓤) (A : Atoms 𝓤) (W : Given
       at-once ! $ check ! h $ keep ! (1 ∷ 4 ∷ 5 ∷ 3 ∷ 0 ∷ []) $ join ! $
       move ! (1 ∷ 0 ∷ []) $ join ! $ frame ! $ fjoin ! $ done !)
 
-  -- what each callee's triple binds outside, and that the caller has what it asks
+  -- what each callee's triple binds outside, and that the caller has what it requires
   abbrev to-begin : Begin 𝓤 H A mem run .Ghost
   to-begin = ((tt, tt, tt, (k, tt), (vint w64 k ∷ [], tt)), tt)
 
@@ -221,7 +221,8 @@ module _ {M : Type 1} (𝓤 : URA M) (H : Heap 𝓤) (A : Atoms 𝓤) (W : Given
         pass1 ! (init ! 8 refl (tt, record { fits = k-fits })) $ pass0 ! $
         move ! (16 ∷ []) $ use1 W (later (given (Bytes (now bytes)) (Toks ⊛ ‵ Slices))) opened $ await ! tt $
         learn ! (λ h. split ! $
-        -- [the tokens; the slices; _7; …; _6; …; _5; …; _4; …; _3; …; _2; …; _1; …; room for _0; …]
+        -- [the tokens; the slices; _7; …; _6; …; _5; …; _4; …; _3; …; _2; …; _1; …; space for _0;
+        -- …]
         use0 W (raw (Begin 𝓤 H A mem run .pre to-begin)) goes-begin $
         calls-at ! fm (Begin 𝓤 H A mem run) known-begin to-begin
         (and-then ! (load ! (from ! (stop !)) (look ! 11 refl)) (no-more !)) (λ v₄.

@@ -1,6 +1,6 @@
 -- `pair_all` meets its contract: a walk of its MIR, by hand. All that is known of `pair` is that it
 -- meets its contract. The array is copied into a local, whose memory is taken apart into its rows
--- and lent as a slice for a lifetime that is made for the call. After the call the lifetime is
+-- and borrowed as a slice for a lifetime that is made for the call. After the call the lifetime is
 -- ended, the memory comes back and is freed. The array itself is plain data: nothing of it is kept
 -- to the exit.
 use mathlib.Core.Path.{_≡_, refl, sym, subst}
@@ -93,8 +93,8 @@ module _ {M : Type 1} (𝓤 : URA M) (H : Heap 𝓤) (A : Atoms 𝓤) (mem : Mem
   abbrev Pair : Contract 𝓤
   Pair = tripleOf 𝓤 H A pair.signature (pair.spec 𝓤 H A mem run)
 
--- the slice that is lent of the local array at block l, under the name γ, and the array's memory
--- taken apart into its rows
+-- the slice that is borrowed from the local array at block l, under the name γ, and the array's
+-- memory taken apart into its rows
 abbrev borrowed-as : List IdentityRow → ℕ → GName → RefT (List IdentityRow)
 borrowed-as rows l γ = record { ptr = (l, 0); name = γ; now = rows }
 
@@ -176,7 +176,7 @@ module _ {M : Type 1} (𝓤 : URA M) (H : Heap 𝓤) (A : Atoms 𝓤) (W : Given
       move ! (1 ∷ []) $ frame ! $ nothing ! $ nothing ! $ fjoin ! $ move ! (2 ∷ 0 ∷ []) $ fjoin ! $ nothing ! $
       fjoin ! $ frame ! $ done !
 
-  -- the call of `pair` on the local at block l, lent for α under the name γ
+  -- the call of `pair` on the local at block l, borrowed for α under the name γ
   module _ (l α : ℕ) (γ : GName) where
     abbrev OwnR : Fml
     OwnR = ShrSlice (named 0) (α ∷ []) I.the-row .own (borrowed-as rows l γ) (sliceVal (l, 0) (length rows) ∷ [])
@@ -228,14 +228,14 @@ module _ {M : Type 1} (𝓤 : URA M) (H : Heap 𝓤) (A : Atoms 𝓤) (W : Given
         pass1 ! (init ! 10 refl wt) $
         pass1 ! (init ! 8 refl (shr-slice-lawful 𝓤 H A W (named 0) κ u8 .typed bytes (vb ∷ []) is-bytes .0)) $
         pass1 ! (init ! 6 refl (tt, record { fits = k-fits })) $ pass0 ! $
-        -- [_6; …; _5; …; _4; …; _3; …; _2; …; _1; …; room for _0; …; what there is on entry]
+        -- [_6; …; _5; …; _4; …; _3; …; _2; …; _1; …; space for _0; …; what there is on entry]
         assigns ! (of-opd ! (load ! (from ! (stop !)) (look ! 10 refl))) (from ! (stop !)) (init ! 4 refl wt) $
         assigns ! (addr ! (from ! (stop !))) (from ! (stop !)) (init ! 2 refl (tt, tt)) $
         assigns ! (agg ! (and-then ! (load ! (from ! (stop !)) (look ! 2 refl)) (and-then ! (lit ! tt) (no-more !))))
         (from ! (stop !)) (init ! 0 refl (tt, (tt, (record { fits = lit< tt }, tt)))) $
         rewrite ! 0 (λ (n : ℕ). ‵ (fat fullShare (sliceTy (tyRef erased imm (pointee (I.the-row .written)))) l₆ 0
         (sliceVal (l₄, 0) n))) (sym long) refl $
-        -- the array's memory is lent for a new lifetime
+        -- the array's memory is borrowed for a new lifetime
         move ! (14 ∷ []) $ use1 W (‵ OwnA ⊛ (Tok ⊛ ‵ OwnB)) opened $ split ! $
         -- [what the array owns; the token and what bytes owns; _6; …; _5; …; _4; …]
         move ! (6 ∷ 0 ∷ []) $ use2 W (‵ (Apart rows l₄)) (apart 𝓤 H A W rows long l₄ va) $
@@ -244,7 +244,7 @@ module _ {M : Type 1} (𝓤 : URA M) (H : Heap 𝓤) (A : Atoms 𝓤) (W : Given
         (lends-shr-slice 𝓤 H A W I.the-row (named 0) (α ∷ []) fullShare rows l₄ 0 (room rows long)) $ await ! tt $
         pick ! (λ γ. split ! $
         -- the call: [what the slice owns; the lender's part; the new token; the token and what
-        -- bytes owns; _6; …; _5; …; …; _3; …; _2; …; _1; …; room for _0; …]
+        -- bytes owns; _6; …; _5; …; …; _3; …; _2; …; _1; …; space for _0; …]
         move ! (0 ∷ 2 ∷ 3 ∷ []) $ use3 W (raw (Pair 𝓤 H A mem run .pre (to-pair l₄ α γ)) ⊛ ‵ OwnB) (goes-pair l₄ α γ) $ split ! $
         calls-at ! fm (Pair 𝓤 H A mem run) known (to-pair l₄ α γ)
         (and-then ! (load ! (from ! (stop !)) (look ! 3 refl))

@@ -1,4 +1,4 @@
--- Each way out is the definition's, by what the callees told.
+-- Each way out is the definition's, by what the callees returned.
 use Rattle.pairing.specs.Pairs.{pairsWith}
 use Rattle.pairing.proofs.Rules.{pairs}
 use borrow.Author.Needs.{needs}

@@ -2,7 +2,8 @@
 -- slice and calls `visit` on it, of which the proof knows only its contract. The invariant: all
 -- rows from the state that was passed come to what the rows from i on come to from the state in
 -- `_4`. What the slices own is kept for the exit, with the rows' fractured borrow beside it. Each
--- call gets a copy of what the bytes own, and what a plain struct owns is made where it is asked.
+-- call gets a copy of what the bytes own, and what a plain struct owns is made where it is
+-- required.
 use mathlib.Core.Path.{_≡_, refl, sym, _∙_}
 use mathlib.Core.Bool.{not}
 use Prim.Native.Nat.{ℕ, _+_, _-_, _*_, _≤_, _<_, _^_, zero-le}
@@ -225,7 +226,7 @@ module _ {M : Type 1} (𝓤 : URA M) (H : Heap 𝓤) (A : Atoms 𝓤) (W : Given
   Nearer-wf : WellFounded Nearer
   Nearer-wf = InvImage·wf (λ (x : Now). n - x .pos) (Nat·lt-wfRel .wf)
 
-  -- one row on, with what `visit` gave
+  -- one row on, with what `visit` returned
   abbrev next : (x : Now) → x .pos < n → (r : Search) (u : Val)
       → r ≡ visited (now ys) (x .pos) (getD rs (x .pos) noIdentity) (x .cur) → Is S.the-row r (u ∷ []) → Now
   next x l r u e is = record {

@@ -1,4 +1,4 @@
--- Each way out is the definition's, by what the callee told.
+-- Each way out is the definition's, by what the callee returned.
 use Rattle.pairing.proofs.Rules.{pairs}
 use borrow.Author.Needs.{needs}
 use Rattle.pairing.proofs.still_sound.Statement.{statement}

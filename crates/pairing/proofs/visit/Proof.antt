@@ -1,4 +1,4 @@
--- What each callee told is one field (visit-is).
+-- What each callee returned is one field (visit-is).
 use Rattle.pairing.proofs.Rules.{visit-is}
 use borrow.Author.Needs.{needs}
 use Rattle.pairing.proofs.visit.Statement.{statement}

@@ -1,4 +1,4 @@
--- Each way out is the definition's (Whole), by what the callees gave.
+-- Each way out is the definition's (Whole), by what the callees returned.
 use borrow.Author.Needs.{needs}
 use Rattle.der.proofs.Promised.{promised, all-bytes}
 use Rattle.pkcs12.specs.Report.{answerReport}

@@ -1,4 +1,4 @@
--- The out keeps its length; less of it is left each time.
+-- The buffer keeps its length; less of it is left each time.
 use mathlib.Core.Path.{_≡_}
 use Prim.Native.Nat.{_-_}
 use lib.ListN.{length}

@@ -1,4 +1,4 @@
--- Less of the out is left each time.
+-- Less of the buffer is left each time.
 use Prim.Native.Nat.{_-_}
 use lib.ListN.{length}
 use borrow.Author.Needs.{needs}

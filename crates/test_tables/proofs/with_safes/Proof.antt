@@ -1,4 +1,4 @@
--- Fewer rows are left each time, and the places stay small.
+-- Fewer rows are left each time, and the offsets stay small.
 use Prim.Native.Nat.{_-_, _≤_}
 use native.Mathlib.Omega.{arith}
 use borrow.Author.Needs.{needs}

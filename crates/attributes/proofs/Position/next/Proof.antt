@@ -1,4 +1,4 @@
--- By what the last call gave.
+-- By what the last call returned.
 use Rattle.der.proofs.Promised.{reported}
 use Rattle.attributes.specs.Report.{itemReport}
 use Rattle.attributes.specs.Reader.{nextOf}

@@ -1,4 +1,4 @@
--- The high digits first, in one place less; then the last one.
+-- The high digits first, bounded by one digit less; then the last one.
 use Prim.Native.Nat.{ℕ, _<_}
 use Rattle.buffer.proofs.Writes.{digits-none, digits-last, digits-more}
 use borrow.Author.Needs.{needs}
@@ -20,7 +20,7 @@ digits-at t = and 1 digits-kinds.ps (is 1 digits-kinds.ps μ-digits t) digits.Pr
 abbrev digits-below : ℕ → In 1 digits-kinds.ps
 digits-below t = and 1 digits-kinds.ps (falls 1 digits-kinds.ps _<_ μ-digits t) digits.Pre
 
--- what a call asks and gives
+-- what a call requires and ensures
 abbrev uses : ℕ → digits-lts.Claims
 uses t = (byte-reads.Asked, byte-reads.Learnt, digits-below t, digits.Post)
 

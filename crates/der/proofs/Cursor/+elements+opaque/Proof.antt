@@ -48,7 +48,7 @@ elements-Inv-loop s level end at₀ count₀ at count =
 abbrev elements-μ-loop : elements-lts.MeasureT-loop
 elements-μ-loop s level end at₀ count₀ at count = end - at
 
--- what a call within `elements`, and one within `opaque`, asks and gives
+-- what a call within `elements`, and one within `opaque`, requires and ensures
 abbrev in-elements : ℕ → elements-lts.Claims
 in-elements t = (opaque-below t, opaque.Post)
 

@@ -1,4 +1,4 @@
--- What is left over is told as the definition tests for it.
+-- What is left over is refused as the definition tests for it.
 use Rattle.der.proofs.Choices.{choices}
 use Rattle.der.proofs.Promised.{reported}
 use Rattle.der.specs.Report.{checkedReport}

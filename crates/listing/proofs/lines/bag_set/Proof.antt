@@ -1,4 +1,4 @@
--- By whether a set stands there.
+-- By whether the bag has a set.
 use Rattle.buffer.specs.Text.{ascii}
 use Rattle.listing.specs.Lines.{setText}
 use borrow.Author.Needs.{needs}

@@ -1,4 +1,4 @@
--- Its parts, each at its place.
+-- Its parts, each at its offset.
 use Rattle.load.specs.Loaded.{safeLoaded}
 use borrow.Author.Needs.{needs}
 use Rattle.load.proofs.get.safe.Statement.{statement}

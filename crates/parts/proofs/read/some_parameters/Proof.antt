@@ -1,5 +1,5 @@
--- Each way out is the definition's, by the tests and answers on the way; places have room in a
--- range, and a count has room for more.
+-- Each way out is the definition's, by the tests and answers on the way; offsets fit a range, and
+-- no sum overflows.
 use borrow.Author.Needs.{needs}
 use Rattle.der.proofs.Choices.{choices}
 use Rattle.parts.specs.Steps.{someParametersAt}

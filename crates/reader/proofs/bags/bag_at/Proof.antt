@@ -1,5 +1,5 @@
--- Each way out is the definition's, by the tests and answers on the way; places have room in a
--- range.
+-- Each way out is the definition's, by the tests and answers on the way; the identifier's body
+-- lies in the bytes.
 use borrow.Author.Needs.{needs}
 use Rattle.der.proofs.Choices.{choices, told-true, told-false}
 use Rattle.reader.specs.Steps.{bagHeadAt}

@@ -1,4 +1,4 @@
--- Each way out is the definition's, by the tests and answers on the way; a count has room for more.
+-- Each way out is the definition's, by the tests and answers on the way; no sum overflows.
 use borrow.Author.Needs.{needs}
 use Rattle.der.proofs.Choices.{choices}
 use Rattle.reader.specs.Steps.{leafOf}

@@ -53,7 +53,7 @@ safe-contents-below t =
     (falls 1 safe-contents-kinds.ps _<_ μ-safe-contents t)
     safe-contents.Pre
 
--- what a call within `bag`, and one within `safe_contents`, asks and gives
+-- what a call within `bag`, and one within `safe_contents`, requires and ensures
 abbrev in-bag : ℕ → bag-lts.Claims
 in-bag t = (
   bag-at-reads.Asked,

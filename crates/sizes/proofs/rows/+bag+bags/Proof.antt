@@ -43,7 +43,7 @@ bags-at t = and 1 bags-kinds.ps (is 1 bags-kinds.ps μ-bags t) bags.Pre
 abbrev bags-below : ℕ → In 1 bags-kinds.ps
 bags-below t = and 1 bags-kinds.ps (falls 1 bags-kinds.ps _<_ μ-bags t) bags.Pre
 
--- what a call within each asks and gives
+-- what a call within each requires and ensures
 abbrev in-bag : ℕ → bag-lts.Claims
 in-bag t = (
   form-of-reads.Asked,

@@ -1,4 +1,4 @@
--- Each way out is the definition's, by the row's kind and what the callee told.
+-- Each way out is the definition's, by the row's kind and what the callee returned.
 use borrow.Author.Needs.{needs}
 use Rattle.pkcs12.specs.Checks.{bagTest}
 use Rattle.sound.proofs.Rules.{by-kind}

@@ -1,5 +1,5 @@
--- Each way out is the definition's, by the tests and answers on the way; the part that is lent is
--- the bytes of the range.
+-- Each way out is the definition's, by the tests and answers on the way; the part that is borrowed
+-- is the bytes of the range.
 use borrow.Author.Needs.{needs}
 use Rattle.pkcs12.specs.Checks.{namesType}
 use Rattle.der.proofs.Choices.{denied, granted}

@@ -1,6 +1,6 @@
--- `fill_rows`, walked by hand: the array is copied into a local, whose memory is lent as a `&mut`
--- slice for a lifetime that is made for the call. After the call the lifetime is ended, and the
--- memory is back with the rows that the call left, whatever they are. No axiom.
+-- `fill_rows`, walked by hand: the array is copied into a local, whose memory is borrowed as a
+-- `&mut` slice for a lifetime that is made for the call. After the call the lifetime is ended, and
+-- the memory is back with the rows that the call left, whatever they are. No axiom.
 use mathlib.Core.Path.{_≡_, refl, sym, _∙_, subst}
 use Prim.Native.Nat.{ℕ}
 use mathlib.Core.List.{List, [], _∷_, map}
@@ -185,7 +185,7 @@ module _ {M : Type 1} (𝓤 : URA M) (H : Heap 𝓤) (A : Atoms 𝓤) (W : Given
       qed W (raw Tok ∷ ‵ (owns (Tb.the-row ∷ ShrSlice (named 0) κ u8 ∷ Rows ∷ []) args at) ∷ []) ∵
       move ! (1 ∷ []) $ fsplit ! $ drop ! $ fsplit ! $ move ! (1 ∷ []) $ fsplit ! $ keep ! (0 ∷ 2 ∷ 3 ∷ []) $ done !
 
-  -- the call, on the local at block l, lent for α under the name γ
+  -- the call, on the local at block l, borrowed for α under the name γ
   module _ (l α : ℕ) (γ : GName) where
     abbrev lent : RefT (List IdentityRow)
     lent = record { ptr = (l, 0); name = γ; now = rows }
@@ -244,7 +244,7 @@ module _ {M : Type 1} (𝓤 : URA M) (H : Heap 𝓤) (A : Atoms 𝓤) (W : Given
         assigns ! (agg ! (and-then ! (load ! (from ! (stop !)) (look ! 4 refl)) (and-then ! (lit ! tt) (no-more !))))
         (from ! (stop !)) (init ! 2 refl (tt, (tt, (record { fits = lit< tt }, tt)))) $
         rewrite ! 2 (λ (n : ℕ). ‵ (fat fullShare slice-ty l₇ 0 (sliceVal (l₄, 0) n))) (sym long) refl $
-        -- the array's memory is lent for a new lifetime
+        -- the array's memory is borrowed for a new lifetime
         move ! (18 ∷ []) $ use1 W (‵ (Owned rows) ⊛ (‵ (Lent κ f) ⊛ raw Tok)) enters $ split ! $
         move ! (10 ∷ 0 ∷ []) $ use2 W (‵ (cells (cell I.the-row) rows l₄ 0)) (apart 𝓤 H A W rows l₄) $
         lft-new ! tt (λ α. move ! (1 ∷ []) $

@@ -1,4 +1,4 @@
--- `part_of`, walked by hand: a reader is opened, it gives a part of its file, and that part is
+-- `part_of`, walked by hand: a reader is opened, it returns a part of its file, and that part is
 -- summed up. No axiom.
 use mathlib.Core.Path.{refl}
 use Prim.Native.Nat.{ℕ, _<_, _^_}
@@ -61,7 +61,7 @@ use Rattle.test_files.proofs.runs.part_of as part-of
 use Rattle.test_files.proofs.runs.part_of.Statement as stated
 use Rattle.test_files.proofs.runs.part_of.Code as body
 
--- that the machine values of a row number and a range are told by their types
+-- that the types of a row number and of a range say what their machine values are
 abbrev two : List RattleType
 two = usize ∷ R.the-row ∷ []
 

@@ -142,8 +142,8 @@ module _ {M : Type 1} (𝓤 : URA M) (H : Heap 𝓤) (A : Atoms 𝓤) (W : Given
         (and-then ! (load ! (from ! (stop !)) (look ! 29 refl)) (and-then ! (load ! (from ! (stop !)) (look ! 27 refl))
         (and-then ! (load ! (from ! (stop !)) (look ! 25 refl)) (no-more !)))) (λ u₀ d₀ is₀.
         land ! (from ! (stop !)) (init ! 12 refl (reader-typed κ 𝓤 H A W d₀ u₀ is₀)) $
-        -- the first call, from _10 to _4; what it gave, by _11 to _5: [the reader; the token; _15;
-        -- …; _0; …]
+        -- the first call, from _10 to _4; what it returned, by _11 to _5: [the reader; the token;
+        -- _15; …; _0; …]
         use2 W (raw (Next 𝓤 H A mem run .pre (next-of d₀ u₀))) (moves 𝓤 H A W mem run κ q d₀ u₀) $
         asks ! fm next-fn.ended (next-fn.clauses 𝓤 H A mem run) known-next (next-of d₀ u₀)
         (and-then ! (load ! (from ! (stop !)) (look ! 11 refl)) (no-more !)) (λ u₁ d₁ is₁.
@@ -155,8 +155,8 @@ module _ {M : Type 1} (𝓤 : URA M) (H : Heap 𝓤) (A : Atoms 𝓤) (W : Given
         asks ! fm given-fn.ended (given-fn.clauses 𝓤 H A mem run) known-given (item-of d₁ u₁)
         (and-then ! (load ! (from ! (stop !)) (look ! 10 refl)) (no-more !)) (λ w₁ x₁ of₁.
         land ! (from ! (stop !)) (init ! 23 refl (item-typed x₁ w₁ of₁)) $ drop ! $
-        -- the second call, by _12 to _6; what it gave, by _13 to _7: [the token; the reader; _15;
-        -- …; _0; …]
+        -- the second call, by _12 to _6; what it returned, by _13 to _7: [the token; the reader;
+        -- _15; …; _0; …]
         assigns ! (of-opd ! (load ! (from ! (stop !)) (look ! 24 refl))) (from ! (stop !))
         (init ! 8 refl (reader-typed κ 𝓤 H A W d₁ u₁ is₁)) $ move ! (1 ∷ 0 ∷ []) $
         use2 W (raw (Next 𝓤 H A mem run .pre (next-of d₁ u₁))) (moves 𝓤 H A W mem run κ q d₁ u₁) $
@@ -170,7 +170,7 @@ module _ {M : Type 1} (𝓤 : URA M) (H : Heap 𝓤) (A : Atoms 𝓤) (W : Given
         asks ! fm given-fn.ended (given-fn.clauses 𝓤 H A mem run) known-given (item-of d₂ u₂)
         (and-then ! (load ! (from ! (stop !)) (look ! 6 refl)) (no-more !)) (λ w₂ x₂ of₂.
         land ! (from ! (stop !)) (init ! 19 refl (item-typed x₂ w₂ of₂)) $ drop ! $
-        -- the third call, by _14 to _8; what it gave, by _15 to _9
+        -- the third call, by _14 to _8; what it returned, by _15 to _9
         assigns ! (of-opd ! (load ! (from ! (stop !)) (look ! 20 refl))) (from ! (stop !))
         (init ! 4 refl (reader-typed κ 𝓤 H A W d₂ u₂ is₂)) $ move ! (1 ∷ 0 ∷ []) $
         use2 W (raw (Next 𝓤 H A mem run .pre (next-of d₂ u₂))) (moves 𝓤 H A W mem run κ q d₂ u₂) $

@@ -47,7 +47,7 @@ bags-at t = and 2 bags-kinds.ps (is 2 bags-kinds.ps μ-bags t) bags.Pre
 abbrev bags-below : ℕ → In 2 bags-kinds.ps
 bags-below t = and 2 bags-kinds.ps (falls 2 bags-kinds.ps _<_ μ-bags t) bags.Pre
 
--- what a call within each asks and gives
+-- what a call within each requires and ensures
 abbrev in-bag : ℕ → bag-lts.Claims
 in-bag t = (
   form-of-reads.Asked,

@@ -1,4 +1,4 @@
--- Each way out is the definition's, by what `same` told of each identifier.
+-- Each way out is the definition's, by what `same` returned for each identifier.
 use borrow.Author.Needs.{needs}
 use Rattle.der.proofs.Choices.{choices, told-true, told-false}
 use Rattle.der.proofs.Promised.{reported}
