@@ -157,7 +157,7 @@ pub(crate) fn safe(s: &[u8], full: bool, c: Cursor) -> Contents
                     offset: at,
                 });
             }
-            match body.identifier(s) {
+            match content::identifier(s, body) {
                 Element::Refused(f) => Contents::Refused(f),
                 Element::Found {
                     tag: _,
