@@ -162,7 +162,8 @@ module _ (l : ℕ) (s : List ℕ) (end : ℕ) (whole : Checked) (m at : ℕ) whe
         };
       }
 
--- the numbers of a turn: the position moves on, and the count stays half of what was passed
+-- the numbers of a turn: the position moves on, and the count stays at most half of what was
+-- passed
 module _ (l : ℕ) (s : List ℕ) (end at : ℕ) (w : Checked) (i : ℕ) (n : Cursor) (p : w ≡ opaqueAt l s (cursor at end))
     (q : w ≡ Passed i n) where
   pub step-falls : at < end → end - n .at < end - at

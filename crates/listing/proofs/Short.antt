@@ -4,7 +4,7 @@ use mathlib.Core.List.{List, []}
 use Prim.Native.Nat.{ℕ, _+_, _*_, _≤_}
 use native.Mathlib.Omega.{arith}
 use lib.ListN.{length, getD}
-use Rattle.pkcs12.specs.Table.{noSafe, noBag, noAttribute, safeCount, bagCount, attributeCount}
+use Rattle.pkcs12.specs.Table.{noSafe, noBag, noAttribute, safesCounted, bagsCounted, attributesCounted}
 use Rattle.pkcs12.specs.declared.answers.Answer.{Answer}
 use Rattle.pkcs12.specs.declared.answers.Answer.the-variants.{Accepted, Refused}
 use Rattle.pkcs12.specs.declared.row.AttributeRow.{AttributeRow}
@@ -131,10 +131,10 @@ accepted : (size : ℕ) (t : Table) → Short listingBytes (acceptedLines size t
 unfolding acceptedLines headLines
 accepted size t =
     within listingBytes (omega arith)
-    (file-line size (t .elements) and counts-line (safeCount t) (bagCount t) (attributeCount t) and mac-line (t .«mac_input») (t .mac)
-    and lines (safeRowLine t) 201 (λ i. safe-line i (getD (t .safes) i noSafe)) (safeCount t)
-    and lines (bagRowLine t) 292 (λ i. bag-line i (getD (t .bags) i noBag) (own t i)) (bagCount t)
-    and lines (attributeRowLine t) 157 (λ i. attribute-line i (getD (t .attributes) i noAttribute)) (attributeCount t))
+    (file-line size (t .elements) and counts-line (safesCounted t) (bagsCounted t) (attributesCounted t) and mac-line (t .«mac_input») (t .mac)
+    and lines (safeRowLine t) 201 (λ i. safe-line i (getD (t .safes) i noSafe)) (safesCounted t)
+    and lines (bagRowLine t) 292 (λ i. bag-line i (getD (t .bags) i noBag) (own t i)) (bagsCounted t)
+    and lines (attributeRowLine t) 157 (λ i. attribute-line i (getD (t .attributes) i noAttribute)) (attributesCounted t))
 
 answered-short : (a : Answer) (size : ℕ) (t : Table) → Short listingBytes (answered a size t)
 unfolding answered

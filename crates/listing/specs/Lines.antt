@@ -6,7 +6,7 @@ use Prim.Native.Nat.{ℕ, zero, suc, _+_}
 use lib.Dec.{eqb}
 use lib.ListN.{getD}
 use Rattle.der.specs.Choice.{if_then_else_}
-use Rattle.pkcs12.specs.Table.{noSafe, noBag, noAttribute, safeCount, bagCount, attributeCount}
+use Rattle.pkcs12.specs.Table.{noSafe, noBag, noAttribute, safesCounted, bagsCounted, attributesCounted}
 use Rattle.buffer.specs.Placed.{each}
 use Rattle.pkcs12.specs.declared.answers.Answer.{Answer}
 use Rattle.pkcs12.specs.declared.answers.Answer.the-variants.{Accepted, Refused}
@@ -114,7 +114,7 @@ ownAmong t bag zero = 0
 ownAmong t bag (suc n) = ownAmong t bag n + (if eqb (getD (t .attributes) n noAttribute .bag) bag then 1 else 0)
 
 abbrev pub own : Table → ℕ → ℕ
-own t bag = ownAmong t bag (attributeCount t)
+own t bag = ownAmong t bag (attributesCounted t)
 
 abbrev pub safeRowLine : Table → ℕ → List ℕ
 safeRowLine t i = safeLine i (getD (t .safes) i noSafe)
@@ -145,11 +145,11 @@ macLine input m =
     ++ ascii "\n"
 
 unfoldable pub headLines : ℕ → Table → List ℕ
-headLines size t = fileLine size (t .elements) ++ countsLine (safeCount t) (bagCount t) (attributeCount t) ++ macLine (t .«mac_input») (t .mac)
+headLines size t = fileLine size (t .elements) ++ countsLine (safesCounted t) (bagsCounted t) (attributesCounted t) ++ macLine (t .«mac_input») (t .mac)
 
 -- an accepted file has three lines, and then one for each row
 unfoldable pub acceptedLines : ℕ → Table → List ℕ
-acceptedLines size t = headLines size t ++ each (safeRowLine t) (safeCount t) ++ each (bagRowLine t) (bagCount t) ++ each (attributeRowLine t) (attributeCount t)
+acceptedLines size t = headLines size t ++ each (safeRowLine t) (safesCounted t) ++ each (bagRowLine t) (bagsCounted t) ++ each (attributeRowLine t) (attributesCounted t)
 
 unfoldable pub answered : Answer → ℕ → Table → List ℕ
 answered Accepted size t = acceptedLines size t

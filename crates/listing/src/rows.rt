@@ -3,7 +3,7 @@ ghost use mathlib.Core.Path.{_≡_};
 ghost use lib.Dec.{eqb};
 ghost use Rattle.der.specs.Choice.{if_then_else_};
 ghost use Rattle.buffer.specs.Placed.{each};
-ghost use Rattle.pkcs12.specs.Table.{safeCount, bagCount, attributeCount};
+ghost use Rattle.pkcs12.specs.Table.{safesCounted, bagsCounted, attributesCounted};
 ghost use Rattle.listing.specs.Lines.{own, safeRowLine, bagRowLine, attributeRowLine};
 ghost use Rattle.buffer.specs.Placed.{Placed};
 use crate::lines;
@@ -36,7 +36,7 @@ fn own_attributes(table: Table, bag: usize) -> usize
 }
 
 pub(crate) fn safe_lines(out: &mut [u8], at: usize, table: Table) -> usize
-    ensures { λ r. ⌜ Placed (now (out .entry)) at (each (safeRowLine table) (safeCount table)) (now (out .exit)) r ⌝ }
+    ensures { λ r. ⌜ Placed (now (out .entry)) at (each (safeRowLine table) (safesCounted table)) (now (out .exit)) r ⌝ }
 {
     let n = range::fewer(table.safe_count, SAFE_ROWS);
     let mut to = at;
@@ -50,7 +50,7 @@ pub(crate) fn safe_lines(out: &mut [u8], at: usize, table: Table) -> usize
 }
 
 pub(crate) fn bag_lines(out: &mut [u8], at: usize, table: Table) -> usize
-    ensures { λ r. ⌜ Placed (now (out .entry)) at (each (bagRowLine table) (bagCount table)) (now (out .exit)) r ⌝ }
+    ensures { λ r. ⌜ Placed (now (out .entry)) at (each (bagRowLine table) (bagsCounted table)) (now (out .exit)) r ⌝ }
 {
     let n = range::fewer(table.bag_count, BAG_ROWS);
     let mut to = at;
@@ -65,7 +65,7 @@ pub(crate) fn bag_lines(out: &mut [u8], at: usize, table: Table) -> usize
 }
 
 pub(crate) fn attribute_lines(out: &mut [u8], at: usize, table: Table) -> usize
-    ensures { λ r. ⌜ Placed (now (out .entry)) at (each (attributeRowLine table) (attributeCount table)) (now (out .exit)) r ⌝ }
+    ensures { λ r. ⌜ Placed (now (out .entry)) at (each (attributeRowLine table) (attributesCounted table)) (now (out .exit)) r ⌝ }
 {
     let n = range::fewer(table.attribute_count, ATTRIBUTE_ROWS);
     let mut to = at;

@@ -13,7 +13,7 @@ use Rattle.buffer.specs.Placed.{each}
 use Rattle.pkcs12.specs.declared.kind.BagKind.{BagKind}
 use Rattle.pkcs12.specs.declared.table.Table.{Table}
 use Rattle.buffer.specs.Text.{ascii, digit, digits, decimal}
-use Rattle.pkcs12.specs.Table.{bagCount}
+use Rattle.pkcs12.specs.Table.{bagsCounted}
 use Rattle.text.specs.Text.{numberText}
 use Rattle.pairing.specs.Pairs.{isKey}
 use Rattle.pairing.specs.declared.Paired.{Paired}
@@ -74,4 +74,4 @@ lines-among t s (suc n) =
 
 pub lines-are-keys : (t : Table) (s : List ℕ) → linesIn (pairLines t s) ≡ keyBags t
 unfolding pairLines
-lines-are-keys t s = lines-among t s (bagCount t)
+lines-are-keys t s = lines-among t s (bagsCounted t)

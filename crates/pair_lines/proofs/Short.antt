@@ -12,7 +12,7 @@ use Rattle.pkcs12.specs.declared.kind.BagKind.{BagKind}
 use Rattle.pkcs12.specs.declared.answers.Reading.{Reading}
 use Rattle.pkcs12.specs.declared.table.Table.{Table}
 use Rattle.buffer.specs.Text.{ascii}
-use Rattle.pkcs12.specs.Table.{bagCount}
+use Rattle.pkcs12.specs.Table.{bagsCounted}
 use Rattle.text.proofs.Short.{Short, word, within, _and_, number, lines, refused-line}
 use Rattle.pairing.specs.Pairs.{isKey}
 use Rattle.pairing.specs.declared.Paired.{Paired}
@@ -46,7 +46,7 @@ pair-lines : (t : Table) (s : List ℕ) → Short pairsBytes (pairLines t s)
 unfolding pairLines
 pair-lines t s =
     within pairsBytes (omega arith)
-    (lines (pairRowLine t s) lineBytes (λ i. bag-line (getD (t .bags) i noBag .kind) i (certificateFor t s i)) (bagCount t))
+    (lines (pairRowLine t s) lineBytes (λ i. bag-line (getD (t .bags) i noBag .kind) i (certificateFor t s i)) (bagsCounted t))
 
 answered-short : (a : Answer) (t : Table) (s : List ℕ) → Short pairsBytes (answered a t s)
 unfolding answered

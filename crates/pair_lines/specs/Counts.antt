@@ -7,7 +7,7 @@ use Rattle.der.specs.Choice.{if_then_else_}
 use Rattle.pkcs12.specs.Table.{noBag}
 use Rattle.pkcs12.specs.declared.kind.BagKind.{BagKind}
 use Rattle.pkcs12.specs.declared.table.Table.{Table}
-use Rattle.pkcs12.specs.Table.{bagCount}
+use Rattle.pkcs12.specs.Table.{bagsCounted}
 use Rattle.pairing.specs.Pairs.{isKey}
 
 -- every line ends in one byte 0A
@@ -25,4 +25,4 @@ keysAmong t (suc n) = keysAmong t n + oneIfKey (getD (t .bags) n noBag .kind)
 
 -- of the rows that are counted and that there are
 abbrev pub keyBags : Table → ℕ
-keyBags t = keysAmong t (bagCount t)
+keyBags t = keysAmong t (bagsCounted t)

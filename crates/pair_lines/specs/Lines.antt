@@ -12,7 +12,7 @@ use Rattle.pkcs12.specs.declared.kind.BagKind.{BagKind}
 use Rattle.pkcs12.specs.declared.answers.Reading.{Reading}
 use Rattle.pkcs12.specs.declared.table.Table.{Table}
 use Rattle.buffer.specs.Text.{ascii}
-use Rattle.pkcs12.specs.Table.{bagCount}
+use Rattle.pkcs12.specs.Table.{bagsCounted}
 use Rattle.text.specs.Text.{numberText, refusedLine}
 use Rattle.pairing.specs.Pairs.{isKey}
 use Rattle.pairing.specs.declared.Paired.{Paired}
@@ -37,7 +37,7 @@ pairRowLine t s i = bagLine (getD (t .bags) i noBag .kind) i (certificateFor t s
 
 -- in the order of the bag rows: those of the table t over the bytes s
 unfoldable pub pairLines : Table → List ℕ → List ℕ
-pairLines t s = each (pairRowLine t s) (bagCount t)
+pairLines t s = each (pairRowLine t s) (bagsCounted t)
 
 -- the lines of an accepted file; a refusal is the one line "refused N at P" (Rule 8.3)
 unfoldable pub answered : Answer → Table → List ℕ → List ℕ

@@ -159,14 +159,14 @@ shown s st m =
     }
 
 -- the rows that a table counts; a count past its array counts as the array's rows
-abbrev pub safeCount : Table → ℕ
-safeCount t = min (t .«safe_count») safeRows
+abbrev pub safesCounted : Table → ℕ
+safesCounted t = min (t .«safe_count») safeRows
 
-abbrev pub bagCount : Table → ℕ
-bagCount t = min (t .«bag_count») bagRows
+abbrev pub bagsCounted : Table → ℕ
+bagsCounted t = min (t .«bag_count») bagRows
 
-abbrev pub attributeCount : Table → ℕ
-attributeCount t = min (t .«attribute_count») attributeRows
+abbrev pub attributesCounted : Table → ℕ
+attributesCounted t = min (t .«attribute_count») attributeRows
 
 unfoldable pub valuesOf : Table → List ℕ → Values
 valuesOf t s = shown s (rowsIn t) (t .mac)

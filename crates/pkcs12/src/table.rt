@@ -10,7 +10,8 @@ use crate::row::Mac;
 use crate::row::SafeRow;
 use range::Range;
 
-// Rows past the counts are empty. `elements` is the number of elements in the file.
+// In a table that reading returns the rows past the counts are empty (Rules 5.24, 6.7). `elements` is
+// the number of elements in the file.
 pub struct Table {
     pub safes: [SafeRow; SAFE_ROWS],
     pub safe_count: usize,

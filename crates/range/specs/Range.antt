@@ -24,13 +24,13 @@ bytesIn s r = slice (r .start) (r .end) s
 unfoldable pub lies : List ℕ → Range → Bool
 lies s r = both (leb (r .start) (r .end)) (leb (r .end) (length s))
 
--- the greatest offset that a range holds: of 16 bits
-abbrev pub greatest : ℕ
-greatest = 65_535
+-- the greatest16 offset that a range holds: of 16 bits
+abbrev pub greatest16 : ℕ
+greatest16 = 65_535
 
--- the range of a body; an offset past the greatest counts as that
+-- the range of a body; an offset past the greatest16 counts as that
 unfoldable pub bodyRange : Cursor → Range
-bodyRange c = range (min (c .at) greatest) (min (c .end) greatest)
+bodyRange c = range (min (c .at) greatest16) (min (c .end) greatest16)
 
 -- a range that lies in no bytes
 abbrev pub nowhere : Range
@@ -38,4 +38,4 @@ nowhere = range 1 0
 
 -- the range of two words
 unfoldable pub wordRange : ℕ → ℕ → Range
-wordRange a b = if ltb greatest a then nowhere else if ltb greatest b then nowhere else range a b
+wordRange a b = if ltb greatest16 a then nowhere else if ltb greatest16 b then nowhere else range a b

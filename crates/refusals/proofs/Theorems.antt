@@ -1,6 +1,6 @@
 -- What is proved of refusals. `readFile` is the walk that the reading call follows; `accountOf` is
--- the account of byte lists, which shares no definition with it. No theorem here requires that the
--- numbers of a list are bytes.
+-- the account of byte lists, which has every tag, identifier, size and number of its own. No theorem
+-- here requires that the numbers of a list are bytes.
 use mathlib.Core.Logic.{_↔_}
 use mathlib.Core.Path.{_≡_}
 use mathlib.Core.List.{List, [], _++_}

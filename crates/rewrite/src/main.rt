@@ -5,7 +5,7 @@ use der::Fault;
 use pkcs12::Answer;
 use pkcs12::Table;
 
-// The line of a refusal. It is the reading's: the writer refuses no table that reading returns.
+// The line of a refusal. It is the reading's: the writer refuses no table of an accepted file.
 fn refused(fault: Fault) {
     let mut line = [0u8; 64];
     let n = text::refused(&mut line, 0, fault);

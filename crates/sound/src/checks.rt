@@ -103,7 +103,7 @@ fn holds_at_most_one(bytes: &[u8], range: Range) -> bool
     one_opaque(x)
 }
 
-// Whether the first byte that it holds is this tag.
+// Whether the first byte that it holds is this tag; a range that holds none has the tag 0.
 fn has_tag(bytes: &[u8], range: Range, tag: u8) -> bool
     ensures { λ r. ⌜ r ≡ hasTag (now (bytes .entry)) range tag ⌝ }
 {

@@ -1,4 +1,4 @@
--- The elements of the range that was loaded.
+-- The elements of the range that is made of the two words.
 use Rattle.der.proofs.Promised.{all-bytes}
 use Rattle.p12.proofs.Gives.{three-and, element-gives}
 use borrow.Author.Needs.{needs}
