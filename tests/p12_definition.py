@@ -5,7 +5,7 @@
 
 For each FILE, and for every file of p12_make.py, COUNT damaged and COUNT mended ones of at most BYTES bytes (3000 if not said), one theorem
 says that `readFile` of its bytes is the answer that models/reader.py gives: the number and the offset, or every field of the table. The
-theorems are proved by computing the definition. They are written to a crate of their own beside copies of der, buffer and pkcs12, in
+theorems are proved by computing the definition. They are written to a crate of their own beside copies of der, range, buffer and pkcs12, in
 target/definition, and `rt check` proves them. The last line is 'N files, all as the reader says', or names the theorems that aren't proved,
 with the first error before it.
 """
