@@ -14,14 +14,14 @@ use Rattle.der.specs.declared.Integer.the-variants.{Value}
 -- what is no refusal
 pub record Report : Type 0 where
   pub number : ℕ
-  pub place : ℕ
+  pub offset : ℕ
   pub values : List ℕ
 
 abbrev pub refusing : Fault → Report
-refusing f = record { number = f .number; place = f .offset; values = [] }
+refusing f = record { number = f .number; offset = f .offset; values = [] }
 
 abbrev pub passing : List ℕ → Report
-passing x = record { number = 0; place = 0; values = x }
+passing x = record { number = 0; offset = 0; values = x }
 
 -- a cursor: from and to
 abbrev pub cursorValues : Cursor → List ℕ

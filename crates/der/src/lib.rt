@@ -1,13 +1,17 @@
-// One element of DER (ITU-T X.690). Every public function answers any cursor over any bytes. The
-// bodies of identifiers and integers are read by `content`, and elements are checked to the bottom
-// by `tree`; their definitions are here, among the others of DER.
+// One element of DER (ITU-T X.690) and what PKCS #12 files are made of: tags, lengths, identifiers,
+// integers, and opaque elements, which are checked for their form to the bottom. Every public
+// function answers any cursor over any bytes.
 ghost use mathlib.Core.Path.{_≡_};
 ghost use Prim.Native.Nat.{_+_, _^_, _<_, _≤_};
 ghost use lib.ListN.{length};
+ghost use lib.Seq.{slice};
 ghost use Rattle.der.specs.Numbers.{octetStringTag};
 ghost use Rattle.der.specs.Element.{wholeOf, noByteLeft, tagAt, finishAt, within, oneOctet};
 ghost use Rattle.der.specs.Element.{twoOctets, extentAt, elementAt, expectAt};
-ghost use Rattle.der.specs.Report.{elementReport, checkedReport};
+ghost use Rattle.der.specs.Content.{breaks, identifierBody, identifierAt, integerBody};
+ghost use Rattle.der.specs.Content.{andDigit, integerValue, integerAt, IntegerAt};
+ghost use Rattle.der.specs.Opaque.{opaqueAt, elementsAt};
+ghost use Rattle.der.specs.Report.{elementReport, checkedReport, integerReport};
 ghost use Rattle.der.specs.Span.{Bytes};
 
 // The numbers of the refusals (Rules 5.1 to 5.6 and 5.8).
@@ -184,6 +188,100 @@ fn body_of(s: &[u8], at: usize, end: usize) -> Extent
     })
 }
 
+// Whether a byte breaks an identifier: a part may not begin with 80 hex.
+fn breaks(begins: bool, b: u8) -> bool
+    ensures { λ r. ⌜ r ≡ breaks begins b ⌝ }
+{
+    if begins {
+        return b == 0x80;
+    }
+    false
+}
+
+// Whether the bytes from `from` up to `to` are an identifier's body.
+fn is_identifier(s: &[u8], from: usize, to: usize) -> bool
+    requires { ⌜ to ≤ length (now s) ⌝ }
+    ensures { λ r. ⌜ r ≡ identifierBody (slice from to (now (s .entry))) ⌝ }
+{
+    if to <= from {
+        return false;
+    }
+    let mut begins = true;
+    let mut i = from;
+    while i < to {
+        let b = s[i];
+        if breaks(begins, b) {
+            return false;
+        }
+        begins = b < 0x80;
+        i += 1;
+    }
+    begins
+}
+
+// Whether the bytes are an identifier's body.
+pub fn names_type(body: &[u8]) -> bool
+    ensures { λ r. ⌜ r ≡ identifierBody (now (body .entry)) ⌝ }
+{
+    is_identifier(body, 0, body.len())
+}
+
+// Whether a body is an INTEGER's: 1 to 4 bytes, minimal, not negative.
+fn is_integer(s: &[u8], body: Cursor) -> bool
+    requires { ⌜ body .end ≤ length (now s) ⌝ }
+    ensures { λ r. ⌜ r ≡ integerBody (now (s .entry)) body ⌝ }
+{
+    let at = body.at;
+    let end = body.end;
+    if end <= at {
+        return false;
+    }
+    let most = at + 4;
+    if most < end {
+        return false;
+    }
+    let first = s[at];
+    if 0x80 <= first {
+        return false;
+    }
+    let second = at + 1;
+    if end <= second {
+        return true;
+    }
+    if first == 0 {
+        return 0x80 <= s[second];
+    }
+    true
+}
+
+// The number with the byte at `i` behind it, where the body goes so far.
+fn and_digit(s: &[u8], end: usize, i: usize, v: u32) -> u32
+    requires { ⌜ (end ≤ length (now s)) × (v < 8388608) ⌝ }
+    ensures { λ r. ⌜ r ≡ andDigit (now (s .entry)) end i v ⌝ }
+{
+    if i < end {
+        let digit = s[i] as u32;
+        return v * 256 + digit;
+    }
+    v
+}
+
+// The number that an INTEGER's body holds.
+fn integer_value(s: &[u8], body: Cursor) -> u32
+    requires { ⌜ IntegerAt (now s) body ⌝ }
+    ensures { λ r. ⌜ r ≡ integerValue (now (s .entry)) body ⌝ }
+{
+    let at = body.at;
+    let end = body.end;
+    let second = at + 1;
+    let third = at + 2;
+    let fourth = at + 3;
+    let v1 = s[at] as u32;
+    let v2 = and_digit(s, end, second, v1);
+    let v3 = and_digit(s, end, third, v2);
+    and_digit(s, end, fourth, v3)
+}
+
 // Whether the parent has no byte left.
 fn no_byte_left(s: &[u8], c: Cursor) -> bool
     ensures { λ r. ⌜ r ≡ noByteLeft (now (s .entry)) c ⌝ }
@@ -307,5 +405,111 @@ impl Cursor {
         ensures { λ _. ⌜ Bytes (now (s .entry)) ⌝ }
     {
         self.expect(s, OCTET_STRING)
+    }
+
+    // The next element, an OBJECT IDENTIFIER.
+    pub fn identifier(self, s: &[u8]) -> Element
+        ensures { λ r. ⌜ r ≡ identifierAt (now (s .entry)) self ⌝ }
+        ensures { λ r. ⌜ elementReport r ≡ elementReport (identifierAt (now (s .entry)) self) ⌝ }
+        ensures { λ _. ⌜ Bytes (now (s .entry)) ⌝ }
+    {
+        let at = self.at;
+        match self.expect(s, OBJECT_IDENTIFIER) {
+            Element::Refused(f) => Element::Refused(f),
+            Element::Found { tag, body, next } => {
+                let from = body.at;
+                let to = body.end;
+                if is_identifier(s, from, to) {
+                    return Element::Found { tag, body, next };
+                }
+                Element::Refused(Fault {
+                    number: CONTENT,
+                    offset: at,
+                })
+            }
+        }
+    }
+
+    // The next element, an INTEGER, with its number.
+    pub fn integer(self, s: &[u8]) -> Integer
+        ensures { λ r. ⌜ r ≡ integerAt (now (s .entry)) self ⌝ }
+        ensures { λ r. ⌜ integerReport r ≡ integerReport (integerAt (now (s .entry)) self) ⌝ }
+        ensures { λ _. ⌜ Bytes (now (s .entry)) ⌝ }
+    {
+        let at = self.at;
+        match self.expect(s, INTEGER) {
+            Element::Refused(f) => Integer::Refused(f),
+            Element::Found { tag: _, body, next } => {
+                if is_integer(s, body) {
+                    return Integer::Value {
+                        value: integer_value(s, body),
+                        next,
+                    };
+                }
+                Integer::Refused(Fault {
+                    number: CONTENT,
+                    offset: at,
+                })
+            }
+        }
+    }
+
+    // The next element, checked to the bottom, with `level` levels left.
+    pub fn opaque(self, s: &[u8], level: u8) -> Checked
+        ensures { λ r. ⌜ r ≡ opaqueAt level (now (s .entry)) self ⌝ }
+        ensures { λ r. ⌜ checkedReport r ≡ checkedReport (opaqueAt level (now (s .entry)) self) ⌝ }
+        ensures { λ _. ⌜ Bytes (now (s .entry)) ⌝ }
+    {
+        let at = self.at;
+        match self.element(s) {
+            Element::Refused(f) => Checked::Refused(f),
+            Element::Found { tag, body, next } => {
+                if level == 0 {
+                    return Checked::Refused(Fault {
+                        number: TOO_MANY,
+                        offset: at,
+                    });
+                }
+                if tag / 0x20 % 2 == 0 {
+                    return Checked::Passed { count: 1, next };
+                }
+                let below = level - 1;
+                match body.elements(s, below) {
+                    Checked::Refused(f) => Checked::Refused(f),
+                    Checked::Passed { count, next: _ } => {
+                        let more = count + 1;
+                        Checked::Passed { count: more, next }
+                    }
+                }
+            }
+        }
+    }
+
+    // Zero or more elements up to the cursor's end, each checked to the bottom.
+    pub fn elements(self, s: &[u8], level: u8) -> Checked
+        ensures { λ r. ⌜ r ≡ elementsAt level (now (s .entry)) self ⌝ }
+        ensures { λ r. ⌜ checkedReport r ≡ checkedReport (elementsAt level (now (s .entry)) self) ⌝ }
+        ensures { λ _. ⌜ Bytes (now (s .entry)) ⌝ }
+    {
+        let end = self.end;
+        let mut at = self.at;
+        let mut count: usize = 0;
+        while at < end {
+            let here = Cursor { at, end };
+            match here.opaque(s, level) {
+                Checked::Refused(f) => {
+                    return Checked::Refused(f);
+                }
+                Checked::Passed { count: more, next } => {
+                    let sum = count + more;
+                    count = sum;
+                    at = next.at;
+                }
+            }
+        }
+        Checked::Passed {
+            count,
+            next: Cursor { at, end },
+        }
     }
 }

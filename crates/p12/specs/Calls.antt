@@ -41,7 +41,7 @@ abbrev pub readNumber : Answer → ℕ
 readNumber a = answerReport a .number
 
 abbrev pub readOffset : Answer → ℕ
-readOffset a = answerReport a .place
+readOffset a = answerReport a .offset
 
 -- the number that an answer of writing reports
 abbrev pub writtenNumber : Written → ℕ

@@ -51,7 +51,7 @@ fn some_parameters(s: &[u8], i: Cursor, m: Cursor, n: Cursor) -> PartsAt
     requires { ⌜ (length (now s) ≤ fileBytes) × (i .at ≤ fileBytes) × (i .end ≤ fileBytes) ⌝ }
     ensures { λ r. ⌜ r ≡ someParametersAt (now (s .entry)) i m n ⌝ }
 {
-    match tree::opaque(s, m, der::OPAQUE_LEVELS) {
+    match m.opaque(s, der::OPAQUE_LEVELS) {
         Checked::Refused(f) => PartsAt::Refused(f),
         Checked::Passed { count, next } => match next.finish() {
             Checked::Refused(f) => PartsAt::Refused(f),
@@ -108,7 +108,7 @@ pub(crate) fn algorithm(s: &[u8], c: Cursor) -> PartsAt
 {
     match c.expect(s, der::SEQUENCE) {
         Element::Refused(f) => PartsAt::Refused(f),
-        Element::Found { tag: _, body, next } => match content::identifier(s, body) {
+        Element::Found { tag: _, body, next } => match body.identifier(s) {
             Element::Refused(f) => PartsAt::Refused(f),
             Element::Found {
                 tag: _,
@@ -183,7 +183,7 @@ pub(crate) fn key(s: &[u8], c: Cursor) -> PartsAt
             tag: _,
             body: _,
             next: _,
-        } => match tree::opaque(s, c, der::OPAQUE_LEVELS) {
+        } => match c.opaque(s, der::OPAQUE_LEVELS) {
             Checked::Refused(f) => PartsAt::Refused(f),
             Checked::Passed { count, next } => {
                 let from = c.at;
@@ -213,10 +213,10 @@ fn value(octets: bool, s: &[u8], c: Cursor) -> Checked
                 tag: _,
                 body: _,
                 next: _,
-            } => tree::opaque(s, c, der::OPAQUE_LEVELS),
+            } => c.opaque(s, der::OPAQUE_LEVELS),
         };
     }
-    tree::opaque(s, c, der::OPAQUE_LEVELS)
+    c.opaque(s, der::OPAQUE_LEVELS)
 }
 
 // Whether the value of a certificate, CRL or secret of the type with body i has to be an
@@ -272,7 +272,7 @@ pub(crate) fn typed(certificate: bool, s: &[u8], c: Cursor) -> PartsAt
 {
     match c.expect(s, der::SEQUENCE) {
         Element::Refused(f) => PartsAt::Refused(f),
-        Element::Found { tag: _, body, next } => match content::identifier(s, body) {
+        Element::Found { tag: _, body, next } => match body.identifier(s) {
             Element::Refused(f) => PartsAt::Refused(f),
             Element::Found {
                 tag: _,
@@ -322,7 +322,7 @@ fn encrypted_info(s: &[u8], c: Cursor) -> PartsAt
 {
     match c.expect(s, der::SEQUENCE) {
         Element::Refused(f) => PartsAt::Refused(f),
-        Element::Found { tag: _, body, next } => match content::identifier(s, body) {
+        Element::Found { tag: _, body, next } => match body.identifier(s) {
             Element::Refused(f) => PartsAt::Refused(f),
             Element::Found {
                 tag: _,
@@ -370,7 +370,7 @@ pub(crate) fn encrypted(s: &[u8], c: Cursor) -> PartsAt
 {
     match c.expect(s, der::SEQUENCE) {
         Element::Refused(f) => PartsAt::Refused(f),
-        Element::Found { tag: _, body, next } => match content::integer(s, body) {
+        Element::Found { tag: _, body, next } => match body.integer(s) {
             Integer::Refused(f) => PartsAt::Refused(f),
             Integer::Value { value: v, next: m } => {
                 let at = body.at;

@@ -51,7 +51,7 @@ fn attribute_values(s: &[u8], i: Cursor, m: Cursor, n: Cursor) -> PartsAt
 {
     match m.expect(s, der::SET) {
         Element::Refused(f) => PartsAt::Refused(f),
-        Element::Found { tag: _, body, next } => match tree::elements(s, body, der::OPAQUE_LEVELS) {
+        Element::Found { tag: _, body, next } => match body.elements(s, der::OPAQUE_LEVELS) {
             Checked::Refused(f) => PartsAt::Refused(f),
             Checked::Passed { count, next: _ } => match next.finish() {
                 Checked::Refused(f) => PartsAt::Refused(f),
@@ -91,7 +91,7 @@ pub(crate) fn attribute(s: &[u8], full: bool, c: Cursor) -> PartsAt
                     offset: at,
                 });
             }
-            match content::identifier(s, body) {
+            match body.identifier(s) {
                 Element::Refused(f) => PartsAt::Refused(f),
                 Element::Found {
                     tag: _,
@@ -234,7 +234,7 @@ pub(crate) fn bag_at(s: &[u8], full: bool, c: Cursor) -> Bag
                     offset: at,
                 });
             }
-            match content::identifier(s, body) {
+            match body.identifier(s) {
                 Element::Refused(f) => Bag::Refused(f),
                 Element::Found {
                     tag: _,

@@ -48,7 +48,7 @@ fn pfx(s: &[u8], c: Cursor) -> Outer
 {
     match c.expect(s, der::SEQUENCE) {
         Element::Refused(f) => Outer::Refused(f),
-        Element::Found { tag: _, body, next } => match content::integer(s, body) {
+        Element::Found { tag: _, body, next } => match body.integer(s) {
             Integer::Refused(f) => Outer::Refused(f),
             Integer::Value { value, next: m } => {
                 if value == pkcs12::PFX_VERSION {
@@ -112,7 +112,7 @@ fn opened_info(s: &[u8], c: Cursor, file: Cursor) -> Opened
 {
     match c.expect(s, der::SEQUENCE) {
         Element::Refused(f) => Opened::Refused(f),
-        Element::Found { tag: _, body, next } => match content::identifier(s, body) {
+        Element::Found { tag: _, body, next } => match body.identifier(s) {
             Element::Refused(f) => Opened::Refused(f),
             Element::Found {
                 tag: _,
@@ -140,7 +140,7 @@ fn stated(s: &[u8], parts: Parts, salt: Range, count: usize, c: Cursor) -> MacAt
     requires { ⌜ count ≤ fileBytes + 2 ⌝ }
     ensures { λ r. ⌜ r ≡ statedAt (now (s .entry)) parts salt count c ⌝ }
 {
-    match content::integer(s, c) {
+    match c.integer(s) {
         Integer::Refused(f) => MacAt::Refused(f),
         Integer::Value { value, next } => {
             if value <= pkcs12::DEFAULT_ITERATIONS {

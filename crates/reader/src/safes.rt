@@ -157,7 +157,7 @@ pub(crate) fn safe(s: &[u8], full: bool, c: Cursor) -> Contents
                     offset: at,
                 });
             }
-            match content::identifier(s, body) {
+            match body.identifier(s) {
                 Element::Refused(f) => Contents::Refused(f),
                 Element::Found {
                     tag: _,

@@ -115,10 +115,10 @@ closed-any : (a : Account) (after : Left) (m : Made) (l : Left) → closed a aft
 closed-any (stops n p) after m l e = apart m l n p e
 closed-any (goes k b) after m l e = go (b .bytes) e
   where
-    go : (x : List ℕ) → whereNone x (goes k after) (stops 6 (b .place)) ≡ goes m l
-        → (l ≡ after) × ((other : Left) → whereNone x (goes k other) (stops 6 (b .place)) ≡ goes m other)
+    go : (x : List ℕ) → whereNone x (goes k after) (stops 6 (b .offset)) ≡ goes m l
+        → (l ≡ after) × ((other : Left) → whereNone x (goes k other) (stops 6 (b .offset)) ≡ goes m other)
     go [] q = (cc, λ other. let z : k ≡ m = cc in rw z refl)
-    go (y ∷ x) q = apart m l 6 (b .place) q
+    go (y ∷ x) q = apart m l 6 (b .offset) q
 
 -- a file of one SEQUENCE: its header, and that its body comes to its end
 pub record Whole (rule : Rule) (made : Made) (f : List ℕ) : Type 0 where
@@ -150,7 +150,7 @@ whole-of rule made f after m l = go (header f) refl (header-of f)
     ends h size x e p q (goes n b) i c =
         let j = closed-any (rule made (left (0 + h) (take size x))) (left (0 + h + size) (drop size x)) n b i in
         let y : drop size x ≡ [] = ap (λ (z : Left). z .bytes) (sym (j .0))
-        ∙ none-of (b .bytes) n m (b .place) after l c in
+        ∙ none-of (b .bytes) n m (b .offset) after l c in
         record {
           head = h;
           size = size;

@@ -70,10 +70,10 @@ header-of (t ∷ n ∷ x) =
 -- an account within what ends at e
 abbrev pub Kept : ℕ → Account → Type 0
 Kept e (stops n p) = (1 ≤ n) × (n ≤ 8) × (p ≤ e)
-Kept e (goes m l) = l .place + length (l .bytes) ≡ e
+Kept e (goes m l) = l .offset + length (l .bytes) ≡ e
 
 pub record Keeps (rule : Rule) : Type 0 where
-  pub kept : (made : Made) (l : Left) → Kept (l .place + length (l .bytes)) (rule made l)
+  pub kept : (made : Made) (l : Left) → Kept (l .offset + length (l .bytes)) (rule made l)
 
 -- a body is judged by a number that a refusal may have
 pub record Judges (judge : List ℕ → ℕ) : Type 0 where
@@ -88,24 +88,24 @@ none-or : {A : Type 0} (P : A → Type 0) (x : List ℕ) (none some : A) → (x 
 none-or P [] none some f g = f refl
 none-or P (b ∷ x) none some f g = g (omega arith)
 
-pub closed-kept : (m e : ℕ) (a : Account) (after : Left) → m ≤ e → Kept m a → after .place + length (after .bytes) ≡ e
+pub closed-kept : (m e : ℕ) (a : Account) (after : Left) → m ≤ e → Kept m a → after .offset + length (after .bytes) ≡ e
     → Kept e (closed a after)
 closed-kept m e (stops n p) after h k q = (k .0, k .1, omega (arith, k .2))
 closed-kept m e (goes made l) after h k q =
-    none-or (Kept e) (l .bytes) (goes made after) (stops 6 (l .place)) (λ z. q)
+    none-or (Kept e) (l .bytes) (goes made after) (stops 6 (l .offset)) (λ z. q)
     (λ z. (omega arith, omega arith, omega arith))
 
-allowed-kept : (n place e : ℕ) (made : Made) (after : Left) → n ≤ 8 → place ≤ e → after .place + length (after .bytes)
-    ≡ e → Kept e (allowed n place made after)
-allowed-kept zero place e made after h k q = q
-allowed-kept (suc n) place e made after h k q = (omega arith, h, k)
+allowed-kept : (n offset e : ℕ) (made : Made) (after : Left) → n ≤ 8 → offset ≤ e → after .offset + length (after .bytes)
+    ≡ e → Kept e (allowed n offset made after)
+allowed-kept zero offset e made after h k q = q
+allowed-kept (suc n) offset e made after h k q = (omega arith, h, k)
 
-inside-kept : (content : Content) → KeepsIn content → (place e : ℕ) (made : Made) (body after : Left) → place ≤ e
-    → body .place + length (body .bytes) ≤ e
-    → after .place + length (after .bytes) ≡ e → Kept e (inside content place made body after)
-inside-kept (walked rule) k place e made body after h i q = closed-kept (body .place + length (body .bytes)) e
+inside-kept : (content : Content) → KeepsIn content → (offset e : ℕ) (made : Made) (body after : Left) → offset ≤ e
+    → body .offset + length (body .bytes) ≤ e
+    → after .offset + length (after .bytes) ≡ e → Kept e (inside content offset made body after)
+inside-kept (walked rule) k offset e made body after h i q = closed-kept (body .offset + length (body .bytes)) e
     (rule made body) after i (k .kept made body) q
-inside-kept (judged judge) k place e made body after h i q = allowed-kept (judge (body .bytes)) place e made after
+inside-kept (judged judge) k offset e made body after h i q = allowed-kept (judge (body .bytes)) offset e made after
     (k .bound (body .bytes)) h q
 
 pub element-keeps : (due : ℕ → Bool) (full : Made → Bool) (content : ℕ → Content) → ((t : ℕ) → KeepsIn (content t))
@@ -114,19 +114,19 @@ unfolding element
 element-keeps due full content k = record { kept = λ made l. go made l (header (l .bytes)) (header-of (l .bytes)) }
   where
     go : (made : Made) (l : Left) (x : Header) → OfHeader (l .bytes) x
-        → Kept (l .place + length (l .bytes)) (onHeader x (λ n. stops n (l .place)) (λ t h size y.
+        → Kept (l .offset + length (l .bytes)) (onHeader x (λ n. stops n (l .offset)) (λ t h size y.
         if due t then
-        if full made then stops 8 (l .place) else
-        inside (content t) (l .place) made (left (l .place + h) (take size y))
-        (left (l .place + h + size) (drop size y)) else
-        stops 4 (l .place)))
+        if full made then stops 8 (l .offset) else
+        inside (content t) (l .offset) made (left (l .offset + h) (take size y))
+        (left (l .offset + h + size) (drop size y)) else
+        stops 4 (l .offset)))
     go made l (wrong n) q = (q .0, omega (arith, q .1), omega arith)
     go made l (right t h size y) q =
-        by-test (Kept (l .place + length (l .bytes))) _ _ (due t)
+        by-test (Kept (l .offset + length (l .bytes))) _ _ (due t)
         (λ z.
-        by-test (Kept (l .place + length (l .bytes))) _ _ (full made) (λ w. (omega arith, omega arith, omega arith))
+        by-test (Kept (l .offset + length (l .bytes))) _ _ (full made) (λ w. (omega arith, omega arith, omega arith))
         (λ w.
-        inside-kept (content t) (k t) (l .place) (l .place + length (l .bytes)) made _ _ (omega arith)
+        inside-kept (content t) (k t) (l .offset) (l .offset + length (l .bytes)) made _ _ (omega arith)
         (omega (arith, length-take-le size y (q .1), q .0, q .1))
         (omega (arith, length-drop size y, q .0, q .1))))
         (λ z. (omega arith, omega arith, omega arith))
@@ -143,7 +143,7 @@ unfolding eachOf
 each-kept zero rule k = record { kept = λ made l. refl }
 each-kept (suc n) rule k =
     record {
-      kept = λ made l. none-or (Kept (l .place + length (l .bytes))) (l .bytes) _ _ (λ z. refl)
+      kept = λ made l. none-or (Kept (l .offset + length (l .bytes))) (l .bytes) _ _ (λ z. refl)
           (λ z. onwards-kept _ (rule made l) (eachOf n rule) (k .kept made l) (each-kept n rule k));
     }
 
@@ -152,21 +152,21 @@ each-keeps rule k = record { kept = λ made l. each-kept (length (l .bytes)) rul
 
 any-keeps : (rule : Rule) → Keeps rule → Keeps (ifAny rule)
 any-keeps rule k = record {
-  kept = λ made l. none-or (Kept (l .place + length (l .bytes))) (l .bytes) _ _ (λ z. refl)
+  kept = λ made l. none-or (Kept (l .offset + length (l .bytes))) (l .bytes) _ _ (λ z. refl)
       (λ z. k .kept made l);
 }
 
 served-keeps : (rule : Rule) → Keeps rule → Keeps (served rule)
 served-keeps rule k =
     record {
-      kept = λ made l. none-or (Kept (l .place + length (l .bytes))) (l .bytes) _ _
+      kept = λ made l. none-or (Kept (l .offset + length (l .bytes))) (l .bytes) _ _
           (λ z. (omega arith, omega arith, omega arith)) (λ z. k .kept made l);
     }
 
 tag-keeps : (t : ℕ) (rule : Rule) → Keeps rule → Keeps (ifTag t rule)
 tag-keeps t rule k =
     record {
-      kept = λ made l. by-test (Kept (l .place + length (l .bytes))) _ _ (firstIs t (l .bytes))
+      kept = λ made l. by-test (Kept (l .offset + length (l .bytes))) _ _ (firstIs t (l .bytes))
           (λ e. k .kept made l) (λ e. refl);
     }
 

@@ -26,8 +26,8 @@ accepted-iff f = (refused.accepted-goes f, λ p. refused.goes-accepted f (p .0) 
 pub refusal-number : (f : List ℕ) (n p : ℕ) → readFile f .answer ≡ Answer.Refused (fault n p) → (1 ≤ n) × (n ≤ 9)
 refusal-number f n p e = let k = refused.refusal-of f n p e in (k .0, k .1)
 
-pub refusal-place : (f : List ℕ) (n p : ℕ) → readFile f .answer ≡ Answer.Refused (fault n p) → p ≤ length f
-refusal-place f n p e = refused.refusal-of f n p e .2
+pub refusal-offset : (f : List ℕ) (n p : ℕ) → readFile f .answer ≡ Answer.Refused (fault n p) → p ≤ length f
+refusal-offset f n p e = refused.refusal-of f n p e .2
 
 -- Rules 5.9, 5.21: the number is 9 if and only if the file has more than 65,535 bytes, and then the
 -- offset is 0.

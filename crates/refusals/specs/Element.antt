@@ -8,11 +8,11 @@ use lib.ListN.{length, take, drop}
 use Rattle.der.specs.Choice.{if_then_else_}
 
 pub record Left : Type 0 where
-  pub place : ℕ
+  pub offset : ℕ
   pub bytes : List ℕ
 
 abbrev pub left : ℕ → List ℕ → Left
-left p x = record { place = p; bytes = x }
+left p x = record { offset = p; bytes = x }
 
 -- how many rows there are so far
 pub record Made : Type 0 where
@@ -86,7 +86,7 @@ whereNone (b ∷ x) none some = some
 -- at its end
 abbrev pub closed : Account → Left → Account
 closed (stops n p) after = stops n p
-closed (goes made l) after = whereNone (l .bytes) (goes made after) (stops 6 (l .place))
+closed (goes made l) after = whereNone (l .bytes) (goes made after) (stops 6 (l .offset))
 
 -- what a body comes to: elements by a rule, or bytes that are judged, 0 where they are allowed and
 -- else the number
@@ -95,12 +95,12 @@ pub data Content : Type 0 where
   judged : (List ℕ → ℕ) → Content
 
 abbrev pub allowed : ℕ → ℕ → Made → Left → Account
-allowed zero place made after = goes made after
-allowed (suc n) place made after = stops (suc n) place
+allowed zero offset made after = goes made after
+allowed (suc n) offset made after = stops (suc n) offset
 
 abbrev pub inside : Content → ℕ → Made → Left → Left → Account
-inside (walked rule) place made body after = closed (rule made body) after
-inside (judged judge) place made body after = allowed (judge (body .bytes)) place made after
+inside (walked rule) offset made body after = closed (rule made body) after
+inside (judged judge) offset made body after = allowed (judge (body .bytes)) offset made after
 
 -- Rule 5.16: form of the tag, form of the length, body within the parent, the tag that is due,
 -- space for the row or level, content. Rule 5.20: the offset is that of the tag, which is the
@@ -108,13 +108,13 @@ inside (judged judge) place made body after = allowed (judge (body .bytes)) plac
 unfoldable pub element : (ℕ → Bool) → (Made → Bool) → (ℕ → Content) → Rule
 element due full content made l =
     onHeader (header (l .bytes))
-    (λ n. stops n (l .place))
+    (λ n. stops n (l .offset))
     (λ t h size x.
     if due t then
-    if full made then stops 8 (l .place) else
-    inside (content t) (l .place) made (left (l .place + h) (take size x)) (left (l .place + h + size) (drop size x))
+    if full made then stops 8 (l .offset) else
+    inside (content t) (l .offset) made (left (l .offset + h) (take size x)) (left (l .offset + h + size) (drop size x))
     else
-    stops 4 (l .place))
+    stops 4 (l .offset))
 
 -- the body of the element in front
 unfoldable pub frontBody : List ℕ → List ℕ
@@ -144,7 +144,7 @@ ifAny rule made l = whereNone (l .bytes) (goes made l) (rule made l)
 
 -- Rule 5.19: 7 in place of 1 where the parent ends exactly there: no ciphertext, no MacData
 abbrev pub served : Rule → Rule
-served rule made l = whereNone (l .bytes) (stops 7 (l .place)) (rule made l)
+served rule made l = whereNone (l .bytes) (stops 7 (l .offset)) (rule made l)
 
 -- an element that may be absent, with this tag; any other byte is left over, 6 (Rule 5.18)
 abbrev pub firstIs : ℕ → List ℕ → Bool

@@ -43,7 +43,7 @@ fn names_type(bytes: &[u8], range: Range) -> bool
         return false;
     }
     let body = range.part(bytes);
-    content::names_type(body)
+    der::names_type(body)
 }
 
 // Whether bytes are one opaque element and nothing more.
@@ -51,7 +51,7 @@ fn one_opaque(x: &[u8]) -> bool
     ensures { λ r. ⌜ r ≡ oneOpaque (now (x .entry)) ⌝ }
 {
     let whole = Cursor::over(x);
-    match tree::opaque(x, whole, der::OPAQUE_LEVELS) {
+    match whole.opaque(x, der::OPAQUE_LEVELS) {
         Checked::Refused(_) => false,
         Checked::Passed { count: _, next } => {
             let at = next.at;
@@ -66,7 +66,7 @@ fn all_opaque(x: &[u8]) -> bool
     ensures { λ r. ⌜ r ≡ allOpaque (now (x .entry)) ⌝ }
 {
     let whole = Cursor::over(x);
-    match tree::elements(x, whole, der::OPAQUE_LEVELS) {
+    match whole.elements(x, der::OPAQUE_LEVELS) {
         Checked::Refused(_) => false,
         Checked::Passed { count: _, next: _ } => true,
     }

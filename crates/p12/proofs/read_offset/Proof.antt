@@ -14,11 +14,11 @@ enum-known-answer c = search needs
 
 returns : tie.Need-returns
 unfolding answerReport
-returns c = ap (λ (x : Answer). answerReport x .place) (sym (c .enum-told .given .1))
+returns c = ap (λ (x : Answer). answerReport x .offset) (sym (c .enum-told .given .1))
 
 returns-2 : tie.Need-returns-2
 unfolding answerReport
-returns-2 c = ap (λ (x : Answer). answerReport x .place) (sym (c .before .answer .given .1))
+returns-2 c = ap (λ (x : Answer). answerReport x .offset) (sym (c .before .answer .given .1))
 
 pub read-offset-spec : {M : Type 1} → statement M
 read-offset-spec = tie.close (tie.spec enum-told enum-known-answer returns returns-2)

@@ -3,24 +3,24 @@
 use Prim.Native.Nat.{ℕ, _+_, _*_, _-_, _<_, _≤_}
 use native.Mathlib.Omega.{arith}
 use borrow.Author.Needs.{needs}
 use Rattle.der.specs.Element.{cursor}
 use Rattle.der.specs.Opaque.{run, elementsAt}
 use Rattle.der.proofs.Choices.{choices}
 use Rattle.der.proofs.Opaque.{Running, running-start, running-end, running-refused, running-on}
 use Rattle.der.proofs.Opaque.{step-falls, step-long, step-fits, run-fits, opaque-step}
 use Rattle.der.proofs.Promised.{promised, all-bytes}
 use Rattle.der.specs.Report.{checkedReport}
 use borrow.Fn.Kinds.{In}
 use borrow.Fn.PlainCycle.{Measures, is, falls, and}
-use Rattle.tree.proofs.elements.Reads as elements
-use Rattle.tree.proofs.elements.Kinds as elements-kinds
-use Rattle.tree.proofs.+elements+opaque.Lts-elements as elements-lts
-use Rattle.tree.proofs.opaque.Reads as opaque
-use Rattle.tree.proofs.opaque.Kinds as opaque-kinds
-use Rattle.tree.proofs.+elements+opaque.Lts-opaque as opaque-lts
+use Rattle.der.proofs.Cursor.elements.Reads as elements
+use Rattle.der.proofs.Cursor.elements.Kinds as elements-kinds
+use Rattle.der.proofs.Cursor.+elements+opaque.Lts-elements as elements-lts
+use Rattle.der.proofs.Cursor.opaque.Reads as opaque
+use Rattle.der.proofs.Cursor.opaque.Kinds as opaque-kinds
+use Rattle.der.proofs.Cursor.+elements+opaque.Lts-opaque as opaque-lts
 use Rattle.der.proofs.Cursor.element.Reads as element-reads
-use Rattle.tree.proofs.+elements+opaque.{statement}
-use Rattle.tree.proofs.+elements+opaque.Tie.{close}
+use Rattle.der.proofs.Cursor.+elements+opaque.{statement}
+use Rattle.der.proofs.Cursor.+elements+opaque.Tie.{close}
 
 abbrev μ-elements : Measures 1 elements-kinds.ps ℕ
 μ-elements κs a = 2 * a .1 .1 .0 + 1

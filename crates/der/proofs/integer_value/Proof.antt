@@ -1,11 +1,11 @@
 -- Three digits more behind the first, each bound 256 times the last.
 use Prim.Native.Nat.{_<_}
 use native.Mathlib.Omega.{arith}
 use Rattle.der.proofs.Content.{andDigit-next}
 use Rattle.der.specs.Content.{integerValue}
 use borrow.Author.Needs.{needs}
-use Rattle.content.proofs.integer_value.Statement.{statement}
-use Rattle.content.proofs.integer_value.Tie as tie
+use Rattle.der.proofs.integer_value.Statement.{statement}
+use Rattle.der.proofs.integer_value.Tie as tie
 
 add-second : tie.Need-add-second
 add-second c = search needs

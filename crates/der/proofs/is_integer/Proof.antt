@@ -1,9 +1,9 @@
 -- The body is judged as the definition tests it.
 use Rattle.der.proofs.Choices.{choices}
 use Rattle.der.specs.Content.{integerBody}
 use borrow.Author.Needs.{needs}
-use Rattle.content.proofs.is_integer.Statement.{statement}
-use Rattle.content.proofs.is_integer.Tie as tie
+use Rattle.der.proofs.is_integer.Statement.{statement}
+use Rattle.der.proofs.is_integer.Tie as tie
 
 returns : tie.Need-returns
 unfolding integerBody

@@ -1,11 +1,11 @@
 -- One digit more. The number is below 2^23, so a digit behind it fits.
 use Rattle.der.proofs.Choices.{choices}
 use native.Mathlib.Omega.{arith}
 use mir.Facts.{fits-widen}
 use Rattle.der.specs.Content.{andDigit}
 use borrow.Author.Needs.{needs}
-use Rattle.content.proofs.and_digit.Statement.{statement}
-use Rattle.content.proofs.and_digit.Tie as tie
+use Rattle.der.proofs.and_digit.Statement.{statement}
+use Rattle.der.proofs.and_digit.Tie as tie
 
 shared-slice-read-digit : tie.Need-shared-slice-read-digit
 shared-slice-read-digit c = search needs

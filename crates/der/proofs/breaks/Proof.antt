@@ -1,8 +1,8 @@
 -- A byte breaks a part by the definition's own test.
 use Rattle.der.proofs.Choices.{choices, told-true, told-false}
 use borrow.Author.Needs.{needs}
-use Rattle.content.proofs.breaks.Statement.{statement}
-use Rattle.content.proofs.breaks.Tie as tie
+use Rattle.der.proofs.breaks.Statement.{statement}
+use Rattle.der.proofs.breaks.Tie as tie
 
 returns : tie.Need-returns
 returns c = search (choices, told-true, told-false) depth 14

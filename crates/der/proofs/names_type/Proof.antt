@@ -1,8 +1,8 @@
 -- The bytes from the first to the last are all of them.
 use borrow.Author.Needs.{needs}
 use Rattle.der.proofs.Content.{whole-body}
-use Rattle.content.proofs.names_type.Statement.{statement}
-use Rattle.content.proofs.names_type.Tie as tie
+use Rattle.der.proofs.names_type.Statement.{statement}
+use Rattle.der.proofs.names_type.Tie as tie
 
 is-identifier-requires : tie.Need-is-identifier-requires
 is-identifier-requires c κs = search needs

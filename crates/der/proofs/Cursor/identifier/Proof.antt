@@ -1,12 +1,12 @@
 -- The body is judged once the element was found; it lies within the bytes.
 use Rattle.der.proofs.Choices.{choices, told-true, told-false}
 use Rattle.der.proofs.Placed.{expected-inside}
 use Rattle.der.proofs.Promised.{promised, all-bytes}
 use Rattle.der.specs.Report.{elementReport}
 use Rattle.der.specs.Content.{identifierAt}
 use borrow.Author.Needs.{needs}
-use Rattle.content.proofs.identifier.Statement.{statement}
-use Rattle.content.proofs.identifier.Tie as tie
+use Rattle.der.proofs.Cursor.identifier.Statement.{statement}
+use Rattle.der.proofs.Cursor.identifier.Tie as tie
 
 expect-requires : tie.Need-expect-requires
 expect-requires c κs = search needs

@@ -1,13 +1,13 @@
 -- The body is judged, and its number read, once the element was found; it lies within the bytes.
 use Rattle.der.proofs.Choices.{choices, told-true, told-false}
 use Rattle.der.proofs.Placed.{expected-inside}
 use Rattle.der.proofs.Content.{integer-at}
 use Rattle.der.proofs.Promised.{promised, all-bytes}
 use Rattle.der.specs.Report.{integerReport}
 use Rattle.der.specs.Content.{integerAt}
 use borrow.Author.Needs.{needs}
-use Rattle.content.proofs.integer.Statement.{statement}
-use Rattle.content.proofs.integer.Tie as tie
+use Rattle.der.proofs.Cursor.integer.Statement.{statement}
+use Rattle.der.proofs.Cursor.integer.Tie as tie
 
 expect-requires : tie.Need-expect-requires
 expect-requires c κs = search needs

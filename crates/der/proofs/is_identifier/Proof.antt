@@ -4,10 +4,10 @@ use mathlib.Core.Path.{_≡_}
 use Prim.Native.Nat.{_-_}
 use native.Mathlib.Omega.{arith}
 use lib.Seq.{slice}
 use Rattle.der.proofs.Content.{parts-empty, parts-start, parts-break, parts-more, parts-end}
 use Rattle.der.specs.Content.{identifierBody, parts}
-use Rattle.content.proofs.is_identifier.Statement.{statement}
-use Rattle.content.proofs.is_identifier.Tie as tie
+use Rattle.der.proofs.is_identifier.Statement.{statement}
+use Rattle.der.proofs.is_identifier.Tie as tie
 
 abbrev Inv-loop : tie.InvT-loop
 Inv-loop s from to begins₀ i₀ begins i = identifierBody (slice from to s) ≡ parts begins (slice i to s)

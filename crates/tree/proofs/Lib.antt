@@ -1,1 +1,0 @@
--- Nothing beside the functions' proofs: the laws are those of `der`.
