@@ -66,19 +66,19 @@ static inline int any_element(struct walker *w, struct cursor *c, struct element
     if (p[0] == 0 || (p[0] & 0x1F) == 0x1F)
         return refuse(w, P12_TAG_FORM, c->at);
     if (left == 1)
-        return refuse(w, P12_MISSING, c->at);
+        return refuse(w, P12_OVERRUN, c->at);
     length = p[1];
     if (length >= 0x80) {
         if (length == 0x81) {
             if (left < 3)
-                return refuse(w, P12_MISSING, c->at);
+                return refuse(w, P12_OVERRUN, c->at);
             length = p[2];
             if (length < 0x80)
                 return refuse(w, P12_LENGTH_FORM, c->at);
             header = 3;
         } else if (length == 0x82) {
             if (left < 4)
-                return refuse(w, P12_MISSING, c->at);
+                return refuse(w, P12_OVERRUN, c->at);
             length = (uint32_t)p[2] << 8 | p[3];
             if (length < 0x100)
                 return refuse(w, P12_LENGTH_FORM, c->at);
@@ -88,7 +88,7 @@ static inline int any_element(struct walker *w, struct cursor *c, struct element
         }
     }
     if (length > left - header)
-        return refuse(w, P12_MISSING, c->at);
+        return refuse(w, P12_OVERRUN, c->at);
     w->elements++;
     e->at = c->at;
     e->tag = p[0];

@@ -47,7 +47,7 @@ extern "C" {
 enum p12_number {
     /* No refusal: the call did its work. */
     P12_OK = 0,
-    /* An element is missing, or it runs past the end of its parent. */
+    /* Something is missing: an element is due, and its parent has no byte left. */
     P12_MISSING = 1,
     /* The tag is 00, or its low five bits are all ones. */
     P12_TAG_FORM = 2,
@@ -75,6 +75,8 @@ enum p12_number {
     P12_NO_CERTIFICATE = 13,
     /* More than one certificate belongs to the key. */
     P12_MORE_CERTIFICATES = 14,
+    /* A header or a length runs past the end of the element around it, or of the file. */
+    P12_OVERRUN = 15,
     /* No refusal: the bag has no more attributes. */
     P12_DONE = 255
 };
@@ -165,13 +167,13 @@ struct p12_table {
 static inline uint32_t *p12_words(struct p12_table *table) { return (uint32_t *)table; }
 
 /* Reads a file into a table of at least P12_TABLE_WORDS words; words behind them stay as they
- * were. 10 for fewer words, before the file is looked at. 1 to 9 for a file that is refused, with
- * the offset of the fault in *offset; the table is then empty: every word of it is 0. In every
- * other case *offset is 0. */
+ * were. 10 for fewer words, before the file is looked at. 1 to 9 or 15 for a file that is refused,
+ * with the offset of the fault in *offset; the table is then empty: every word of it is 0. In
+ * every other case *offset is 0. */
 uint8_t p12_read(const uint8_t *file, size_t length, uint32_t *table, size_t words, size_t *offset);
 
 /* The range of the MAC input in a file: the body of the outer OCTET STRING, without its header.
- * 1 to 9 for a file that is refused, with the range 0..0. */
+ * 1 to 9 or 15 for a file that is refused, with the range 0..0. */
 uint8_t p12_mac_input(const uint8_t *file, size_t length, size_t *start, size_t *end);
 
 /* Writes the file of a table into a buffer, and its length into *written. 11 if the table has

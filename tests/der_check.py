@@ -148,7 +148,7 @@ def store(count, rng):
         words = line.replace(",", "").split()
         group = f"{case[0]} {kind(line)}" + (" none" if line == "tag 00" else "")
         group += f" {min(int(words[1]), 2)}" if words[0] == "passed" else ""
-        if words[0] == "refused" and words[1] in "1234" and int(words[3]) in case[2:4]:
+        if words[0] == "refused" and words[1] in ("1", "2", "3", "4", "15") and int(words[3]) in case[2:4]:
             group = f"first header {words[1]}"  # one group for all calls
         if len(case[4]) <= 40:
             groups[group][f"{written(*case)} = {line}"] = None

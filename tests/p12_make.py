@@ -56,7 +56,7 @@ def bench():
                         "183010300B0609608648016503040201 0401AA040155020101")
     many = bytes.fromhex("303102010330110609 2A864886F70D010701 A0040402300030"
                          "193010300B0609608648016503040201 0401AA04015502020800")
-    raw = [("a", m, None), ("b", b"", (1, 0)), ("c", m[:-1], (1, 0)),
+    raw = [("a", m, None), ("b", b"", (1, 0)), ("c", m[:-1], (15, 0)),
            ("d", m + b"\x00", (6, 47)),
            ("e", m[:4] + b"\x04" + m[5:], (5, 2)),
            ("f", one, (5, 47)), ("g", many, None),
@@ -174,7 +174,7 @@ def limits():
         yield case("opaque_17_" + name, make(depth(17)), 8, "at", "deep")
     deep = E(0x80, b"x", length=b"\x02", name="deep")   # runs past its parent
     yield case("opaque_17_past_parent",
-               pfx(plain(key(value=depth(17, deep)))), 1, "at", "deep")
+               pfx(plain(key(value=depth(17, deep)))), 15, "at", "deep")
     yield case("opaque_17_primitive", pfx(plain(key(
         value=depth(17, E(0x04, name="deep"))))), 8, "at", "deep")
     for size in (65535, 65536):
@@ -222,16 +222,16 @@ def choices():
 
 def ends():
     """Headers and bodies that run past their parent, and tag forms."""
-    for data, number in ((b"\x30", 1), (b"\x1F", 2), (b"\x00", 2), (b"\x04", 1),
-                         (b"\x30\x81", 1), (b"\x30\x82\x01", 1),
-                         (b"\x30\x82\x00", 1), (b"\x30\x80", 3),
-                         (b"\x30\x83", 3), (b"\x30\x05", 1), (b"\x04\x01", 1),
+    for data, number in ((b"\x30", 15), (b"\x1F", 2), (b"\x00", 2), (b"\x04", 15),
+                         (b"\x30\x81", 15), (b"\x30\x82\x01", 15),
+                         (b"\x30\x82\x00", 15), (b"\x30\x80", 3),
+                         (b"\x30\x83", 3), (b"\x30\x05", 15), (b"\x04\x01", 15),
                          (b"\x04\x00", 4), (b"\xBF\x80", 2)):
         yield case("file_" + data.hex(), loose(data), number, "at", "loose")
     # the last due element of a parent is only these bytes
     for parent in ("mac", "info", "attribute", "enc.algorithm", "key.value"):
-        for data, number in ((b"\x04", 1), (b"\x7F", 2), (b"\x06\x82\x01", 1),
-                             (b"\x04\x02\x00", 1)):
+        for data, number in ((b"\x04", 15), (b"\x7F", 2), (b"\x06\x82\x01", 15),
+                             (b"\x04\x02\x00", 15)):
             def change(tree):
                 parts = tree.get(parent).parts
                 del parts[2 if parent == "info" else 1:]
@@ -244,7 +244,7 @@ def ends():
         def change(tree):
             node = tree.get(name)
             node.length = length_of(len(node.body()) + 1)
-        yield altered("past_parent_" + name, change, 1, "at", name)
+        yield altered("past_parent_" + name, change, 15, "at", name)
 
 
 def tags():
@@ -296,7 +296,7 @@ def leftovers():
         yield altered("left_element_" + name, change, 6, "at", "loose")
     # in a list there is no last element: the next one has a wrong tag or form
     for name in ("auth", "contents", "cert.set", "nested.contents"):
-        for data, number in ((b"\x05\x00", 4), (b"\x00", 2), (b"\x30", 1)):
+        for data, number in ((b"\x05\x00", 4), (b"\x00", 2), (b"\x30", 15)):
             def change(tree):
                 tree.get(name).parts.append(loose(data))
             yield altered("list_%s_%s" % (name, data.hex()), change, number,

@@ -14,7 +14,7 @@
                                             them as tests/files/source-N.p12
 
 A frame is the file's length in four bytes, high first, and its bytes. The last lines count the
-kinds of file and the answers; it fails unless every number from 1 to 9 is among them.
+kinds of file and the answers; it fails unless 15 and every number from 1 to 9 are among them.
 """
 import pathlib
 import random
@@ -27,10 +27,10 @@ import p12_sources
 import p12_tools
 import stored
 from models import pairs, reader, runs
-from models.numbers import MISSING, TOO_LONG
+from models.numbers import MISSING, OVERRUN, TOO_LONG
 from stored import FILES
 
-NUMBERS = range(MISSING, TOO_LONG + 1)  # those that reading gives
+NUMBERS = (*range(MISSING, TOO_LONG + 1), OVERRUN)  # those that reading gives
 SEED, DAMAGED = 1, 200  # as many damaged and as many mended ones
 EACH = 6  # damaged copies of each stored file
 EACH_PAIRED = 2  # damaged copies of each file for pairs

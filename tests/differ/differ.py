@@ -7,7 +7,7 @@ Files, in order: the stored ones, every prefix of the samples, then random ones 
 random ones, by the time that the script has run in all or by their number; without either there are 5,000. --made-only leaves the others out.
 
 Where a record differs, or the driver stops, it prints the file in hex, the seed and the first lines that differ, and gives exit status 1. So it does
-where library and models agree on a file's number but its maker says another, and if a number from 1 to 9 never occurred, but with --made-only.
+where library and models agree on a file's number but its maker says another, and if 15 or a number from 1 to 9 never occurred, but with --made-only.
 """
 import argparse
 import itertools
@@ -23,12 +23,12 @@ sys.dont_write_bytecode = True
 import files                # noqa: E402  (sets the path of the models)
 import expect               # noqa: E402
 from models import reader   # noqa: E402
-from models.numbers import MISSING, OK, TOO_LONG   # noqa: E402
+from models.numbers import MISSING, OK, OVERRUN, TOO_LONG   # noqa: E402
 
 BATCH_FILES, BATCH_BYTES = 2000, 8_000_000      # for one run of the driver
 MADE = 5000
 TIMEOUT = 900       # seconds for a batch
-NUMBERS = range(MISSING, TOO_LONG + 1)          # those that reading gives
+NUMBERS = (*range(MISSING, TOO_LONG + 1), OVERRUN)          # those that reading gives
 
 
 class Differs(Exception):

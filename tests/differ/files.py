@@ -20,7 +20,7 @@ import damage               # noqa: E402
 import generate             # noqa: E402
 import p12_parts            # noqa: E402
 from models import reader   # noqa: E402
-from models.numbers import MISSING, OK, TOO_LONG, TOO_MANY   # noqa: E402
+from models.numbers import MISSING, OK, OVERRUN, TOO_LONG, TOO_MANY   # noqa: E402
 from stored import FILES, TEST_FILES   # noqa: E402
 
 SEED = 1
@@ -113,7 +113,7 @@ def allowed(name):
         return (OK,)
     if how.startswith("past the limit of "):
         return (TOO_LONG,) if how.endswith(" bytes") else (TOO_MANY,)
-    refused = range(MISSING, TOO_LONG + 1)
+    refused = (*range(MISSING, TOO_LONG + 1), OVERRUN)
     return refused if " bytes of " in name else (OK, *refused)      # a prefix, or anything
 
 

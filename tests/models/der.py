@@ -5,7 +5,7 @@
 docs/TESTS.md has the letters of the calls and the lines. tests/der_check.py holds the model
 against answers by hand, and the program over `der` against the model.
 """
-from models.numbers import CONTENT, LEFT_OVER, LENGTH_FORM, MISSING, OTHER_TAG, TAG_FORM, TOO_MANY
+from models.numbers import CONTENT, LEFT_OVER, LENGTH_FORM, MISSING, OTHER_TAG, OVERRUN, TAG_FORM, TOO_MANY
 
 class Refused(Exception):
     """Its arguments: the number and the offset."""
@@ -23,15 +23,15 @@ def element(data, at, end, due=None):
     need(byte_left(data, at, end), MISSING, end)
     tag = data[at]
     need(tag != 0x00 and tag & 0x1F != 0x1F, TAG_FORM, at)
-    need(at + 1 < end, MISSING, at)
+    need(at + 1 < end, OVERRUN, at)
     first = data[at + 1]
     need(first <= 0x7F or first in (0x81, 0x82), LENGTH_FORM, at)
     more = 0 if first <= 0x7F else first - 0x80  # length bytes after the first
     body = at + 2 + more
-    need(body <= end, MISSING, at)
+    need(body <= end, OVERRUN, at)
     size = int.from_bytes(data[at + 2:body], "big") if more else first
     need(size >= (0, 0x80, 0x100)[more], LENGTH_FORM, at)  # no shorter form could give it
-    need(body + size <= end, MISSING, at)
+    need(body + size <= end, OVERRUN, at)
     need(due is None or tag == due, OTHER_TAG, at)
     return tag, body, body + size
 

@@ -19,8 +19,8 @@ from types import SimpleNamespace
 
 from models.numbers import (
     ATTRIBUTE_ROWS, BAG_ROWS, CONTENT, FILE_BYTES, LEFT_OVER, LENGTH_FORM,
-    LEVELS, MISSING, NOT_SERVED, OPAQUE_LEVELS, OTHER_TAG, SAFE_ROWS, TAG_FORM,
-    TOO_LONG, TOO_MANY)
+    LEVELS, MISSING, NOT_SERVED, OPAQUE_LEVELS, OTHER_TAG, OVERRUN, SAFE_ROWS,
+    TAG_FORM, TOO_LONG, TOO_MANY)
 
 INTEGER, OCTET_STRING, IDENTIFIER = 0x02, 0x04, 0x06
 SEQUENCE, SET, CONTEXT_0, CIPHERTEXT = 0x30, 0x31, 0xA0, 0x80
@@ -81,7 +81,7 @@ class Parent:
         need(tag != 0x00 and tag & 0x1F != 0x1F, TAG_FORM, at)
         start, size = self.length(at)
         end = start + size
-        need(end <= self.end, MISSING, at)  # "must end within its parent (1)"
+        need(end <= self.end, OVERRUN, at)  # "a header or body that runs past its parent"
         # "another tag than the one due"
         need(due in (None, tag), OTHER_TAG, at)
         self.table.opened += 1
@@ -90,15 +90,15 @@ class Parent:
 
     def length(self, at):
         # "Length: 00..7F; 81 with 80..FF; 82 with 0100..FFFF. Any other form
-        # is refused (3)". "any other header with a byte missing is 1"
-        need(at + 1 < self.end, MISSING, at)
+        # is refused (3)". Any other header with a byte missing runs past its parent
+        need(at + 1 < self.end, OVERRUN, at)
         first = self.data[at + 1]
         if first < 0x80:
             return at + 2, first
         # "a first length byte 80, or 83 and above, is 3 at once"
         need(first in (0x81, 0x82), LENGTH_FORM, at)
         start = at + 2 + (first - 0x80)
-        need(start <= self.end, MISSING, at)
+        need(start <= self.end, OVERRUN, at)
         size = int.from_bytes(self.data[at + 2:start], "big")
         # "a length that a shorter form could give"
         need(size >= (0x80 if first == 0x81 else 0x100), LENGTH_FORM, at)

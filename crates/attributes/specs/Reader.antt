@@ -22,7 +22,7 @@ use Rattle.attributes.specs.declared.Attributes.{Attributes}
 abbrev pub position : List AttributeRow → ℕ → ℕ → ℕ → Item → Position
 position rows count bag at item = record { rows = rows; count = count; bag = bag; at = at; item = item }
 
--- Rule 5.21: 11 and 12 have the offset 0.
+-- Rule 5.37: 11 and 12 have the offset 0.
 unfoldable pub refusedBy : ℕ → Position
 refusedBy number = position (replicate attributeRows noAttribute) 0 0 0 (Item.Refused (fault number 0))
 

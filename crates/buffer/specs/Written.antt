@@ -19,7 +19,7 @@ pub record Outcome : Type 0 where
   pub answer : Written
   pub buffer : List ℕ
 
--- Rules 5.21, 6.10: a refusal has the offset 0, and the whole buffer is as before.
+-- Rules 5.37, 6.10: a refusal has the offset 0, and the whole buffer is as before.
 abbrev pub refusal : ℕ → List ℕ → Outcome
 refusal number buffer = record { answer = Written.Refused (fault number 0); buffer = buffer }
 

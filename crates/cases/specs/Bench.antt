@@ -100,11 +100,11 @@ named a b = 0x30 ∷ 0x26 ∷ (slice 2 24 m ++ (0x30 ∷ 0x0E ∷ 0x30 ∷ 0x09 
 
 unfoldable pub benchCases : List Case
 benchCases =
-    -- (a) M; (b) empty file: 1 at 0; (c) M without its last byte: 1 at 0; (d) M and one byte 00: 6
+    -- (a) M; (b) empty file: 1 at 0; (c) M without its last byte: 15 at 0; (d) M and one byte 00: 6
     -- at 47; (e) M with version 4: 5 at 2
     case m (accepted tableOfM)
     ∷ case [] (refusal 1 0)
-    ∷ case (take 46 m) (refusal 1 0)
+    ∷ case (take 46 m) (refusal 15 0)
     ∷ case (m ++ (0x00 ∷ [])) (refusal 6 47)
     ∷ case (take 4 m ++ (0x04 ∷ drop 5 m)) (refusal 5 2)
     -- (f) iterations 1 spelled out: 5 at 47; (g) 2048: accepted, 51 bytes, 14 elements

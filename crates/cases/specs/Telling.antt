@@ -50,7 +50,7 @@ slipCases =
     -- the attributes of a bag in a nested bag taken for the nested bag's
     ∷ case (nestedKey 0x1E) (accepted (tableOf nestedRows (digested (range 100 109) (range 109 109) (range 111 112) (range 114 115) 1)))
     -- a nested body bounded by the file in place of its parent
-    ∷ case (nestedKey 0x1F) (refusal 1 60)
+    ∷ case (nestedKey 0x1F) (refusal 15 60)
     ∷ []
 
 -- ---- parts of files
@@ -159,6 +159,18 @@ unfoldable pub numberCases : List Case
 numberCases =
     everyKind
     ∷ sixteenLevels
+    -- 1: nothing in the PFX. 15: a header that is cut after the tag, after 81, after 82 00, and at
+    -- the end of its parent; a body that ends past its parent
+    ∷ case empty (refusal 1 2)
+    ∷ case (0x30 ∷ []) (refusal 15 0)
+    ∷ case (0x30 ∷ 0x81 ∷ []) (refusal 15 0)
+    ∷ case (0x30 ∷ 0x82 ∷ 0x00 ∷ []) (refusal 15 0)
+    ∷ case (0x30 ∷ 0x01 ∷ 0x02 ∷ 0x01 ∷ 0x03 ∷ []) (refusal 15 2)
+    ∷ case (0x30 ∷ 0x02 ∷ 0x02 ∷ 0x01 ∷ 0x03 ∷ []) (refusal 15 2)
+    -- 2 and 3: a wrong form in the last byte, of a tag and of a length
+    ∷ case (0x00 ∷ []) (refusal 2 0)
+    ∷ case (0x30 ∷ 0x80 ∷ []) (refusal 3 0)
+    ∷ case (0x30 ∷ 0x83 ∷ []) (refusal 3 0)
     -- 4: another tag than 80 for the ciphertext; an x509Certificate that is not an OCTET STRING
     ∷ case (holding (sealed 0x00 0x01 (0x81 ∷ 0x01 ∷ 0x09 ∷ []))) (refusal 4 62)
     ∷ case (holding (plain (bag 0x03 (x509 null)))) (refusal 4 76)

@@ -15,7 +15,9 @@ use Rattle.der.specs.Octets.{lengthOctets, tlv, number, integerOctets, I
 use Rattle.der.specs.Span.{Bytes}
 use Rattle.der.specs.Tree.{Tree, Trees, encode, encodes, Formed, AllFormed, siblings}
 use Rattle.der.specs.Follows.{HeaderIs, IdentifierIs, IntegerIs, OpaqueIs, RunIs}
+use Rattle.der.specs.Overrun.{ByteLeft, RunsPast}
 use Rattle.der.specs.declared.Cursor.{Cursor}
+use Rattle.der.specs.declared.Element.{Element}
 use Rattle.der.specs.declared.Element.the-variants.{Found}
 use Rattle.der.specs.declared.Integer.the-variants.{Value}
 use Rattle.der.specs.declared.Checked.{Checked}
@@ -43,6 +45,18 @@ pub header-bounds : (s : List ℕ) (c : Cursor) (t : ℕ) (b n : Cursor) → ele
 header-bounds s c t b n e =
     let p = placed.found s c (elementAt s c) t b n refl e in
     (p .body .past, p .body .size, p .body .within, p .inside)
+
+-- An element is refused by 1 exactly if no byte is left in its parent, and then at the parent's end.
+pub missing-iff : (s : List ℕ) (c : Cursor) (p : ℕ)
+    → elementAt s c ≡ Element.Refused (fault 1 p) ↔ (ByteLeft s c → ⊥) × (p ≡ c .end)
+missing-iff s c p = (header.missing-sound s c p, header.missing-complete s c p)
+
+-- It is refused by 15 exactly if a byte is left, the form of the tag is taken, and either the header
+-- has a byte missing and its first length byte, if there is one, is 81 or 82, or the header is whole,
+-- the form of its length is taken, and the body ends past the parent; and then at the tag.
+pub overrun-iff : (s : List ℕ) (c : Cursor) (p : ℕ) → Bytes s
+    → elementAt s c ≡ Element.Refused (fault 15 p) ↔ RunsPast s c × (p ≡ c .at)
+overrun-iff s c p bytes = (header.overrun-sound s c p bytes, header.overrun-complete s c p)
 
 pub expect-iff : (due : ℕ) (s : List ℕ) (c : Cursor) (t : ℕ) (b n : Cursor)
     → expectAt due s c ≡ Found t b n ↔ (t ≡ due) × (elementAt s c ≡ Found t b n)

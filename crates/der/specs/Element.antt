@@ -17,7 +17,7 @@ use Rattle.der.specs.declared.Extent.the-variants.{Body}
 abbrev pub cursor : ℕ → ℕ → Cursor
 cursor a e = record { at = a; end = e }
 
--- Rule 5.20: a refusal's number and its offset
+-- Rule 5.36: a refusal's number and its offset
 abbrev pub fault : ℕ → ℕ → Fault
 fault n p = record { number = n; offset = p }
 
@@ -38,27 +38,27 @@ tagAt s c = if noByteLeft s c then noTag else getD s (c .at) 0
 unfoldable pub finishAt : Cursor → Checked
 finishAt c = if ltb (c .at) (c .end) then Checked.Refused (fault leftOver (c .at)) else Checked.Passed 0 c
 
--- Rule 2.4: the body ends within its parent, or the element is refused (1) at the offset of its tag
+-- Rule 2.4: the body ends within its parent, or the element is refused (15) at the offset of its tag
 unfoldable pub within : ℕ → ℕ → ℕ → ℕ → Extent
 within at start size end =
     if ltb end (start + size) then Extent.Refused (fault overrun at) else
     Body (cursor start (start + size))
 
--- Rule 2.3: 81 and a byte 80..FF. Rule 5.17: a header with a byte missing is 1
+-- Rule 2.3: 81 and a byte 80..FF. Rule 5.33: a header with a byte missing is 15
 unfoldable pub oneOctet : List ℕ → ℕ → ℕ → Extent
 oneOctet s at end =
     if leb end (at + 2) then Extent.Refused (fault overrun at) else
     if ltb (getD s (at + 2) 0) 0x80 then Extent.Refused (fault lengthForm at) else
     within at (at + 3) (getD s (at + 2) 0) end
 
--- Rule 2.3: 82 and two bytes 0100..FFFF. Rule 5.17: a header with a byte missing is 1
+-- Rule 2.3: 82 and two bytes 0100..FFFF. Rule 5.33: a header with a byte missing is 15
 unfoldable pub twoOctets : List ℕ → ℕ → ℕ → Extent
 twoOctets s at end =
     if leb end (at + 3) then Extent.Refused (fault overrun at) else
     if eqb (getD s (at + 2) 0) 0 then Extent.Refused (fault lengthForm at) else
     within at (at + 4) (getD s (at + 2) 0 * 256 + getD s (at + 3) 0) end
 
--- Rule 2.3: the three forms of a length; every other one is refused (3). Rule 5.17: a first byte
+-- Rule 2.3: the three forms of a length; every other one is refused (3). Rule 5.33: a first byte
 -- 80, or 83 and above, is refused at once, also where it is the last byte.
 unfoldable pub extentAt : List ℕ → ℕ → ℕ → Extent
 extentAt s at end =
@@ -74,7 +74,7 @@ onExtent (Extent.Refused f) bad good = bad f
 onExtent (Body b) bad good = good b
 
 -- Rule 2.2: the tag 00, and every tag with its low five bits all set, is refused (2). Then the
--- length, then the body's end (Rule 5.16). Where no byte is left, 1 at the parent's end (Rule 5.1).
+-- length, then the body's end (Rule 5.32). Where no byte is left, 1 at the parent's end (Rule 5.1).
 unfoldable pub elementAt : List ℕ → Cursor → Element
 elementAt s c =
     if noByteLeft s c then Element.Refused (fault missing (c .end)) else

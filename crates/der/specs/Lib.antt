@@ -14,3 +14,4 @@ pub mod Octets
 pub mod Tree
 pub mod Span
 pub mod Follows
+pub mod Overrun

@@ -4,21 +4,21 @@
 use mathlib.Core.List.{List, [], _∷_}
 use Prim.Native.Nat.{ℕ}
 use Rattle.der.specs.Named.{Named}
-use Rattle.der.specs.Numbers.{missing, overrun, tagForm, lengthForm, otherTag, content, leftOver, tooMany}
+use Rattle.der.specs.Numbers.{missing, tagForm, lengthForm, otherTag, content, leftOver, tooMany, overrun}
 use Rattle.der.specs.Numbers.{integerTag, octetStringTag, identifierTag, sequenceTag, setTag, contextTag}
 use Rattle.der.specs.Numbers.{lengthBound, integerBound, opaqueLevels}
 
--- Rules 5.1 to 5.6, 5.8
+-- Rules 5.1 to 5.6, 5.8, 5.15
 unfoldable pub namedRefusals : List (ℕ × ℕ)
 namedRefusals =
     (missing, 1)
-    ∷ (overrun, 1)
     ∷ (tagForm, 2)
     ∷ (lengthForm, 3)
     ∷ (otherTag, 4)
     ∷ (content, 5)
     ∷ (leftOver, 6)
     ∷ (tooMany, 8)
+    ∷ (overrun, 15)
     ∷ []
 
 -- Rules 2.7 (levels of an opaque element), 2.3 (lengths are below 10000, hex)

@@ -1,14 +1,10 @@
--- The numbers that the definitions name: refusals (Rules 5.1 to 5.6 and 5.8), tags and bounds
--- (section 2 of the rules).
+-- The numbers that the definitions name: refusals (Rules 5.1 to 5.6, 5.8 and 5.15), tags and
+-- bounds (section 2 of the rules).
 use Prim.Native.Nat.{ℕ}
 
 -- Rule 5.1: an element is due, and no byte is left in its parent
 abbrev pub missing : ℕ
 missing = 1
-
--- Rule 5.1: a header or a body runs past its parent
-abbrev pub overrun : ℕ
-overrun = 1
 
 -- Rule 5.2: the form of a tag
 abbrev pub tagForm : ℕ
@@ -33,6 +29,10 @@ leftOver = 6
 -- Rule 5.8: a level or a row too many
 abbrev pub tooMany : ℕ
 tooMany = 8
+
+-- Rule 5.15: a header or a body runs past its parent
+abbrev pub overrun : ℕ
+overrun = 15
 
 -- Rule 2.2: 00 is no tag, so it marks that there is none
 abbrev pub noTag : ℕ

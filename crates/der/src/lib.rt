@@ -14,10 +14,8 @@ ghost use Rattle.der.specs.Opaque.{opaqueAt, elementsAt};
 ghost use Rattle.der.specs.Report.{elementReport, checkedReport, integerReport};
 ghost use Rattle.der.specs.Span.{Bytes};
 
-// The numbers of the refusals (Rules 5.1 to 5.6 and 5.8).
+// The numbers of the refusals (Rules 5.1 to 5.6, 5.8 and 5.15).
 pub const MISSING: u8 = 1;
-
-pub const OVERRUN: u8 = 1;
 
 pub const TAG_FORM: u8 = 2;
 
@@ -30,6 +28,8 @@ pub const CONTENT: u8 = 5;
 pub const LEFT_OVER: u8 = 6;
 
 pub const TOO_MANY: u8 = 8;
+
+pub const OVERRUN: u8 = 15;
 
 // In place of a tag where there is none: 00 is no tag (Rule 2.2).
 pub const NO_TAG: u8 = 0x00;

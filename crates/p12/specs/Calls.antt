@@ -74,7 +74,7 @@ put o = called (writtenNumber (o .answer)) (o .buffer) 0
 
 -- `p12_read`: 10 where the memory has fewer words than a table, whatever the file. Else the memory
 -- begins with the words of the reading's table, and those behind them are as before; so for every
--- file, since a refused one has the empty table (Rule 5.22).
+-- file, since a refused one has the empty table (Rule 5.38).
 unfoldable pub readCall : List ℕ → List ℕ → Called
 readCall f memory =
     if ltb (length memory) tableWords then called shortBuffer memory 0 else

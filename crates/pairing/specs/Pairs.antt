@@ -61,7 +61,7 @@ unfoldable pub matching : List ℕ → IdentityRow → ℕ → List IdentityRow 
 matching s k n [] = []
 matching s k n (r ∷ rs) = if pairsWith s k r then n ∷ matching s k (n + 1) rs else matching s k (n + 1) rs
 
--- Rule 5.21: 11 to 14 have the offset 0
+-- Rule 5.37: 11 to 14 have the offset 0
 abbrev pub refusedBy : ℕ → Paired
 refusedBy number = Paired.Refused (fault number 0)
 

@@ -79,14 +79,14 @@ pub opaque-elements : (x : List ℕ) (o : Opaques x) → opaqueCount x ≡ eleme
 opaque-elements = corollaries.opaque-elements
 
 -- The table of an accepted file is sound over the file, and its rows past the counts are empty
--- (Rule 5.24).
+-- (Rule 5.40).
 pub accepted-table-sound : (f : List ℕ) → Bytes f → IsAccepted f → Sound (tableFrom f) f
 accepted-table-sound = corollaries.accepted-sound
 
 pub rows-past-counts-empty : (f : List ℕ) → Bytes f → IsAccepted f → tableFrom f ≡ tableOf (rowsIn (tableFrom f)) (tableFrom f .mac)
 rows-past-counts-empty = corollaries.accepted-table
 
--- Rule 5.22: the table of a refused file is empty.
+-- Rule 5.38: the table of a refused file is empty.
 pub refused-table-empty : (f : List ℕ) (fault : Fault) → readFile f .answer ≡ Answer.Refused fault → tableFrom f ≡ emptyTable
 refused-table-empty = refusals.refused-empty
 

@@ -1,7 +1,7 @@
 -- Where a reading is in a file (Rule 4.2: every range lies within its parent's body). Elements
 -- fill the body of their parent one behind another, from the file down, and each range is the body
 -- of its element, or a whole opaque one. The rows are those of the table, and the fields that a
--- row's kind doesn't use are 0 or none (Rule 5.24).
+-- row's kind doesn't use are 0 or none (Rule 5.40).
 use mathlib.Core.Path.{_≡_}
 use mathlib.Core.List.{List, [], _∷_, _++_}
 use Prim.Native.Nat.{ℕ, _+_}

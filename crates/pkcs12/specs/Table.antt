@@ -83,7 +83,7 @@ table safes i bags j attributes k m input count =
       elements = count;
     }
 
--- Rule 5.24: rows past the counts are 0 or none
+-- Rule 5.40: rows past the counts are 0 or none
 unfoldable pub tableOf : Rows → Mac → Table
 tableOf st m =
     table
@@ -97,7 +97,7 @@ tableOf st m =
     (st .input)
     (st .count)
 
--- Rule 5.23: in the empty table every count, number and range end is 0
+-- Rule 5.39: in the empty table every count, number and range end is 0
 unfoldable pub emptyTable : Table
 emptyTable = tableOf noRows noMac
 

@@ -1,6 +1,6 @@
 -- What reading does with any bytes, front to back: the first fault with its number and offset, or
 -- the whole table (sections 3 and 5 of the rules). A part that is met is entered at once
--- (Rule 5.15); each parent is finished when its last element was met.
+-- (Rule 5.31); each parent is finished when its last element was met.
 use mathlib.Core.Bool.{Bool, true, false}
 use mathlib.Core.List.{List, [], _∷_, _++_}
 use Prim.Native.Nat.{ℕ, zero, suc, _+_, _-_}
@@ -113,7 +113,7 @@ typedAt is-certificate s c =
     (λ z h. PartsAt.Found (parts (rangeOf i) noRange (range (v .at) (f .at))) (k + 3) n))))))
 
 -- Rule 3.10: EncryptedContentInfo, a SEQUENCE of the identifier data, an AlgorithmIdentifier, and
--- tag 80 with the ciphertext. Rules 5.7, 5.19: no ciphertext is 7 at the parent's end
+-- tag 80 with the ciphertext. Rules 5.7, 5.35: no ciphertext is 7 at the parent's end
 unfoldable pub encryptedInfoAt : List ℕ → Cursor → PartsAt
 encryptedInfoAt s c =
     onElement (expectAt sequenceTag s c) PartsAt.Refused
@@ -193,7 +193,7 @@ attributeAt s number st c =
     onChecked (finishAt e) Refused
     (λ z g. Went (addAttribute st (attributeRow number (rangeOf i) (rangeOf v)) (k + 3)) n)))))
 
--- Rule 3.13: optionally a SET of attributes; any other byte there is 6 (Rule 5.18)
+-- Rule 3.13: optionally a SET of attributes; any other byte there is 6 (Rule 5.34)
 unfoldable pub setAt : List ℕ → ℕ → Rows → Cursor → Walked
 setAt s number st c =
     if eqb (tagAt s c) setTag then
@@ -350,7 +350,7 @@ onMac (MacAt.Refused f) bad good = bad f
 onMac (MacAt.Found x m n) bad good = good x m n
 
 -- Rule 3.22: iterations are 1 where they are absent, else 2 to 2,147,483,647; any other byte there
--- is 6 (Rule 5.18)
+-- is 6 (Rule 5.34)
 unfoldable pub iterationsAt : List ℕ → Parts → Range → ℕ → Cursor → MacAt
 iterationsAt s p salt k c =
     if eqb (tagAt s c) integerTag then
@@ -374,7 +374,7 @@ macAt s c =
 abbrev pub refused : Fault → Reading
 refused f = record { answer = Answer.Refused f; table = emptyTable }
 
--- the parts of a PFX behind its version; no MacData is 7 at the parent's end (Rules 5.7, 5.19)
+-- the parts of a PFX behind its version; no MacData is 7 at the parent's end (Rules 5.7, 5.35)
 unfoldable pub bodyAt : List ℕ → Cursor → Reading
 bodyAt s c =
     onWalked (outerAt s c) refused
@@ -400,6 +400,6 @@ pfxAt s c =
     onInteger (integerAt s b) refused
     (λ v m. if eqb v pfxVersion then alone n (bodyAt s m) else refused (fault content (b .at))))
 
--- Rule 5.15: 9 is tested first, then the file is read front to back
+-- Rule 5.31: 9 is tested first, then the file is read front to back
 unfoldable pub readFile : List ℕ → Reading
 readFile s = if ltb fileBytes (length s) then refused (fault tooLong 0) else pfxAt s (wholeOf s)

@@ -10,7 +10,7 @@ use crate::row::Mac;
 use crate::row::SafeRow;
 use range::Range;
 
-// In a table that reading returns the rows past the counts are empty (Rules 5.24, 6.7). `elements` is
+// In a table that reading returns the rows past the counts are empty (Rules 5.40, 6.7). `elements` is
 // the number of elements in the file.
 pub struct Table {
     pub safes: [SafeRow; SAFE_ROWS],

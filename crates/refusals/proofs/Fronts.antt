@@ -25,7 +25,7 @@ Longer r (right t k size x) h = h ≡ right t k size (x ++ r)
 fitting-longer : (r : List ℕ) (t k size : ℕ) (x : List ℕ) → Longer r (fitting t k size x) (fitting t k size (x ++ r))
 unfolding fitting
 fitting-longer r t k size x =
-    by-lt (λ y. Longer r y (if ltb (length (x ++ r)) size then wrong 1 else right t k size (x ++ r))) _ _ (length x)
+    by-lt (λ y. Longer r y (if ltb (length (x ++ r)) size then wrong 15 else right t k size (x ++ r))) _ _ (length x)
     size (λ h. tt)
     (λ h. rw (le-ltb (length (x ++ r)) size (omega (arith, length-append x r))) refl)
 
@@ -38,7 +38,7 @@ pub header-longer : (f r : List ℕ) → Longer r (header f) (header (f ++ r))
 unfolding header sized after81 after82
 header-longer [] r = tt
 header-longer (t ∷ []) r = longer-test r (eqb t 0) (wrong 2) _ _ _ tt
-    (longer-test r (eqb (t % 0x20) 0x1F) (wrong 2) (wrong 1) (wrong 2) _ tt tt)
+    (longer-test r (eqb (t % 0x20) 0x1F) (wrong 2) (wrong 15) (wrong 2) _ tt tt)
 header-longer (t ∷ n ∷ x) r =
     longer-test r (eqb t 0) (wrong 2) _ (wrong 2) _ tt
     (longer-test r (eqb (t % 0x20) 0x1F) (wrong 2) _ (wrong 2) _ tt
@@ -57,17 +57,18 @@ header-longer (t ∷ n ∷ x) r =
 
 -- ---- a header in a list that is cut before the element's end
 
--- the whole list f ++ r has the header c, and f less than its element: then f is cut
+-- the whole list f ++ r has the header c, and f, which isn't empty, less than its element: then the
+-- element runs past the end of f
 abbrev Cut : List ℕ → Header → Header → Type 0
 Cut f h (wrong n) = Unit {0}
-Cut f h (right t k size x) = length f < k + size → h ≡ wrong 1
+Cut f h (right t k size x) = 0 < length f → length f < k + size → h ≡ wrong 15
 
 fitting-cut : (f : List ℕ) (t k size : ℕ) (x r : List ℕ) → length f ≡ k + length x
     → Cut f (fitting t k size x) (fitting t k size (x ++ r))
 unfolding fitting
 fitting-cut f t k size x r e =
-    by-lt (Cut f (if ltb (length x) size then wrong 1 else right t k size x)) _ _ (length (x ++ r)) size (λ h. tt)
-    (λ h l. rw (lt-ltb (length x) size (omega arith)) refl)
+    by-lt (Cut f (if ltb (length x) size then wrong 15 else right t k size x)) _ _ (length (x ++ r)) size (λ h. tt)
+    (λ h k l. rw (lt-ltb (length x) size (omega arith)) refl)
 
 cut-test : (f : List ℕ) (u : Bool) (a b c d : Header) → Cut f a c → Cut f b d
     → Cut f (if u then a else b) (if u then c else d)
@@ -75,16 +76,21 @@ cut-test f true a b c d p q = p
 cut-test f false a b c d p q = q
 
 -- whatever the header of the whole, nothing but a byte that is missing is wrong with these
-cut-short : (f : List ℕ) (c : Header) → Cut f (wrong 1) c
+cut-short : (f : List ℕ) (c : Header) → Cut f (wrong 15) c
 cut-short f (wrong n) = tt
-cut-short f (right t k size x) = λ l. refl
+cut-short f (right t k size x) = λ h l. refl
+
+-- of the empty list nothing is said
+cut-empty : (h c : Header) → Cut [] h c
+cut-empty h (wrong n) = tt
+cut-empty h (right t k size x) = λ e l. absurd (omega arith)
 
 pub header-cut : (f r : List ℕ) → Cut f (header f) (header (f ++ r))
 unfolding header sized after81 after82
-header-cut [] r = cut-short [] (header r)
+header-cut [] r = cut-empty (header []) (header r)
 header-cut (t ∷ []) r =
     cut-test (t ∷ []) (eqb t 0) (wrong 2) _ (wrong 2) _ tt
-    (cut-test (t ∷ []) (eqb (t % 0x20) 0x1F) (wrong 2) (wrong 1) (wrong 2) _ tt (cut-short (t ∷ []) (sized t r)))
+    (cut-test (t ∷ []) (eqb (t % 0x20) 0x1F) (wrong 2) (wrong 15) (wrong 2) _ tt (cut-short (t ∷ []) (sized t r)))
 header-cut (t ∷ n ∷ x) r =
     cut-test (t ∷ n ∷ x) (eqb t 0) (wrong 2) _ (wrong 2) _ tt
     (cut-test (t ∷ n ∷ x) (eqb (t % 0x20) 0x1F) (wrong 2) _ (wrong 2) _ tt
@@ -188,9 +194,9 @@ after-stops rule made f b r after w =
     let e : 0 + w .head + w .size ≡ length f = omega (arith, w .long) in
     rw (q, x, y, w .body (left (0 + w .head + w .size) (b ∷ r)), e) refl
 
-pub cut-stops : (rule : Rule) (made : Made) (f r : List ℕ) (after : Left) → Whole rule made (f ++ r) → 0 < length r
-    → closed (constructed 0x30 rule made (left 0 f)) after ≡ stops 1 0
+pub cut-stops : (rule : Rule) (made : Made) (f r : List ℕ) (after : Left) → Whole rule made (f ++ r)
+    → 0 < length f → 0 < length r → closed (constructed 0x30 rule made (left 0 f)) after ≡ stops 15 0
 unfolding element
-cut-stops rule made f r after w h =
+cut-stops rule made f r after w k h =
     let c : Cut f (header f) (right 0x30 (w .head) (w .size) (w .rest)) = rw (w .is-header) at (header-cut f r) in
-    rw (c (omega (arith, w .long, length-append f r))) refl
+    rw (c k (omega (arith, w .long, length-append f r))) refl

@@ -1,7 +1,8 @@
--- Wherever the account stops, the number is 1 to 8 and the offset is at most the end of what was
--- left; where it goes on, it goes to the same end. Proved of the one rule for elements and of each
--- way to put rules together, then of the grammar.
+-- Wherever the account stops, the number is 1 to 8 or 15 and the offset is from the first byte of
+-- what was left up to its end; where it goes on, it goes on from there to the same end. Proved of the
+-- one rule for elements and of each way to put rules together, then of the grammar.
 use mathlib.Core.Bool.{Bool, true, false}
+use mathlib.Core.Logic.{_⊎_, inl, inr}
 use mathlib.Core.Path.{_≡_, refl}
 use mathlib.Core.List.{List, [], _∷_}
 use Prim.Native.Nat.{ℕ, zero, suc, _+_, _*_, _/_, _%_, _≤_, _<_}
@@ -26,54 +27,63 @@ use Rattle.refusals.specs.Grammar.{macData, pfx}
 
 -- ---- the header
 
--- a header that is right lies in front of the bytes after it, and the body in these
-abbrev pub OfHeader : List ℕ → Header → Type 0
-OfHeader x (wrong n) = (1 ≤ n) × (n ≤ 3)
-OfHeader x (right t h size y) = (h + length y ≡ length x) × (size ≤ length y)
+-- the numbers of refusals within a file
+abbrev pub Number : ℕ → Type 0
+Number n = ((1 ≤ n) × (n ≤ 8)) ⊎ (n ≡ 15)
 
-fitting-of : (x : List ℕ) (t h size : ℕ) (y : List ℕ) → h + length y ≡ length x → OfHeader x (fitting t h size y)
+-- a header that is right has two bytes at least and lies in front of the bytes after it, and the
+-- body in these
+abbrev pub OfHeader : List ℕ → Header → Type 0
+OfHeader x (wrong n) = Number n
+OfHeader x (right t h size y) = (h + length y ≡ length x) × (size ≤ length y) × (2 ≤ h)
+
+fitting-of : (x : List ℕ) (t h size : ℕ) (y : List ℕ) → h + length y ≡ length x → 2 ≤ h
+    → OfHeader x (fitting t h size y)
 unfolding fitting
-fitting-of x t h size y e = by-lt (OfHeader x) _ _ (length y) size (λ k. (omega arith, omega arith)) (λ k. (e, k))
+fitting-of x t h size y e m = by-lt (OfHeader x) _ _ (length y) size (λ k. inr refl) (λ k. (e, k, m))
 
 pub header-of : (x : List ℕ) → OfHeader x (header x)
 unfolding header sized after81 after82
-header-of [] = (omega arith, omega arith)
+header-of [] = inl (omega arith, omega arith)
 header-of (t ∷ []) =
-    by-test (OfHeader (t ∷ [])) _ _ (eqb t 0) (λ e. (omega arith, omega arith))
-    (λ e. by-test (OfHeader (t ∷ [])) _ _ (eqb (t % 0x20) 0x1F) (λ f. (omega arith, omega arith))
-    (λ f. (omega arith, omega arith)))
+    by-test (OfHeader (t ∷ [])) _ _ (eqb t 0) (λ e. inl (omega arith, omega arith))
+    (λ e. by-test (OfHeader (t ∷ [])) _ _ (eqb (t % 0x20) 0x1F) (λ f. inl (omega arith, omega arith)) (λ f. inr refl))
 header-of (t ∷ n ∷ x) =
-    by-test Good _ _ (eqb t 0) (λ e. (omega arith, omega arith))
-    (λ e. by-test Good _ _ (eqb (t % 0x20) 0x1F) (λ f. (omega arith, omega arith))
-    (λ f. by-test Good _ _ (ltb n 0x80) (λ g. fitting-of (t ∷ n ∷ x) t 2 n x (omega arith))
+    by-test Good _ _ (eqb t 0) (λ e. inl (omega arith, omega arith))
+    (λ e. by-test Good _ _ (eqb (t % 0x20) 0x1F) (λ f. inl (omega arith, omega arith))
+    (λ f. by-test Good _ _ (ltb n 0x80) (λ g. fitting-of (t ∷ n ∷ x) t 2 n x (omega arith) (omega arith))
     (λ g. by-test Good _ _ (eqb n 0x81) (λ h. one x)
-    (λ h. by-test Good _ _ (eqb n 0x82) (λ i. two x) (λ i. (omega arith, omega arith))))))
+    (λ h. by-test Good _ _ (eqb n 0x82) (λ i. two x) (λ i. inl (omega arith, omega arith))))))
   where
     Good : Header → Type 0
     Good h = OfHeader (t ∷ n ∷ x) h
 
     one : (y : List ℕ) → OfHeader (t ∷ n ∷ y) (after81 t y)
-    one [] = (omega arith, omega arith)
+    one [] = inr refl
     one (a ∷ y) =
-        by-test (OfHeader (t ∷ n ∷ a ∷ y)) _ _ (ltb a 0x80) (λ g. (omega arith, omega arith))
-        (λ g. fitting-of (t ∷ n ∷ a ∷ y) t 3 a y (omega arith))
+        by-test (OfHeader (t ∷ n ∷ a ∷ y)) _ _ (ltb a 0x80) (λ g. inl (omega arith, omega arith))
+        (λ g. fitting-of (t ∷ n ∷ a ∷ y) t 3 a y (omega arith) (omega arith))
 
     two : (y : List ℕ) → OfHeader (t ∷ n ∷ y) (after82 t y)
-    two [] = (omega arith, omega arith)
-    two (a ∷ []) = (omega arith, omega arith)
+    two [] = inr refl
+    two (a ∷ []) = inr refl
     two (a ∷ b ∷ y) =
-        by-test (OfHeader (t ∷ n ∷ a ∷ b ∷ y)) _ _ (eqb a 0) (λ g. (omega arith, omega arith))
-        (λ g. fitting-of (t ∷ n ∷ a ∷ b ∷ y) t 4 (a * 0x100 + b) y (omega arith))
+        by-test (OfHeader (t ∷ n ∷ a ∷ b ∷ y)) _ _ (eqb a 0) (λ g. inl (omega arith, omega arith))
+        (λ g. fitting-of (t ∷ n ∷ a ∷ b ∷ y) t 4 (a * 0x100 + b) y (omega arith) (omega arith))
 
 -- ---- rules
 
--- an account within what ends at e
-abbrev pub Kept : ℕ → Account → Type 0
-Kept e (stops n p) = (1 ≤ n) × (n ≤ 8) × (p ≤ e)
-Kept e (goes m l) = l .offset + length (l .bytes) ≡ e
+-- an account within what is left from b up to e
+abbrev pub Kept : ℕ → ℕ → Account → Type 0
+Kept b e (stops n p) = Number n × (b ≤ p) × (p ≤ e)
+Kept b e (goes m l) = (b ≤ l .offset) × (l .offset + length (l .bytes) ≡ e)
+
+kept-from : (b c e : ℕ) (a : Account) → b ≤ c → Kept c e a → Kept b e a
+kept-from b c e (stops n p) h k = (k .0, omega (arith, k .1), k .2)
+kept-from b c e (goes m l) h k = (omega (arith, k .0), k .1)
 
 pub record Keeps (rule : Rule) : Type 0 where
-  pub kept : (made : Made) (l : Left) → Kept (l .offset + length (l .bytes)) (rule made l)
+  pub kept : (made : Made) (l : Left) → Kept (l .offset) (l .offset + length (l .bytes)) (rule made l)
 
 -- a body is judged by a number that a refusal may have
 pub record Judges (judge : List ℕ → ℕ) : Type 0 where
@@ -88,25 +98,27 @@ none-or : {A : Type 0} (P : A → Type 0) (x : List ℕ) (none some : A) → (x 
 none-or P [] none some f g = f refl
 none-or P (b ∷ x) none some f g = g (omega arith)
 
-pub closed-kept : (m e : ℕ) (a : Account) (after : Left) → m ≤ e → Kept m a → after .offset + length (after .bytes) ≡ e
-    → Kept e (closed a after)
-closed-kept m e (stops n p) after h k q = (k .0, k .1, omega (arith, k .2))
-closed-kept m e (goes made l) after h k q =
-    none-or (Kept e) (l .bytes) (goes made after) (stops 6 (l .offset)) (λ z. q)
-    (λ z. (omega arith, omega arith, omega arith))
+-- a body that is left from c up to m lies within what is left from b up to e
+pub closed-kept : (b c m e : ℕ) (a : Account) (after : Left) → b ≤ c → m ≤ e → Kept c m a → b ≤ after .offset
+    → after .offset + length (after .bytes) ≡ e → Kept b e (closed a after)
+closed-kept b c m e (stops n p) after g h k f q = (k .0, omega (arith, k .1), omega (arith, k .2))
+closed-kept b c m e (goes made l) after g h k f q =
+    none-or (Kept b e) (l .bytes) (goes made after) (stops 6 (l .offset)) (λ z. (f, q))
+    (λ z. (inl (omega arith, omega arith), omega (arith, k .0), omega (arith, k .1)))
 
-allowed-kept : (n offset e : ℕ) (made : Made) (after : Left) → n ≤ 8 → offset ≤ e → after .offset + length (after .bytes)
-    ≡ e → Kept e (allowed n offset made after)
-allowed-kept zero offset e made after h k q = q
-allowed-kept (suc n) offset e made after h k q = (omega arith, h, k)
+allowed-kept : (n offset e : ℕ) (made : Made) (after : Left) → n ≤ 8 → offset ≤ after .offset
+    → after .offset + length (after .bytes) ≡ e → Kept offset e (allowed n offset made after)
+allowed-kept zero offset e made after h k q = (k, q)
+allowed-kept (suc n) offset e made after h k q = (inl (omega arith, h), omega arith, omega arith)
 
-inside-kept : (content : Content) → KeepsIn content → (offset e : ℕ) (made : Made) (body after : Left) → offset ≤ e
-    → body .offset + length (body .bytes) ≤ e
-    → after .offset + length (after .bytes) ≡ e → Kept e (inside content offset made body after)
-inside-kept (walked rule) k offset e made body after h i q = closed-kept (body .offset + length (body .bytes)) e
-    (rule made body) after i (k .kept made body) q
-inside-kept (judged judge) k offset e made body after h i q = allowed-kept (judge (body .bytes)) offset e made after
-    (k .bound (body .bytes)) h q
+inside-kept : (content : Content) → KeepsIn content → (offset e : ℕ) (made : Made) (body after : Left)
+    → offset ≤ body .offset → body .offset + length (body .bytes) ≤ e → offset ≤ after .offset
+    → after .offset + length (after .bytes) ≡ e → Kept offset e (inside content offset made body after)
+inside-kept (walked rule) k offset e made body after h i g q =
+    closed-kept offset (body .offset) (body .offset + length (body .bytes)) e (rule made body) after h i
+    (k .kept made body) g q
+inside-kept (judged judge) k offset e made body after h i g q =
+    allowed-kept (judge (body .bytes)) offset e made after (k .bound (body .bytes)) g q
 
 pub element-keeps : (due : ℕ → Bool) (full : Made → Bool) (content : ℕ → Content) → ((t : ℕ) → KeepsIn (content t))
     → Keeps (element due full content)
@@ -114,37 +126,42 @@ unfolding element
 element-keeps due full content k = record { kept = λ made l. go made l (header (l .bytes)) (header-of (l .bytes)) }
   where
     go : (made : Made) (l : Left) (x : Header) → OfHeader (l .bytes) x
-        → Kept (l .offset + length (l .bytes)) (onHeader x (λ n. stops n (l .offset)) (λ t h size y.
+        → Kept (l .offset) (l .offset + length (l .bytes)) (onHeader x (λ n. stops n (l .offset)) (λ t h size y.
         if due t then
         if full made then stops 8 (l .offset) else
         inside (content t) (l .offset) made (left (l .offset + h) (take size y))
         (left (l .offset + h + size) (drop size y)) else
         stops 4 (l .offset)))
-    go made l (wrong n) q = (q .0, omega (arith, q .1), omega arith)
+    go made l (wrong n) q = (q, omega arith, omega arith)
     go made l (right t h size y) q =
-        by-test (Kept (l .offset + length (l .bytes))) _ _ (due t)
+        by-test (Kept (l .offset) (l .offset + length (l .bytes))) _ _ (due t)
         (λ z.
-        by-test (Kept (l .offset + length (l .bytes))) _ _ (full made) (λ w. (omega arith, omega arith, omega arith))
+        by-test (Kept (l .offset) (l .offset + length (l .bytes))) _ _ (full made)
+        (λ w. (inl (omega arith, omega arith), omega arith, omega arith))
         (λ w.
         inside-kept (content t) (k t) (l .offset) (l .offset + length (l .bytes)) made _ _ (omega arith)
-        (omega (arith, length-take-le size y (q .1), q .0, q .1))
+        (omega (arith, length-take-le size y (q .1), q .0, q .1)) (omega arith)
         (omega (arith, length-drop size y, q .0, q .1))))
-        (λ z. (omega arith, omega arith, omega arith))
+        (λ z. (inl (omega arith, omega arith), omega arith, omega arith))
 
-onwards-kept : (e : ℕ) (a : Account) (rule : Rule) → Kept e a → Keeps rule → Kept e (onwards a rule)
-onwards-kept e (stops n p) rule k r = k
-onwards-kept e (goes m l) rule k r = rw k at (r .kept m l)
+onwards-kept : (b e : ℕ) (a : Account) (rule : Rule) → Kept b e a → Keeps rule → Kept b e (onwards a rule)
+onwards-kept b e (stops n p) rule k r = k
+onwards-kept b e (goes m l) rule k r = kept-from b (l .offset) e (rule m l) (k .0) (rw (k .1) at (r .kept m l))
 
 before-keeps : (first second : Rule) → Keeps first → Keeps second → Keeps (first before second)
-before-keeps first second p q = record { kept = λ made l. onwards-kept _ (first made l) second (p .kept made l) q }
+before-keeps first second p q = record { kept = λ made l. onwards-kept _ _ (first made l) second (p .kept made l) q }
+
+-- what is left as it was
+same : (l : Left) → (l .offset ≤ l .offset) × (l .offset + length (l .bytes) ≡ l .offset + length (l .bytes))
+same l = (omega arith, refl)
 
 each-kept : (n : ℕ) (rule : Rule) → Keeps rule → Keeps (eachOf n rule)
 unfolding eachOf
-each-kept zero rule k = record { kept = λ made l. refl }
+each-kept zero rule k = record { kept = λ made l. same l }
 each-kept (suc n) rule k =
     record {
-      kept = λ made l. none-or (Kept (l .offset + length (l .bytes))) (l .bytes) _ _ (λ z. refl)
-          (λ z. onwards-kept _ (rule made l) (eachOf n rule) (k .kept made l) (each-kept n rule k));
+      kept = λ made l. none-or (Kept (l .offset) (l .offset + length (l .bytes))) (l .bytes) _ _ (λ z. same l)
+          (λ z. onwards-kept _ _ (rule made l) (eachOf n rule) (k .kept made l) (each-kept n rule k));
     }
 
 each-keeps : (rule : Rule) → Keeps rule → Keeps (each rule)
@@ -152,22 +169,22 @@ each-keeps rule k = record { kept = λ made l. each-kept (length (l .bytes)) rul
 
 any-keeps : (rule : Rule) → Keeps rule → Keeps (ifAny rule)
 any-keeps rule k = record {
-  kept = λ made l. none-or (Kept (l .offset + length (l .bytes))) (l .bytes) _ _ (λ z. refl)
+  kept = λ made l. none-or (Kept (l .offset) (l .offset + length (l .bytes))) (l .bytes) _ _ (λ z. same l)
       (λ z. k .kept made l);
 }
 
 served-keeps : (rule : Rule) → Keeps rule → Keeps (served rule)
 served-keeps rule k =
     record {
-      kept = λ made l. none-or (Kept (l .offset + length (l .bytes))) (l .bytes) _ _
-          (λ z. (omega arith, omega arith, omega arith)) (λ z. k .kept made l);
+      kept = λ made l. none-or (Kept (l .offset) (l .offset + length (l .bytes))) (l .bytes) _ _
+          (λ z. (inl (omega arith, omega arith), omega arith, omega arith)) (λ z. k .kept made l);
     }
 
 tag-keeps : (t : ℕ) (rule : Rule) → Keeps rule → Keeps (ifTag t rule)
 tag-keeps t rule k =
     record {
-      kept = λ made l. by-test (Kept (l .offset + length (l .bytes))) _ _ (firstIs t (l .bytes))
-          (λ e. k .kept made l) (λ e. refl);
+      kept = λ made l. by-test (Kept (l .offset) (l .offset + length (l .bytes))) _ _ (firstIs t (l .bytes))
+          (λ e. k .kept made l) (λ e. same l);
     }
 
 constructed-keeps : (tag : ℕ) (rule : Rule) → Keeps rule → Keeps (constructed tag rule)
@@ -181,7 +198,7 @@ naming-keeps : (tag : ℕ) (judge : List ℕ → ℕ) (next : List ℕ → Rule)
 naming-keeps tag judge next j k =
     record {
       kept = λ made l.
-          onwards-kept _ (primitive tag judge made l) (next (frontBody (l .bytes)))
+          onwards-kept _ _ (primitive tag judge made l) (next (frontBody (l .bytes)))
           (primitive-keeps tag judge j .kept made l) (k (frontBody (l .bytes)));
     }
 
@@ -351,9 +368,12 @@ mac-keeps =
     (before-keeps _ _ (primitive-keeps 0x04 anything judges-anything)
     (tag-keeps 0x02 _ (primitive-keeps 0x02 iterations judges-iterations))))
 
+-- what is in the SEQUENCE of a file, and the whole
+pub body-keeps : Keeps (primitive 0x02 version before outer before served macData)
+body-keeps =
+    before-keeps _ _ (primitive-keeps 0x02 version judges-version)
+    (before-keeps _ _ outer-keeps (served-keeps _ mac-keeps))
+
 pub pfx-keeps : Keeps pfx
 unfolding pfx
-pfx-keeps =
-    constructed-keeps 0x30 _
-    (before-keeps _ _ (primitive-keeps 0x02 version judges-version)
-    (before-keeps _ _ outer-keeps (served-keeps _ mac-keeps)))
+pfx-keeps = constructed-keeps 0x30 _ body-keeps

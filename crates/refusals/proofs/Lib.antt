@@ -12,4 +12,5 @@ pub mod File
 pub mod Kept
 pub mod Fronts
 pub mod Refused
+pub mod Outermost
 pub mod Theorems

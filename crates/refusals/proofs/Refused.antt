@@ -1,5 +1,6 @@
 -- A refusal is where the account stops, and the other way round; and what follows of numbers,
 -- offsets, cut files and bytes after a file.
+use mathlib.Core.Logic.{_⊎_, inl, inr}
 use mathlib.Core.Path.{_≡_, refl, sym, ap, _∙_}
 use mathlib.Core.List.{List, [], _∷_, _++_}
 use Prim.Native.Nat.{ℕ, _+_, _≤_, _<_}
@@ -20,7 +21,7 @@ use Rattle.refusals.specs.Element.{primitive}
 use Rattle.refusals.specs.Bodies.{version}
 use Rattle.refusals.specs.Grammar.{outer, macData, pfx, noneMade, accountOf}
 use Rattle.refusals.proofs.File.{Agreed, file-agrees}
-use Rattle.refusals.proofs.Kept.{Kept, closed-kept, pfx-keeps}
+use Rattle.refusals.proofs.Kept.{Number, Kept, closed-kept, pfx-keeps}
 use Rattle.refusals.proofs.Fronts.{apart, Whole, whole-of, after-stops, cut-stops}
 
 pub refused-stops : (f : List ℕ) (n p : ℕ) → readFile f .answer ≡ Answer.Refused (fault n p) → accountOf f ≡ stops n p
@@ -51,21 +52,21 @@ goes-accepted f m l e = goes-at f m l (readFile f .answer) (accountOf f) (file-a
 -- ---- numbers and offsets
 
 -- the account of a file, by its length
-too-long : (f : List ℕ) → 65535 < length f → accountOf f ≡ stops 9 0
+pub too-long : (f : List ℕ) → 65535 < length f → accountOf f ≡ stops 9 0
 unfolding accountOf
 too-long f h = rw (lt-ltb 65535 (length f) h) refl
 
-not-long : (f : List ℕ) → length f ≤ 65535 → accountOf f ≡ closed (pfx noneMade (left 0 f)) (left (length f) [])
+pub not-long : (f : List ℕ) → length f ≤ 65535 → accountOf f ≡ closed (pfx noneMade (left 0 f)) (left (length f) [])
 unfolding accountOf
 not-long f h = rw (le-ltb 65535 (length f) h) refl
 
-file-kept : (f : List ℕ) → Kept (length f) (closed (pfx noneMade (left 0 f)) (left (length f) []))
+file-kept : (f : List ℕ) → Kept 0 (length f) (closed (pfx noneMade (left 0 f)) (left (length f) []))
 file-kept f =
-    closed-kept (0 + length f) (length f) (pfx noneMade (left 0 f)) (left (length f) []) (omega arith)
-    (pfx-keeps .kept noneMade (left 0 f)) (omega arith)
+    closed-kept 0 0 (0 + length f) (length f) (pfx noneMade (left 0 f)) (left (length f) []) (omega arith)
+    (omega arith) (pfx-keeps .kept noneMade (left 0 f)) (omega arith) (omega arith)
 
-pub refusal-of : (f : List ℕ) (n p : ℕ) → readFile f .answer ≡ Answer.Refused (fault n p) → (1 ≤ n) × (n ≤ 9)
-    × (p ≤ length f)
+pub refusal-of : (f : List ℕ) (n p : ℕ) → readFile f .answer ≡ Answer.Refused (fault n p)
+    → (((1 ≤ n) × (n ≤ 9)) ⊎ (n ≡ 15)) × (p ≤ length f)
 refusal-of f n p e =
     let a = refused-stops f n p e in
     either 65535 (length f)
@@ -73,10 +74,14 @@ refusal-of f n p e =
     let z : stops n p ≡ stops 9 0 = sym a ∙ too-long f h in
     let u : n ≡ 9 = cc in
     let v : p ≡ 0 = cc in
-    (omega arith, omega arith, omega arith))
+    (inl (omega arith, omega arith), omega arith))
     (λ h.
-    let k : Kept (length f) (stops n p) = rw (sym (not-long f h) ∙ a) at (file-kept f) in
-    (k .0, omega (arith, k .1), k .2))
+    let k : Kept 0 (length f) (stops n p) = rw (sym (not-long f h) ∙ a) at (file-kept f) in
+    (wider (k .0), k .2))
+  where
+    wider : Number n → ((1 ≤ n) × (n ≤ 9)) ⊎ (n ≡ 15)
+    wider (inl h) = inl (h .0, omega (arith, h .1))
+    wider (inr h) = inr h
 
 pub long-is-9 : (f : List ℕ) → 65535 < length f → readFile f .answer ≡ Answer.Refused (fault 9 0)
 long-is-9 f h = stops-refused f 9 0 (too-long f h)
@@ -91,8 +96,12 @@ nine-is-long f p e =
     let v : p ≡ 0 = cc in
     (h, v))
     (λ h.
-    let k : Kept (length f) (stops 9 p) = rw (sym (not-long f h) ∙ a) at (file-kept f) in
-    absurd (omega (arith, k .1)))
+    let k : Kept 0 (length f) (stops 9 p) = rw (sym (not-long f h) ∙ a) at (file-kept f) in
+    absurd (not-nine (k .0)))
+  where
+    not-nine : Number 9 → ⊥
+    not-nine (inl h) = omega (arith, h .1)
+    not-nine (inr h) = omega (arith, h)
 
 -- ---- accepted files, cut or with bytes after them
 
@@ -107,15 +116,16 @@ accepted-whole f e =
     whole-of rule noneMade f (left (length f) []) (g .0) (left (length f) [])
     (sym (not-long f (accepted-size f e)) ∙ g .1)
 
-pub cut-refused : (f g r : List ℕ) → IsAccepted g → f ++ r ≡ g → (r ≡ [] → ⊥) → readFile f .answer
-    ≡ Answer.Refused (fault 1 0)
+pub cut-refused : (f g r : List ℕ) → IsAccepted g → f ++ r ≡ g → (f ≡ [] → ⊥) → (r ≡ [] → ⊥)
+    → readFile f .answer ≡ Answer.Refused (fault 15 0)
 unfolding pfx rule
-cut-refused f g [] e q h = absurd (h refl)
-cut-refused f g (b ∷ r) e q h =
-    let w : Whole rule noneMade (f ++ (b ∷ r)) = rw (sym q) at (accepted-whole g e) in
-    stops-refused f 1 0
-    (not-long f (omega (arith, accepted-size g e, ap length q, length-append f (b ∷ r)))
-    ∙ cut-stops rule noneMade f (b ∷ r) (left (length f) []) w (omega arith))
+cut-refused [] g r e q k h = absurd (k refl)
+cut-refused (a ∷ f) g [] e q k h = absurd (h refl)
+cut-refused (a ∷ f) g (b ∷ r) e q k h =
+    let w : Whole rule noneMade ((a ∷ f) ++ (b ∷ r)) = rw (sym q) at (accepted-whole g e) in
+    stops-refused (a ∷ f) 15 0
+    (not-long (a ∷ f) (omega (arith, accepted-size g e, ap length q, length-append (a ∷ f) (b ∷ r)))
+    ∙ cut-stops rule noneMade (a ∷ f) (b ∷ r) (left (length (a ∷ f)) []) w (omega arith) (omega arith))
 
 pub after-refused : (f r : List ℕ) → IsAccepted f → (r ≡ [] → ⊥) → length (f ++ r) ≤ 65535 → readFile (f ++ r) .answer
     ≡ Answer.Refused (fault 6 (length f))

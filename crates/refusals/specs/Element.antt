@@ -41,25 +41,25 @@ abbrev pub onHeader : {A : Type 0} → Header → (ℕ → A) → (ℕ → ℕ �
 onHeader (wrong n) bad good = bad n
 onHeader (right t h size x) bad good = good t h size x
 
--- Rule 2.4: the body ends within its parent, or the element is refused (1)
+-- Rule 2.4: the body ends within its parent, or the element is refused (15)
 unfoldable pub fitting : ℕ → ℕ → ℕ → List ℕ → Header
-fitting t h size x = if ltb (length x) size then wrong 1 else right t h size x
+fitting t h size x = if ltb (length x) size then wrong 15 else right t h size x
 
--- Rule 2.3: 81 and a byte 80..FF. Rule 5.17: a header with a byte missing is 1
+-- Rule 2.3: 81 and a byte 80..FF. Rule 5.33: a header with a byte missing is 15
 unfoldable pub after81 : ℕ → List ℕ → Header
-after81 t [] = wrong 1
+after81 t [] = wrong 15
 after81 t (a ∷ x) = if ltb a 0x80 then wrong 3 else fitting t 3 a x
 
 -- Rule 2.3: 82 and two bytes 0100..FFFF
 unfoldable pub after82 : ℕ → List ℕ → Header
-after82 t [] = wrong 1
-after82 t (a ∷ []) = wrong 1
+after82 t [] = wrong 15
+after82 t (a ∷ []) = wrong 15
 after82 t (a ∷ b ∷ x) = if eqb a 0 then wrong 3 else fitting t 4 (a * 0x100 + b) x
 
--- Rule 2.3: the three forms of a length; every other one is refused (3). Rule 5.17: a first byte
+-- Rule 2.3: the three forms of a length; every other one is refused (3). Rule 5.33: a first byte
 -- 80, or 83 and above, is 3 at once
 unfoldable pub sized : ℕ → List ℕ → Header
-sized t [] = wrong 1
+sized t [] = wrong 15
 sized t (n ∷ x) =
     if ltb n 0x80 then fitting t 2 n x else
     if eqb n 0x81 then after81 t x else
@@ -102,8 +102,8 @@ abbrev pub inside : Content → ℕ → Made → Left → Left → Account
 inside (walked rule) offset made body after = closed (rule made body) after
 inside (judged judge) offset made body after = allowed (judge (body .bytes)) offset made after
 
--- Rule 5.16: form of the tag, form of the length, body within the parent, the tag that is due,
--- space for the row or level, content. Rule 5.20: the offset is that of the tag, which is the
+-- Rule 5.32: form of the tag, form of the length, body within the parent, the tag that is due,
+-- space for the row or level, content. Rule 5.36: the offset is that of the tag, which is the
 -- parent's end where no byte is left.
 unfoldable pub element : (ℕ → Bool) → (Made → Bool) → (ℕ → Content) → Rule
 element due full content made l =
@@ -142,11 +142,11 @@ each rule made l = eachOf (length (l .bytes)) rule made l
 abbrev pub ifAny : Rule → Rule
 ifAny rule made l = whereNone (l .bytes) (goes made l) (rule made l)
 
--- Rule 5.19: 7 in place of 1 where the parent ends exactly there: no ciphertext, no MacData
+-- Rule 5.35: 7 in place of 1 where the parent ends exactly there: no ciphertext, no MacData
 abbrev pub served : Rule → Rule
 served rule made l = whereNone (l .bytes) (stops 7 (l .offset)) (rule made l)
 
--- an element that may be absent, with this tag; any other byte is left over, 6 (Rule 5.18)
+-- an element that may be absent, with this tag; any other byte is left over, 6 (Rule 5.34)
 abbrev pub firstIs : ℕ → List ℕ → Bool
 firstIs t [] = false
 firstIs t (b ∷ x) = eqb b t

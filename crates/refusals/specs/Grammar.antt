@@ -112,7 +112,7 @@ pfx = constructed 0x30 (primitive 0x02 version before outer before served macDat
 abbrev pub noneMade : Made
 noneMade = record { safes = 0; bags = 0; attributes = 0 }
 
--- Rule 5.15: 9 is tested first, then the file is read front to back, each body entered when it is
+-- Rule 5.31: 9 is tested first, then the file is read front to back, each body entered when it is
 -- met. Rule 4.7: one PFX, with no byte after it
 unfoldable pub accountOf : List ℕ → Account
 accountOf f =

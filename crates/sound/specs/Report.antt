@@ -5,7 +5,7 @@ use Rattle.der.specs.Report.{Report, passing, refusing}
 use Rattle.sound.specs.declared.Measured.{Measured}
 use Rattle.sound.specs.declared.Measured.the-variants.{Unsound, Size}
 
--- the size of the file; a table that isn't sound is 11 (Rule 5.11), at 0 (Rule 5.21)
+-- the size of the file; a table that isn't sound is 11 (Rule 5.11), at 0 (Rule 5.37)
 unfoldable pub measuredReport : Measured → Report
 measuredReport (Size n) = passing (n ∷ [])
 measuredReport Unsound = refusing (fault 11 0)

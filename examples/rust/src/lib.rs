@@ -27,7 +27,7 @@ impl Number {
     }
 }
 
-/// A refusal: its number, and the offset in the file for the numbers 1 to 8.
+/// A refusal: its number, and the offset in the file for the numbers 1 to 8 and 15.
 #[derive(Clone, Copy, Debug, PartialEq, Eq)]
 pub struct Refusal {
     pub number: Number,

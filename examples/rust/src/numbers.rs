@@ -26,7 +26,7 @@ pub(crate) const DONE: u8 = 255;
 #[derive(Clone, Copy, Debug, PartialEq, Eq)]
 #[repr(u8)]
 pub enum Number {
-    /// An element is missing, or it runs past the end of its parent.
+    /// Something is missing: an element is due, and its parent has no byte left.
     Missing = 1,
     /// The tag is 00, or its low five bits are all ones.
     TagForm = 2,
@@ -54,10 +54,12 @@ pub enum Number {
     NoCertificate = 13,
     /// More than one certificate belongs to the key.
     MoreCertificates = 14,
+    /// A header or a length runs past the end of the element around it, or of the file.
+    Overrun = 15,
 }
 
 impl Number {
-    pub(crate) const ALL: [Number; 14] = [
+    pub(crate) const ALL: [Number; 15] = [
         Number::Missing,
         Number::TagForm,
         Number::LengthForm,
@@ -72,5 +74,6 @@ impl Number {
         Number::NoRow,
         Number::NoCertificate,
         Number::MoreCertificates,
+        Number::Overrun,
     ];
 }

@@ -74,13 +74,13 @@ fn writes_m_back() {
 #[test]
 fn lists_m() {
     assert_eq!(p12::listing(&M), LISTING);
-    assert_eq!(p12::listing(&M[..46]), "refused 1 at 0\n");
+    assert_eq!(p12::listing(&M[..46]), "refused 15 at 0\n");
 }
 
 #[test]
 fn pairs_keys() {
     assert_eq!(p12::pair_lines(&M), "");
-    assert_eq!(p12::pair_lines(&M[..46]), "refused 1 at 0\n");
+    assert_eq!(p12::pair_lines(&M[..46]), "refused 15 at 0\n");
     assert_eq!(p12::pair_lines(&with_key()), "key bag 0: refused 13\n");
 }
 
@@ -106,7 +106,7 @@ fn refused_reading_leaves_the_empty_table() {
     version_4[4] = 4;
     let longer = [M.as_slice(), &[0]].concat();
     let cases: [(&[u8], Number, usize); 4] =
-        [(&[], Number::Missing, 0), (&M[..46], Number::Missing, 0), (&longer, Number::LeftOver, 47), (&version_4, Number::Content, 2)];
+        [(&[], Number::Missing, 0), (&M[..46], Number::Overrun, 0), (&longer, Number::LeftOver, 47), (&version_4, Number::Content, 2)];
     for (file, number, offset) in cases {
         let mut table = painted();
         assert_eq!(p12::read_into(file, &mut table), refusal(number, offset));
@@ -157,5 +157,5 @@ fn refused_pairs_leave_the_buffer() {
 
 #[test]
 fn refusals_are_told() {
-    assert_eq!(p12::read(&M[..46]).unwrap_err().to_string(), "refused 1 at 0");
+    assert_eq!(p12::read(&M[..46]).unwrap_err().to_string(), "refused 15 at 0");
 }
