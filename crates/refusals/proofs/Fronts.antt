@@ -8,9 +8,9 @@ use native.Mathlib.Omega.{arith}
 use lib.Dec.{ltb, eqb}
 use lib.ListN.{length, take, drop, length-append, length-drop}
 use lib.Seq.{take-append-le, drop-append-le}
-use borrow.Author.Tests.{lt-ltb, le-ltb, eqb-true}
+use borrow.Author.Tests.{lt-ltb, le-ltb}
 use Rattle.der.specs.Choice.{if_then_else_}
-use Rattle.der.proofs.Choices.{by-test, by-lt}
+use Rattle.der.proofs.Choices.{by-lt, by-eq}
 use Rattle.refusals.specs.Element.{Left, left, Made, Account, stops, goes, Rule, Header, wrong, right, onHeader}
 use Rattle.refusals.specs.Element.{fitting, after81, after82, sized, header, whereNone, closed, Content, walked}
 use Rattle.refusals.specs.Element.{inside, element, is, never, constructed}
@@ -126,6 +126,25 @@ closed-any (goes k b) after m l e = go (b .bytes) e
     go [] q = (cc, λ other. let z : k ≡ m = cc in rw z refl)
     go (y ∷ x) q = apart m l 6 (b .offset) q
 
+-- what the body of a SEQUENCE at 0 comes to, by the sizes of its header and its body
+abbrev pub inBody : Rule → Made → ℕ → ℕ → List ℕ → Account
+inBody rule made h size x = closed (rule made (left (0 + h) (take size x))) (left (0 + h + size) (drop size x))
+
+-- what holds of a wrong header, of another tag and of a body holds of the account of a SEQUENCE at 0
+pub by-sequence : (P : Account → Type 0) (rule : Rule) (made : Made) (f : List ℕ)
+    → ((n : ℕ) → header f ≡ wrong n → P (stops n 0))
+    → P (stops 4 0)
+    → ((h size : ℕ) (x : List ℕ) → header f ≡ right 0x30 h size x → OfHeader f (right 0x30 h size x)
+    → P (inBody rule made h size x))
+    → P (constructed 0x30 rule made (left 0 f))
+unfolding element
+by-sequence P rule made f bad other good = go (header f) refl (header-of f)
+  where
+    go : (x : Header) → header f ≡ x → OfHeader f x
+        → P (onHeader x (λ n. stops n 0) (λ t h size y. if is 0x30 t then inBody rule made h size y else stops 4 0))
+    go (wrong n) e q = bad n e
+    go (right t h size y) e q = by-eq P _ _ t 0x30 (λ z. good h size y (rw z at e) q) (λ z. other)
+
 -- a file of one SEQUENCE: its header, and that its body comes to its end
 pub record Whole (rule : Rule) (made : Made) (f : List ℕ) : Type 0 where
   pub head : ℕ
@@ -144,14 +163,12 @@ none-of (b ∷ x) k m p after l e = apart m l 6 p e
 
 pub whole-of : (rule : Rule) (made : Made) (f : List ℕ) (after : Left) (m : Made) (l : Left)
     → closed (constructed 0x30 rule made (left 0 f)) after ≡ goes m l → Whole rule made f
-unfolding element
-whole-of rule made f after m l = go (header f) refl (header-of f)
+whole-of rule made f after m l =
+    by-sequence (λ a. closed a after ≡ goes m l → Whole rule made f) rule made f (λ n e c. apart m l n 0 c)
+    (λ c. apart m l 4 0 c) (λ h size x e q. ends h size x e (q .0) (q .1) (inBody rule made h size x) refl)
   where
-    inner : ℕ → ℕ → List ℕ → Account
-    inner h size x = closed (rule made (left (0 + h) (take size x))) (left (0 + h + size) (drop size x))
-
     ends : (h size : ℕ) (x : List ℕ) → header f ≡ right 0x30 h size x → h + length x ≡ length f → size ≤ length x
-        → (a : Account) → inner h size x ≡ a → closed a after ≡ goes m l → Whole rule made f
+        → (a : Account) → inBody rule made h size x ≡ a → closed a after ≡ goes m l → Whole rule made f
     ends h size x e p q (stops n k) i c = apart m l n k c
     ends h size x e p q (goes n b) i c =
         let j = closed-any (rule made (left (0 + h) (take size x))) (left (0 + h + size) (drop size x)) n b i in
@@ -167,17 +184,6 @@ whole-of rule made f after m l = go (header f) refl (header-of f)
           over = y;
           body = j .1;
         }
-
-    go : (x : Header) → header f ≡ x → OfHeader f x
-        → closed (onHeader x (λ n. stops n 0) (λ t h size y. if is 0x30 t then inner h size y else stops 4 0)) after
-        ≡ goes m l → Whole rule made f
-    go (wrong n) e q c = apart m l n 0 c
-    go (right t h size y) e q c = tagged (eqb t 0x30) (λ z. eqb-true t 0x30 z) c
-      where
-        tagged : (u : Bool) → (u ≡ true → t ≡ 0x30) → closed (if u then inner h size y else stops 4 0) after
-            ≡ goes m l → Whole rule made f
-        tagged true z k = ends h size y (rw (z refl) at e) (q .0) (q .1) (inner h size y) refl k
-        tagged false z k = apart m l 4 0 k
 
 -- the same file with bytes after it, and one that is cut
 pub after-stops : (rule : Rule) (made : Made) (f : List ℕ) (b : ℕ) (r : List ℕ) (after : Left) → Whole rule made f

@@ -369,7 +369,10 @@ mac-keeps =
     (tag-keeps 0x02 _ (primitive-keeps 0x02 iterations judges-iterations))))
 
 -- what is in the SEQUENCE of a file, and the whole
-pub body-keeps : Keeps (primitive 0x02 version before outer before served macData)
+abbrev pub inPfx : Rule
+inPfx = primitive 0x02 version before outer before served macData
+
+pub body-keeps : Keeps inPfx
 body-keeps =
     before-keeps _ _ (primitive-keeps 0x02 version judges-version)
     (before-keeps _ _ outer-keeps (served-keeps _ mac-keeps))

@@ -1,6 +1,6 @@
 -- A file that is refused at 0 by 1 or 15: by 1 if and only if it is empty, and by 15 if and only if
 -- its outermost element runs past its end.
-use mathlib.Core.Bool.{Bool, true, false}
+use mathlib.Core.Bool.{false}
 use mathlib.Core.Path.{_≡_, refl, sym, _∙_}
 use mathlib.Core.List.{List, [], _∷_}
 use Prim.Native.Nat.{ℕ, _+_, _≤_}
@@ -9,7 +9,6 @@ use lib.Dec.{eqb}
 use lib.ListN.{length, take, drop, length-drop}
 use lib.Seq.{take-length, length-take-le}
 use borrow.Author.Tests.{eqb-false}
-use Rattle.der.specs.Choice.{if_then_else_}
 use Rattle.der.specs.Element.{fault, wholeOf, elementAt}
 use Rattle.der.specs.Content.{bytesOf}
 use Rattle.der.specs.Span.{Bytes}
@@ -20,11 +19,11 @@ use Rattle.der.proofs.Choices.{either}
 use Rattle.der.proofs.Laws.{missing-iff, overrun-iff}
 use Rattle.pkcs12.specs.Walk.{readFile}
 use Rattle.pkcs12.specs.declared.answers.Answer.{Answer}
-use Rattle.refusals.specs.Element.{left, Made, Account, stops, Rule, Header, wrong, right, onHeader, header}
-use Rattle.refusals.specs.Element.{closed, element, is, constructed}
+use Rattle.refusals.specs.Element.{left, Made, stops, Rule, wrong, header, closed, element, constructed}
 use Rattle.refusals.specs.Grammar.{pfx, noneMade}
 use Rattle.refusals.proofs.Headers.{Lies, Same, header-same}
-use Rattle.refusals.proofs.Kept.{OfHeader, header-of, Kept, Keeps, closed-kept, body-keeps}
+use Rattle.refusals.proofs.Kept.{Kept, Keeps, closed-kept, body-keeps}
+use Rattle.refusals.proofs.Fronts.{inBody, by-sequence}
 use Rattle.refusals.proofs.Refused.{refused-stops, stops-refused, too-long, not-long}
 
 -- ---- the header of a file, as the walk reads it
@@ -57,38 +56,27 @@ header-element f n e = go (elementAt f (wholeOf f)) (same-whole f)
 -- ---- a SEQUENCE at 0: where the account stops at 0 by another number than 4, the header is wrong
 
 module _ (rule : Rule) (keeps : Keeps rule) (made : Made) (f : List ℕ) (n : ℕ) (other : eqb 4 n ≡ false) where
-  inner : ℕ → ℕ → List ℕ → Account
-  inner h size y = closed (rule made (left (0 + h) (take size y))) (left (0 + h + size) (drop size y))
-
   -- an account of the body stops past the header
   past-header : (h size : ℕ) (y : List ℕ) → h + length y ≡ length f → size ≤ length y → 2 ≤ h
-      → closed (inner h size y) (left (length f) []) ≡ stops n 0 → ⊥
-  unfolding inner
+      → closed (inBody rule made h size y) (left (length f) []) ≡ stops n 0 → ⊥
   past-header h size y e k m q =
       let t = length-take-le size y k in
       let d = length-drop size y in
-      let body : Kept h (length f) (inner h size y) =
+      let body : Kept h (length f) (inBody rule made h size y) =
       closed-kept h (0 + h) (0 + h + length (take size y)) (length f) (rule made (left (0 + h) (take size y)))
       (left (0 + h + size) (drop size y)) (omega arith) (omega arith) (keeps .kept made (left (0 + h) (take size y)))
       (omega arith) (omega arith) in
       let whole : Kept h (length f) (stops n 0) =
-      rw q at (closed-kept h h (length f) (length f) (inner h size y) (left (length f) []) (omega arith) (omega arith)
-      body (omega arith) (omega arith)) in
+      rw q at (closed-kept h h (length f) (length f) (inBody rule made h size y) (left (length f) []) (omega arith)
+      (omega arith) body (omega arith) (omega arith)) in
       omega (arith, whole .1)
 
   stops-header : closed (constructed 0x30 rule made (left 0 f)) (left (length f) []) ≡ stops n 0 → header f ≡ wrong n
-  unfolding element inner
-  stops-header = go (header f) (header-of f)
-    where
-      go : (x : Header) → OfHeader f x
-          → closed (onHeader x (λ k. stops k 0) (λ t h size y. if is 0x30 t then inner h size y else stops 4 0))
-          (left (length f) []) ≡ stops n 0 → x ≡ wrong n
-      go (wrong k) q e = let z : k ≡ n = cc in rw z refl
-      go (right t h size y) q e = absurd (tagged (is 0x30 t) e)
-        where
-          tagged : (u : Bool) → closed (if u then inner h size y else stops 4 0) (left (length f) []) ≡ stops n 0 → ⊥
-          tagged true k = past-header h size y (q .0) (q .1) (q .2) k
-          tagged false k = let z : 4 ≡ n = cc in eqb-false 4 n other z
+  stops-header =
+      by-sequence (λ a. closed a (left (length f) []) ≡ stops n 0 → header f ≡ wrong n) rule made f
+      (λ k e c. let z : k ≡ n = cc in rw (sym z) e)
+      (λ c. let z : 4 ≡ n = cc in absurd (eqb-false 4 n other z))
+      (λ h size y e q c. absurd (past-header h size y (q .0) (q .1) (q .2) c))
 
 -- ---- the file
 

@@ -16,12 +16,10 @@ use Rattle.pkcs12.specs.Accepted.{IsAccepted}
 use Rattle.pkcs12.specs.declared.answers.Answer.{Answer}
 use Rattle.pkcs12.specs.declared.answers.Answer.the-variants.{Accepted}
 use Rattle.pkcs12.proofs.AcceptedFile.{accepted-size}
-use Rattle.refusals.specs.Element.{Left, left, Made, Account, stops, goes, Rule, closed, _before_, served}
-use Rattle.refusals.specs.Element.{primitive}
-use Rattle.refusals.specs.Bodies.{version}
-use Rattle.refusals.specs.Grammar.{outer, macData, pfx, noneMade, accountOf}
+use Rattle.refusals.specs.Element.{Left, left, Made, Account, stops, goes, closed}
+use Rattle.refusals.specs.Grammar.{pfx, noneMade, accountOf}
 use Rattle.refusals.proofs.File.{Agreed, file-agrees}
-use Rattle.refusals.proofs.Kept.{Number, Kept, closed-kept, pfx-keeps}
+use Rattle.refusals.proofs.Kept.{Number, Kept, closed-kept, inPfx, pfx-keeps}
 use Rattle.refusals.proofs.Fronts.{apart, Whole, whole-of, after-stops, cut-stops}
 
 pub refused-stops : (f : List ℕ) (n p : ℕ) → readFile f .answer ≡ Answer.Refused (fault n p) → accountOf f ≡ stops n p
@@ -105,33 +103,29 @@ nine-is-long f p e =
 
 -- ---- accepted files, cut or with bytes after them
 
--- what is in the SEQUENCE of a file
-rule : Rule
-rule = primitive 0x02 version before outer before served macData
-
-accepted-whole : (f : List ℕ) → IsAccepted f → Whole rule noneMade f
-unfolding pfx rule
+accepted-whole : (f : List ℕ) → IsAccepted f → Whole inPfx noneMade f
+unfolding pfx
 accepted-whole f e =
     let g = accepted-goes f e in
-    whole-of rule noneMade f (left (length f) []) (g .0) (left (length f) [])
+    whole-of inPfx noneMade f (left (length f) []) (g .0) (left (length f) [])
     (sym (not-long f (accepted-size f e)) ∙ g .1)
 
 pub cut-refused : (f g r : List ℕ) → IsAccepted g → f ++ r ≡ g → (f ≡ [] → ⊥) → (r ≡ [] → ⊥)
     → readFile f .answer ≡ Answer.Refused (fault 15 0)
-unfolding pfx rule
+unfolding pfx
 cut-refused [] g r e q k h = absurd (k refl)
 cut-refused (a ∷ f) g [] e q k h = absurd (h refl)
 cut-refused (a ∷ f) g (b ∷ r) e q k h =
-    let w : Whole rule noneMade ((a ∷ f) ++ (b ∷ r)) = rw (sym q) at (accepted-whole g e) in
+    let w : Whole inPfx noneMade ((a ∷ f) ++ (b ∷ r)) = rw (sym q) at (accepted-whole g e) in
     stops-refused (a ∷ f) 15 0
     (not-long (a ∷ f) (omega (arith, accepted-size g e, ap length q, length-append (a ∷ f) (b ∷ r)))
-    ∙ cut-stops rule noneMade (a ∷ f) (b ∷ r) (left (length (a ∷ f)) []) w (omega arith) (omega arith))
+    ∙ cut-stops inPfx noneMade (a ∷ f) (b ∷ r) (left (length (a ∷ f)) []) w (omega arith) (omega arith))
 
 pub after-refused : (f r : List ℕ) → IsAccepted f → (r ≡ [] → ⊥) → length (f ++ r) ≤ 65535 → readFile (f ++ r) .answer
     ≡ Answer.Refused (fault 6 (length f))
-unfolding pfx rule
+unfolding pfx
 after-refused f [] e h k = absurd (h refl)
 after-refused f (b ∷ r) e h k =
     stops-refused (f ++ (b ∷ r)) 6 (length f)
-    (not-long (f ++ (b ∷ r)) k ∙ after-stops rule noneMade f b r (left (length (f ++ (b ∷ r))) [])
+    (not-long (f ++ (b ∷ r)) k ∙ after-stops inPfx noneMade f b r (left (length (f ++ (b ∷ r))) [])
     (accepted-whole f e))
