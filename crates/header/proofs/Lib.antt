@@ -1,0 +1,2 @@
+-- The rules by which the functions follow the definitions.
+pub mod Rules

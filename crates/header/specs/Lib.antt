@@ -1,0 +1,3 @@
+-- The header of an element, byte by byte.
+pub mod Numbers
+pub mod Header

@@ -1,0 +1,3 @@
+-- The rules by which the functions follow the definitions.
+pub mod Rules
+pub mod Taken

@@ -1,0 +1,3 @@
+-- The check of an upload byte by byte.
+pub mod Upload
+pub mod Report

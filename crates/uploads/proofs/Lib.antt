@@ -1,0 +1,6 @@
+-- The laws of the check of an upload.
+pub mod Machine
+pub mod Fed
+pub mod Link
+pub mod Same
+pub mod Grown

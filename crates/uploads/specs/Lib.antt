@@ -1,0 +1,3 @@
+-- What the check of an upload comes to.
+pub mod Whole
+pub mod Same

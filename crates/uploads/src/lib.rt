@@ -1,0 +1,1 @@
+// What the check of an upload comes to: theorems only.
