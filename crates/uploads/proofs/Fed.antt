@@ -5,8 +5,8 @@ use mathlib.Core.List.{List, [], _∷_, _++_}
 use Prim.Native.Nat.{ℕ, zero, suc, _+_, _*_, _-_, _%_, _≤_, _<_}
 use native.Mathlib.Omega.{arith}
 use lib.Dec.{leb, ltb, eqb}
-use lib.ListN.{length, getD, drop}
-use lib.Seq.{drop-cons}
+use lib.ListN.{length, getD, drop, length-drop}
+use lib.Seq.{drop-cons, drop-drop}
 use borrow.Author.Tests.{lt-ltb, le-ltb, le-leb, lt-leb, ltb-true, ltb-false, leb-true, leb-false}
 use Rattle.der.specs.Numbers.{tooMany, overrun, tagForm, lengthForm}
 use Rattle.der.specs.Element.{cursor, fault, elementAt, onElement, onExtent, extentAt, oneOctet, twoOctets, within}
@@ -21,8 +21,8 @@ use Rattle.header.specs.Header.{entering, onTag, onLength, onOne, onFirst, onSe
 use Rattle.header.specs.declared.Due.{Due}
 use Rattle.header.specs.declared.Due.the-variants.{Tag, Length, One, First, Second, Body}
 use Rattle.uploads.specs.Whole.{Tally}
-use Rattle.uploads.proofs.Machine.{State, Failed, Open, Done, top, close, unless, body, enter, pass, apply}
-use Rattle.uploads.proofs.Machine.{step, feed}
+use Rattle.uploads.proofs.Machine.{State, Failed, Open, Done, top, close, passing, unless, body, enter}
+use Rattle.uploads.proofs.Machine.{pass, apply, step, feed}
 
 -- a proof by cases of a test
 pub cases : {P : Type 0} (t : Bool) → (t ≡ true → P) → (t ≡ false → P) → P
@@ -45,6 +45,11 @@ pub fed-byte : (n : ℕ) (st next : State) (b : ℕ) (bs : List ℕ) → step n 
     → feed n st (b ∷ bs) ≡ feed n next bs
 unfolding feed
 fed-byte n st next b bs e = ap (λ x. feed n x bs) e
+
+-- one byte that is refused, then the rest
+pub fed-refused : (n : ℕ) (st : State) (f : Fault) (b : ℕ) (t : List ℕ)
+    → step n st b ≡ Failed f → feed n st (b ∷ t) ≡ Failed f
+fed-refused n st f b t e = fed-byte n st (Failed f) b t e ∙ fed-failed n f t
 
 -- the byte that is due: a tag, the first byte of a length, the byte after 81, the first and the
 -- second after 82, and one of a body that isn't examined
@@ -209,33 +214,42 @@ module _ (n : ℕ) (s : List ℕ) (ends : List ℕ) (tl : Tally) (at : ℕ) (ins
       (λ l. rw l (fed-failed n (fault overrun at) (drop (at + 1) s)))
       (λ l. rw l (rw l at (length-fed (getD s at 0) bytes (leb-false _ _ l))))))))
 
--- a body that isn't examined
-by-unless : (P : State → Type 0) (x y : State) → ((f : Fault) → x ≡ Failed f → P (Failed f)) → P y → P (unless x y)
-by-unless P (Failed f) y p q = p f refl
-by-unless P (Open x ends tl) y p q = q
-by-unless P (Done tl) y p q = q
+-- a body that isn't examined, over any bytes
+pass-byte : (n : ℕ) (ends : List ℕ) (tl : Tally) (i stop b : ℕ)
+    → step n (Open (Body i stop) ends tl) b ≡ passing n ends tl (i + 1) stop
+unfolding step pass
+pass-byte n ends tl i stop b = refl
 
-passed : (n : ℕ) (s : List ℕ) (ends : List ℕ) (tl : Tally) (k i stop : ℕ) → i + suc k ≡ stop → stop ≤ length s
-    → feed n (Open (Body i stop) ends tl) (drop i s) ≡ feed n (close n stop ends tl) (drop stop s)
-unfolding pass
-passed n s ends tl zero i stop e h =
-    rw (one-more s i stop (omega arith) e, fed-body n ends tl i 0, le-ltb (i + 1) stop (omega arith))
-passed n s ends tl (suc k) i stop e h =
-    rw (
-      one-more s i (i + 1) (omega arith) refl,
-      fed-body n ends tl i 0,
-      lt-ltb (i + 1) stop (omega arith),
-    )
-    (passed n s ends tl k (i + 1) stop (omega arith) h)
+pub pass-over : (n : ℕ) (ends : List ℕ) (tl : Tally) (k i stop : ℕ) (t : List ℕ) → i + k ≡ stop → k ≤ length t
+    → feed n (passing n ends tl i stop) t ≡ feed n (close n stop ends tl) (drop k t)
+pass-over n ends tl zero i stop t e h = rw (le-ltb i stop (omega arith))
+pass-over n ends tl (suc k) i stop [] e h = absurd (omega arith)
+pass-over n ends tl (suc k) i stop (b ∷ t) e h =
+    let now = Open (Body i stop) ends tl in
+    let next = passing n ends tl (i + 1) stop in
+    rw (lt-ltb i stop (omega arith))
+    (fed-byte n now next b t (pass-byte n ends tl i stop b)
+    ∙ pass-over n ends tl k (i + 1) stop t (omega arith) (omega arith))
 
+unless-over : (n : ℕ) (ends : List ℕ) (tl : Tally) (k i stop : ℕ) (t : List ℕ) (st : State)
+    → close n stop ends tl ≡ st → i + k ≡ stop → k ≤ length t
+    → feed n (unless st (passing n ends tl i stop)) t ≡ feed n (close n stop ends tl) (drop k t)
+unless-over n ends tl k i stop t (Failed f) s e h =
+    fed-failed n f t ∙ sym (ap (λ x. feed n x (drop k t)) s ∙ fed-failed n f (drop k t))
+unless-over n ends tl k i stop t (Open x es u) s e h = pass-over n ends tl k i stop t e h
+unless-over n ends tl k i stop t (Done u) s e h = pass-over n ends tl k i stop t e h
+
+pub body-over : (n : ℕ) (ends : List ℕ) (tl : Tally) (k i stop : ℕ) (t : List ℕ) → i + k ≡ stop → k ≤ length t
+    → feed n (body n ends tl i stop) t ≡ feed n (close n stop ends tl) (drop k t)
+unfolding body
+body-over n ends tl k i stop t e h = unless-over n ends tl k i stop t (close n stop ends tl) refl e h
+
+-- the same in the bytes of the whole
 pub body-fed : (n : ℕ) (s : List ℕ) (ends : List ℕ) (tl : Tally) (i stop : ℕ) → i ≤ stop → stop ≤ length s
     → feed n (body n ends tl i stop) (drop i s) ≡ feed n (close n stop ends tl) (drop stop s)
-unfolding body
 body-fed n s ends tl i stop h j =
-    by-unless (λ x. feed n x (drop i s) ≡ feed n (close n stop ends tl) (drop stop s)) (close n stop ends tl) _
-    (λ f e. rw e (fed-failed n f (drop i s) ∙ sym (fed-failed n f (drop stop s))))
-    (cases (ltb i stop)
-    (λ k. rw k (passed n s ends tl (stop - i - 1) i stop (omega (arith, ltb-true i stop k)) j))
-    (λ k.
-    let z : i ≡ stop = omega (arith, ltb-false i stop k) in
-    rw (k, z)))
+    let k = stop - i in
+    let e : i + k ≡ stop = omega arith in
+    let z : drop k (drop i s) ≡ drop stop s = drop-drop k i s ∙ ap (λ x. drop x s) e in
+    body-over n ends tl k i stop (drop i s) e (rw (length-drop i s) (omega arith))
+    ∙ ap (feed n (close n stop ends tl)) z

@@ -4,3 +4,8 @@ pub mod Fed
 pub mod Link
 pub mod Same
 pub mod Grown
+pub mod Kept
+pub mod Zeros
+pub mod Others
+pub mod Unsure
+pub mod Certain

@@ -4,7 +4,7 @@
 use mathlib.Core.List.{List, [], _∷_}
 use mathlib.Core.Option.{Option, some}
 use mathlib.Core.Option as option
-use Prim.Native.Nat.{ℕ, zero, suc, _+_, _/_, _%_}
+use Prim.Native.Nat.{ℕ, suc, _+_, _/_, _%_}
 use lib.Dec.{leb, ltb, eqb}
 use lib.ListN.{length}
 use Rattle.der.specs.Choice.{if_then_else_}
@@ -41,11 +41,13 @@ unless (Failed f) y = Failed f
 unless (Open x ends tl) y = y
 unless (Done tl) y = y
 
+-- at an offset of a body that isn't examined, or at its end
+abbrev pub passing : ℕ → List ℕ → Tally → (at stop : ℕ) → State
+passing n ends tl at stop = if ltb at stop then Open (Body at stop) ends tl else close n stop ends tl
+
 -- a body that isn't examined; a fault right after it is certain before it
 unfoldable pub body : ℕ → List ℕ → Tally → (start stop : ℕ) → State
-body n ends tl start stop =
-    unless (close n stop ends tl)
-    (if ltb start stop then Open (Body start stop) ends tl else close n stop ends tl)
+body n ends tl start stop = unless (close n stop ends tl) (passing n ends tl start stop)
 
 -- a header is complete, and its body is within the parent
 unfoldable pub enter : ℕ → List ℕ → Tally → (at t start stop : ℕ) → State
@@ -56,7 +58,7 @@ enter n ends tl at t start stop =
 
 -- a byte of a body that isn't examined
 unfoldable pub pass : ℕ → List ℕ → Tally → (at end : ℕ) → State
-pass n ends tl at end = if ltb (at + 1) end then Open (Body (at + 1) end) ends tl else close n end ends tl
+pass n ends tl at end = passing n ends tl (at + 1) end
 
 abbrev pub apply : ℕ → Due → List ℕ → Tally → Move → State
 apply n x ends tl (Refuse m at after) = Failed (fault m at)

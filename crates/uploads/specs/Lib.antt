@@ -1,3 +1,4 @@
 -- What the check of an upload comes to.
 pub mod Whole
 pub mod Same
+pub mod Certain
