@@ -19,13 +19,13 @@ use Rattle.stream.specs.Upload.{parentEnd, withDue, closedAt, closedTo, 
 use Rattle.stream.specs.Upload.{bulkOf, skipped}
 
 -- a byte by what is due
-stepped-on : (u : Upload) (x : Due) (b : ℕ) → u .due ≡ x
+pub stepped-on : (u : Upload) (x : Due) (b : ℕ) → u .due ≡ x
     → stepped u b ≡ applied u (moved x b (parentEnd (u .total) (u .ends) (u .depth)) (leb uploadLevels (u .depth)))
 unfolding stepped
 stepped-on u x b e =
     ap (λ y. applied u (moved y b (parentEnd (u .total) (u .ends) (u .depth)) (leb uploadLevels (u .depth)))) e
 
-taken-cons : (u v : Upload) (b : ℕ) (s : List ℕ) → stepped u b ≡ v → taken u (b ∷ s) ≡ taken v s
+pub taken-cons : (u v : Upload) (b : ℕ) (s : List ℕ) → stepped u b ≡ v → taken u (b ∷ s) ≡ taken v s
 unfolding taken
 taken-cons u v b s e = ap (λ x. taken x s) e
 

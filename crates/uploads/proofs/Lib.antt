@@ -9,3 +9,5 @@ pub mod Zeros
 pub mod Others
 pub mod Unsure
 pub mod Certain
+pub mod Follows
+pub mod Stepped
