@@ -15,6 +15,7 @@ FILES = TESTS / "files"     # of common tools, and those that the documents list
 DER = TOP / "crates/test_der"           # calls of `der`
 TEST_FILES = TOP / "crates/test_files"  # files, their listings, pairs and calls
 TEST_TABLES = TOP / "crates/test_tables"  # tables, and what is written of them
+TEST_UPLOADS = TOP / "crates/test_uploads"  # uploads in portions, and their statuses
 LIST = TOP / "crates/list"              # a file and its listing
 PAIRS = TOP / "crates/pairs"            # a file and its pairs
 REWRITE = TOP / "crates/rewrite"        # a file that is read and written back

@@ -89,6 +89,20 @@ counted-within n i (Body at stop) ends tl h = omega (arith, h .0)
 counted-within n i Nothing ends tl h = absurd h
 counted-within n i (Due.Refused m p after) ends tl h = absurd h
 
+-- the next byte is one of the announced
+pub announced : (n i : ℕ) (x : Due) (ends : List ℕ) (tl : Tally) → Kept n i x ends tl → i < n
+unfolding Awaits
+announced n i (Tag at) ends tl k = omega (arith, k .awaits .0, k .awaits .1, top-within _ _ (k .nested))
+announced n i (Length at t) ends tl k = omega (arith, k .awaits .0, k .awaits .1, top-within _ _ (k .nested))
+announced n i (One at t) ends tl k = omega (arith, k .awaits .0, k .awaits .1, top-within _ _ (k .nested))
+announced n i (First at t) ends tl k = omega (arith, k .awaits .0, k .awaits .1, top-within _ _ (k .nested))
+announced n i (Second at t h) ends tl k =
+    omega (arith, k .awaits .0, k .awaits .1, k .awaits .2, top-within _ _ (k .nested))
+announced n i (Body at e) ends tl k =
+    omega (arith, k .awaits .0, k .awaits .1, k .awaits .2, top-within _ _ (k .nested))
+announced n i Nothing ends tl k = absurd (k .awaits)
+announced n i (Due.Refused m p after) ends tl k = absurd (k .awaits)
+
 -- there are no more elements than bytes
 pub few-elements : (n i : ℕ) (x : Due) (ends : List ℕ) (tl : Tally) → Kept n i x ends tl → tl .elements ≤ i
 few-elements n i x ends tl k = omega (arith, k .few, counted-within n i x ends tl (k .awaits))

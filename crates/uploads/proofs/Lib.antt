@@ -11,3 +11,6 @@ pub mod Unsure
 pub mod Certain
 pub mod Follows
 pub mod Stepped
+pub mod Runs
+pub mod Judged
+pub mod Ends

@@ -2,3 +2,4 @@
 pub mod Whole
 pub mod Same
 pub mod Certain
+pub mod Judged
