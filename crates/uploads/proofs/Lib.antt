@@ -14,3 +14,5 @@ pub mod Stepped
 pub mod Runs
 pub mod Judged
 pub mod Ends
+pub mod Unique
+pub mod Theorems

@@ -2,6 +2,8 @@
 -- (Rules 10.3 to 10.6).
 use mathlib.Core.Path.{_≡_}
 use mathlib.Core.List.{List, [], _∷_, _++_}
+use mathlib.Core.Option.{Option, some}
+use mathlib.Core.Option as option
 use Prim.Native.Nat.{ℕ, _+_, _≤_, _<_}
 use lib.ListN.{length, take}
 use Rattle.der.specs.Element.{fault}
@@ -50,6 +52,11 @@ pub data EndIs (n : ℕ) (b : List ℕ) : End → Type 0 where
   ends-beyond : n < length b → NoneCertain n b → EndIs n b (End.Refused (fault surplus 0) (n + 1))
   ends-short : length b < n → NoneCertain n b → EndIs n b (End.Refused (fault early 0) (length b))
   ends-whole : (tl : Tally) → length b ≡ n → whole b ≡ Passed tl → EndIs n b (End.Passed (tl .elements) (tl .level))
+
+-- the fault that a status reports, if any
+unfoldable pub faultOf : Status → Option Fault
+faultOf NoFault = option.none
+faultOf (Status.Refused f after) = some f
 
 -- an answer at the end as one of the whole check: without the number of bytes after which a fault
 -- was certain

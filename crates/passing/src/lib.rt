@@ -1,0 +1,1 @@
+// Every accepted file passes the check of an upload: theorems only.
