@@ -67,7 +67,7 @@ enum p12_number {
     P12_TOO_LONG = 9,
     /* The buffer is too short for what is to be written. */
     P12_SHORT_BUFFER = 10,
-    /* The table isn't sound for the bytes that its ranges point into. */
+    /* The table isn't sound for the bytes that its ranges point into, or a memory holds no upload. */
     P12_NOT_SOUND = 11,
     /* The table has no such row, or the row isn't that of a key. */
     P12_NO_ROW = 12,
@@ -77,6 +77,10 @@ enum p12_number {
     P12_MORE_CERTIFICATES = 14,
     /* A header or a length runs past the end of the element around it, or of the file. */
     P12_OVERRUN = 15,
+    /* More bytes arrived than were announced. */
+    P12_SURPLUS = 19,
+    /* The upload ended before all announced bytes were there. */
+    P12_EARLY = 20,
     /* No refusal: the bag has no more attributes. */
     P12_DONE = 255
 };
@@ -145,6 +149,7 @@ struct p12_attribute {
 #define P12_FILE_BYTES 65535    /* Bytes of the longest file. */
 #define P12_LEVELS 8            /* Levels of safe contents; those of a plain safe are level 1. */
 #define P12_OPAQUE_LEVELS 16    /* Levels of an opaque element; the element itself is level 1. */
+#define P12_UPLOAD_LEVELS 20    /* Levels of an upload; the outermost element is level 1. */
 #define P12_LISTING_BYTES 65536 /* Every listing fits into this number of bytes. */
 #define P12_PAIRS_BYTES 4288    /* Every text of pairs fits into this number of bytes. */
 /* generated up to here */

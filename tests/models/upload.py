@@ -18,11 +18,7 @@ import functools
 import itertools
 
 from models.der import Refused, element, need
-from models.numbers import FILE_BYTES, LEFT_OVER, TOO_LONG, TOO_MANY
-
-SURPLUS = 19  # TODO numbers: more bytes came than were announced
-EARLY = 20  # TODO numbers: the upload ended before the announced length
-UPLOAD_LEVELS = 20  # TODO numbers: levels of an upload; the outermost element is level 1
+from models.numbers import EARLY, FILE_BYTES, LEFT_OVER, SURPLUS, TOO_LONG, TOO_MANY, UPLOAD_LEVELS
 
 # -- the whole check
 
@@ -51,7 +47,7 @@ def whole(data):
 # -- all completions
 
 class Unknown(Exception):
-    """A byte was asked for that isn't known. Its argument: the offset."""
+    """A byte is needed that isn't known. Its argument: the offset."""
 
 class Partly:
     """n bytes of which only these are known: those of `prefix`, and of the dictionary `chosen` from

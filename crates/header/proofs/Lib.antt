@@ -1,2 +1,3 @@
 -- The rules by which the functions follow the definitions.
+pub mod Numbered
 pub mod Rules

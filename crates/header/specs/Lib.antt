@@ -1,3 +1,4 @@
 -- The header of an element, byte by byte.
 pub mod Numbers
+pub mod Numbered
 pub mod Header

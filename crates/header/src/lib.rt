@@ -12,7 +12,7 @@ pub const SURPLUS: u8 = 19;
 pub const EARLY: u8 = 20;
 
 // The levels of an upload; the outermost element is level 1 (Rule 10.2).
-pub const LEVELS: u8 = 20;
+pub const UPLOAD_LEVELS: u8 = 20;
 
 // What the next byte is. `at` is the offset of the tag of its element, and of the byte itself in a
 // body.

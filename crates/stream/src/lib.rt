@@ -132,7 +132,7 @@ fn step(u: Upload, b: u8) -> Upload
     let ends = u.ends;
     let depth = u.depth;
     let end = nest::parent_end(total, ends, depth);
-    let deep = header::LEVELS <= depth;
+    let deep = header::UPLOAD_LEVELS <= depth;
     let m = header::moved(due, b, end, deep);
     nest::applied(u, m)
 }

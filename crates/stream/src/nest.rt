@@ -176,7 +176,7 @@ fn entered(u: Upload, at: u16, tag: u8, start: u16, stop: u16) -> Upload
 {
     let depth = u.depth;
     let after = start as u32;
-    if header::LEVELS <= depth {
+    if header::UPLOAD_LEVELS <= depth {
         let due = Due::Refused {
             number: der::TOO_MANY,
             offset: at,

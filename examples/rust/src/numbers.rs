@@ -12,6 +12,8 @@ pub const FILE_BYTES: usize = 65535;
 pub const LEVELS: usize = 8;
 /// Levels of an opaque element; the element itself is level 1.
 pub const OPAQUE_LEVELS: usize = 16;
+/// Levels of an upload; the outermost element is level 1.
+pub const UPLOAD_LEVELS: usize = 20;
 /// Every listing fits into this number of bytes.
 pub const LISTING_BYTES: usize = 65536;
 /// Every text of pairs fits into this number of bytes.
@@ -46,7 +48,7 @@ pub enum Number {
     TooLong = 9,
     /// The buffer is too short for what is to be written.
     ShortBuffer = 10,
-    /// The table isn't sound for the bytes that its ranges point into.
+    /// The table isn't sound for the bytes that its ranges point into, or a memory holds no upload.
     NotSound = 11,
     /// The table has no such row, or the row isn't that of a key.
     NoRow = 12,
@@ -56,10 +58,14 @@ pub enum Number {
     MoreCertificates = 14,
     /// A header or a length runs past the end of the element around it, or of the file.
     Overrun = 15,
+    /// More bytes arrived than were announced.
+    Surplus = 19,
+    /// The upload ended before all announced bytes were there.
+    Early = 20,
 }
 
 impl Number {
-    pub(crate) const ALL: [Number; 15] = [
+    pub(crate) const ALL: [Number; 17] = [
         Number::Missing,
         Number::TagForm,
         Number::LengthForm,
@@ -75,5 +81,7 @@ impl Number {
         Number::NoCertificate,
         Number::MoreCertificates,
         Number::Overrun,
+        Number::Surplus,
+        Number::Early,
     ];
 }
