@@ -1,5 +1,5 @@
 #!/usr/bin/env python3
-"""Makes the files that bench/run times, all accepted ones.
+"""Makes the files that bench/run times, all accepted ones but the bare ones.
 
     make_files.py FOLDER    wants openssl on the path
 """
@@ -10,7 +10,7 @@ import sys
 here = pathlib.Path(__file__).resolve().parent
 sys.path.insert(0, str(here.parent / "tests"))
 sys.dont_write_bytecode = True
-from models.numbers import FILE_BYTES, LEVELS, OPAQUE_LEVELS  # noqa: E402
+from models.numbers import FILE_BYTES, LEVELS, OPAQUE_LEVELS, UPLOAD_LEVELS  # noqa: E402
 from p12_make import (E, KEY_ID, NULL, attribute, cert, depth, friendly, key, mac, nested, pfx, plain, seq,  # noqa: E402
                       shrouded)
 
@@ -47,6 +47,13 @@ def deep():
     return pfx(plain(inner)).encode()
 
 
+def bare(unit):
+    """No file but one SEQUENCE of 65,535 bytes, for the check of an upload: the unit again and again, and one OCTET STRING."""
+    count = (FILE_BYTES - 8) // len(unit)
+    return next(data for data in (E(0x30, unit * less, E(0x04, bytes(pad))).encode()
+                                  for less in range(count, 0, -1) for pad in range(len(unit) + 2)) if len(data) == FILE_BYTES)
+
+
 def openssl(folder):
     """What a common tool makes of an RSA key and its certificate: encrypted, and with nothing encrypted."""
     def call(*words):
@@ -64,7 +71,8 @@ def main(folder):
     folder = pathlib.Path(folder)
     folder.mkdir(parents=True, exist_ok=True)
     made = {"m": bench_m(), "flat_64_128": flat(), "opaque_16384": opaque(16384, NULL), "opaque_65535": opaque(FILE_BYTES, NULL),
-            "opaque_deep_65535": opaque(FILE_BYTES, depth(OPAQUE_LEVELS).encode()), "levels_8": deep()}
+            "opaque_deep_65535": opaque(FILE_BYTES, depth(OPAQUE_LEVELS).encode()), "levels_8": deep(), "bare_flat_65535": bare(NULL),
+            "bare_deep_65535": bare(depth(UPLOAD_LEVELS - 1).encode())}
     for name, data in made.items():
         (folder / (name + ".p12")).write_bytes(data)
     openssl(folder)

@@ -1,5 +1,5 @@
 /* PKCS #12 files (RFC 7292, password integrity, DER): reading, writing, attributes, pairing and
- * listing. Link libp12.a (`rt staticlib p12`).
+ * listing, and the check of an upload while it arrives. Link libp12.a (`rt staticlib p12`).
  *
  * Every call returns, whatever it is handed; none allocates, keeps anything between calls or stops
  * the program. Each returns a number, P12_OK or that of the refusal; only p12_element returns a
@@ -15,13 +15,18 @@
  *                   leaves `row` as it was
  *   p12_list        the first *written bytes of `out`; a refusal leaves `out` as it was
  *   p12_pairs       the same
+ *   p12_upload_begin, p12_upload_take
+ *                   the first P12_UPLOAD_LENGTH cells of `state`, also for a fault; too few cells
+ *                   stay as they were
  *
- * p12_mac_input, p12_element and p12_certificate_for change nothing else. Memory behind what is
+ * p12_mac_input, p12_element, p12_certificate_for, p12_upload_status and p12_upload_end change
+ * nothing else. Memory behind what is
  * written stays as it was, and no call changes a file, the bytes or a table that it only reads.
  *
  * What a call takes on trust: a pointer and its length belong together, and the pointer isn't NULL
  * unless the length is 0; pointers to single results are never NULL; every pointer is aligned as
- * its type requires, so the words of a table or a row to 4 bytes (struct p12_table is); what is
+ * its type requires, so the words of a table or a row to 4 bytes (struct p12_table is), the cells of
+ * an upload to 2; what is
  * written shares no byte with anything else that is handed over; and there is enough stack.
  *
  * The stack that one call takes on x86-64, in bytes, measured and not proved:
@@ -98,9 +103,10 @@ enum p12_number {
  *   - p12_read: `table`, for fewer than P12_TABLE_WORDS words, before the file is looked at;
  *   - p12_write: `out`, for fewer bytes than the file has, after 11 and 9;
  *   - p12_attribute: `row`, for fewer than P12_ATTRIBUTE_WORDS words, if the attribute exists;
- *   - p12_list, p12_pairs: `out`, for fewer bytes than the text has.
+ *   - p12_list, p12_pairs: `out`, for fewer bytes than the text has;
+ *   - p12_upload_begin: `state`, for fewer than P12_UPLOAD_LENGTH cells.
  *
- * 11: also for a table of fewer than P12_TABLE_WORDS words. */
+ * 11: also for a table of fewer than P12_TABLE_WORDS words, and for a state that holds no upload. */
 
 /* A table is P12_TABLE_WORDS words. The struct names them; its members are all words, so it has
  * no padding: p12_words(&table) is the same memory. Rows past the counts are 0. A range start..end
@@ -150,6 +156,7 @@ struct p12_attribute {
 #define P12_LEVELS 8            /* Levels of safe contents; those of a plain safe are level 1. */
 #define P12_OPAQUE_LEVELS 16    /* Levels of an opaque element; the element itself is level 1. */
 #define P12_UPLOAD_LEVELS 20    /* Levels of an upload; the outermost element is level 1. */
+#define P12_UPLOAD_LENGTH 29    /* Cells of an upload's state, of 16 bits each. */
 #define P12_LISTING_BYTES 65536 /* Every listing fits into this number of bytes. */
 #define P12_PAIRS_BYTES 4288    /* Every text of pairs fits into this number of bytes. */
 /* generated up to here */
@@ -215,6 +222,38 @@ uint8_t p12_list(const uint8_t *file, size_t length, uint8_t *out, size_t capaci
  * refused file has the one line `refused N at P`, and the call returns P12_OK. 10 for a buffer that
  * is too short, which one of P12_PAIRS_BYTES bytes never is; *written is 0 then. */
 uint8_t p12_pairs(const uint8_t *file, size_t length, uint8_t *out, size_t capacity, size_t *written);
+
+/* An upload, checked while it arrives. Its length is announced first, and its bytes come in portions
+ * that are cut anywhere. The check is of the shape alone: one DER element with all elements in it, to
+ * level P12_UPLOAD_LEVELS, and no byte after it; the bodies of elements that hold no elements aren't
+ * examined. Every file that p12_read accepts passes; one that passes can still be refused there.
+ *
+ * A fault is reported with the first byte after which it is certain: after which every continuation
+ * to the announced length would be refused by the same number at the same offset. So an upload can be
+ * stopped there. It stays reported, whatever arrives. How the bytes are cut makes no difference.
+ *
+ * `state` is memory of P12_UPLOAD_LENGTH cells, `cells` its length. It holds all that is kept between
+ * the calls, and may be copied. For cells that these calls didn't write they return an answer too:
+ * 11 for memory that was never begun, if it is all zeros, and for fewer cells. */
+
+/* Begins an upload of `length` bytes. P12_OK; 10 for fewer cells; 9 for a length of more than
+ * P12_FILE_BYTES, or 1 for 0: such an upload is refused whatever arrives. */
+uint8_t p12_upload_begin(size_t length, uint16_t *state, size_t cells);
+
+/* A portion arrives; it may have no byte. P12_OK, or the number of the fault that is certain now: 1, 2,
+ * 3, 6, 8, 9 or 15; 19 for more bytes than announced, if no fault was certain before; 11 for a state
+ * that holds no upload. */
+uint8_t p12_upload_take(uint16_t *state, size_t cells, const uint8_t *portion, size_t length);
+
+/* The same number without a portion; the fault's offset in *offset, and in *after the number of bytes
+ * after which it was certain. Both are 0 with P12_OK. */
+uint8_t p12_upload_status(const uint16_t *state, size_t cells, size_t *offset, size_t *after);
+
+/* The answer if the upload ends here. P12_OK if all bytes are there and the check passes: the number of
+ * elements in *elements and the greatest level in *level, 1 being the outermost element. Else the
+ * number of the fault, or 20 at 0 if bytes are missing and nothing is at fault, with the number of
+ * bytes that arrived in *after. What doesn't apply is 0. The state is as it was, and can take more. */
+uint8_t p12_upload_end(const uint16_t *state, size_t cells, size_t *offset, size_t *after, size_t *elements, size_t *level);
 
 #ifdef __cplusplus
 }

@@ -2,7 +2,8 @@
 """Compares the model models/upload.py with two other ways to find out what is certain, and with
 answers by hand.
 
-    tests/upload_check.py
+    tests/upload_check.py           for n = 3 the first bytes of TAGS
+    tests/upload_check.py --all     for n = 3 every first byte
 
 All words   The whole check on every word of n bytes over an alphabet, one by one, and from that the
             fault that all completions of a prefix have in common. It is compared with `certain` and
@@ -29,6 +30,7 @@ from stored import FILES
 SEED = 1
 TREES, LONGEST = 150, 400  # random elements that samples are tried on, and the greatest length of one
 COPIES = 2  # damaged copies of each stored file
+TAGS = bytes.fromhex("00 01 04 1F 30 3F 80 FF")  # first bytes of words of 3 bytes: of each form of a tag
 
 MADE = dict(p12_make.files())
 M = MADE["bench_a"]
@@ -146,7 +148,8 @@ def compare_words(beginning):
 
 def check_words():
     """Words of 3 bytes and more by their first byte, which is a tag; those of 8 begin with 30."""
-    beginnings = [(n, b"") for n in range(3)] + [(3, bytes([tag])) for tag in range(256)]
+    tags = range(256) if "--all" in sys.argv else TAGS
+    beginnings = [(n, b"") for n in range(3)] + [(3, bytes([tag])) for tag in tags]
     beginnings += [(n, bytes([tag])) for n in range(4, 8) for tag in (0x00, 0x01, 0x30)] + [(8, b"\x30")]
     with multiprocessing.Pool() as pool:
         counts = list(pool.imap_unordered(compare_words, reversed(beginnings)))

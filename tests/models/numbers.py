@@ -27,5 +27,6 @@ FILE_BYTES = 65535  # Bytes of the longest file.
 LEVELS = 8  # Levels of safe contents; those of a plain safe are level 1.
 OPAQUE_LEVELS = 16  # Levels of an opaque element; the element itself is level 1.
 UPLOAD_LEVELS = 20  # Levels of an upload; the outermost element is level 1.
+UPLOAD_LENGTH = 29  # Cells of an upload's state, of 16 bits each.
 LISTING_BYTES = 65536  # Every listing fits into this number of bytes.
 PAIRS_BYTES = 4288  # Every text of pairs fits into this number of bytes.

@@ -14,6 +14,8 @@ pub const LEVELS: usize = 8;
 pub const OPAQUE_LEVELS: usize = 16;
 /// Levels of an upload; the outermost element is level 1.
 pub const UPLOAD_LEVELS: usize = 20;
+/// Cells of an upload's state, of 16 bits each.
+pub const UPLOAD_LENGTH: usize = 29;
 /// Every listing fits into this number of bytes.
 pub const LISTING_BYTES: usize = 65536;
 /// Every text of pairs fits into this number of bytes.
