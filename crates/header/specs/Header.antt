@@ -32,7 +32,7 @@ entering at t start size end =
 unfoldable pub onTag : (at b end : ℕ) → Move
 onTag at b end =
     if eqb b 0 then Refuse tagForm at (at + 1) else
-    if eqb (b % 32) 31 then Refuse tagForm at (at + 1) else
+    if eqb (b % 0x20) 0x1F then Refuse tagForm at (at + 1) else
     if leb end (at + 1) then Refuse overrun at (at + 1) else
     Await (Length at b)
 

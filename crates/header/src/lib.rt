@@ -94,7 +94,7 @@ fn on_tag(at: u16, b: u8, end: u16) -> Move
             after,
         };
     }
-    if b % 32 == 31 {
+    if b % 0x20 == 0x1F {
         return Move::Refuse {
             number: der::TAG_FORM,
             at,

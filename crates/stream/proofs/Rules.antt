@@ -20,8 +20,9 @@ use Rattle.stream.specs.declared.Upload.{Upload}
 use Rattle.stream.specs.declared.Status.{Status}
 use Rattle.stream.specs.declared.Status.the-variants.{NoFault}
 use Rattle.stream.specs.Upload.{endAt, parentEnd, stillOpen, withDue, closedTo, closedAt, bodyBefore}
-use Rattle.stream.specs.Upload.{bodyFrom, counted, entered, passed, applied, stepped, bulkOf, skipped}
+use Rattle.stream.specs.Upload.{bodyFrom, counted, entered, passed, applied, stepped}
 use Rattle.stream.specs.Upload.{statusAt, onStatus}
+use Rattle.stream.specs.Bulk.{bulkOf, skipped}
 
 -- the end of the parent
 module _ (total : ℕ) (ends : List ℕ) (k r : ℕ) where
@@ -91,11 +92,11 @@ module _ (u r : Upload) where
   unfolding bodyFrom
   body-before start stop v q e = rw (sym q) e
 
-  pub entered-body : (at t start stop : ℕ) (v : Upload) → u .depth < uploadLevels → t / 32 % 2 ≡ 0
+  pub entered-body : (at t start stop : ℕ) (v : Upload) → u .depth < uploadLevels → t / 0x20 % 2 ≡ 0
       → v ≡ counted u (u .depth + 1) → r ≡ bodyFrom v start stop → r ≡ entered u at t start stop
   unfolding entered
   entered-body at t start stop v d k q e =
-      rw (lt-leb uploadLevels (u .depth) d, eq-eqb (t / 32 % 2) 0 k, sym q) e
+      rw (lt-leb uploadLevels (u .depth) d, eq-eqb (t / 0x20 % 2) 0 k, sym q) e
 
   abbrev opened : Upload → ℕ → Upload
   opened v stop =
@@ -108,11 +109,11 @@ module _ (u r : Upload) where
         level = v .level;
       }
 
-  pub entered-open : (at t start stop : ℕ) (v : Upload) → u .depth < uploadLevels → (t / 32 % 2 ≡ 0 → ⊥)
+  pub entered-open : (at t start stop : ℕ) (v : Upload) → u .depth < uploadLevels → (t / 0x20 % 2 ≡ 0 → ⊥)
       → v ≡ counted u (u .depth + 1) → r ≡ closedAt (opened v stop) start start → r ≡ entered u at t start stop
   unfolding entered
   entered-open at t start stop v d k q e =
-      rw (lt-leb uploadLevels (u .depth) d, ne-eqb (t / 32 % 2) 0 k) (rw q at e)
+      rw (lt-leb uploadLevels (u .depth) d, ne-eqb (t / 0x20 % 2) 0 k) (rw q at e)
 
 -- by cases of a move
 module _ (u r : Upload) (m : Move) where

@@ -16,7 +16,7 @@ use Rattle.header.specs.declared.Due.{Due}
 use Rattle.header.specs.declared.Due.the-variants.{Tag, Length, One, First, Second, Body, Nothing}
 use Rattle.stream.specs.declared.Upload.{Upload}
 use Rattle.stream.specs.Upload.{parentEnd, withDue, closedAt, closedTo, passed, applied, stepped, taken}
-use Rattle.stream.specs.Upload.{bulkOf, skipped}
+use Rattle.stream.specs.Bulk.{bulkOf, skipped}
 
 -- a byte by what is due
 pub stepped-on : (u : Upload) (x : Due) (b : ℕ) → u .due ≡ x

@@ -2,9 +2,9 @@
 -- first, and `depth` of them count.
 use mathlib.Core.Bool.{Bool, true, false}
 use mathlib.Core.List.{List, [], _∷_}
-use Prim.Native.Nat.{ℕ, zero, suc, _+_, _-_, _/_, _%_, max}
+use Prim.Native.Nat.{ℕ, zero, suc, _+_, _/_, _%_, max}
 use lib.Dec.{leb, ltb, eqb}
-use lib.ListN.{length, getD, set}
+use lib.ListN.{getD, set}
 use Rattle.der.specs.Choice.{if_then_else_}
 use Rattle.der.specs.Element.{fault}
 use Rattle.der.specs.Numbers.{missing, leftOver, tooMany}
@@ -109,7 +109,7 @@ pushed u stop =
 unfoldable pub entered : Upload → (at t start stop : ℕ) → Upload
 entered u at t start stop =
     if leb uploadLevels (u .depth) then withDue u (Due.Refused tooMany at start) (u .depth) else
-    if eqb (t / 32 % 2) 0 then bodyFrom (counted u (u .depth + 1)) start stop else
+    if eqb (t / 0x20 % 2) 0 then bodyFrom (counted u (u .depth + 1)) start stop else
     closedAt (pushed (counted u (u .depth + 1)) stop) start start
 
 -- k bytes of a body that isn't examined
@@ -149,29 +149,6 @@ begun n =
     if ltb fileBytes n then first 0 (Due.Refused tooLong 0 0) else
     if eqb n 0 then first 0 (Due.Refused missing 0 0) else
     first n (Tag 0)
-
--- how many of the next bytes don't matter: those of a body that isn't examined, and all after a
--- fault
-unfoldable pub bulkOf : Due → ℕ → ℕ
-bulkOf (Tag at) left = 0
-bulkOf (Length at t) left = 0
-bulkOf (One at t) left = 0
-bulkOf (First at t) left = 0
-bulkOf (Second at t h) left = 0
-bulkOf (Body at e) left = if ltb at e then (if ltb left (e - at) then left else e - at) else 0
-bulkOf Nothing left = 0
-bulkOf (Due.Refused n p after) left = left
-
--- what so many of them make of an upload
-abbrev pub skipped : Upload → Due → ℕ → Upload
-skipped u (Tag at) k = u
-skipped u (Length at t) k = u
-skipped u (One at t) k = u
-skipped u (First at t) k = u
-skipped u (Second at t h) k = u
-skipped u (Body at e) k = passed u at e k
-skipped u Nothing k = u
-skipped u (Due.Refused n p after) k = u
 
 -- the fault that is certain
 abbrev pub statusAt : Due → Status

@@ -4,7 +4,8 @@
 ghost use mathlib.Core.Path.{_≡_};
 ghost use Prim.Native.Nat.{_^_, _<_};
 ghost use Rattle.der.specs.Span.{Bytes};
-ghost use Rattle.stream.specs.Upload.{begun, stepped, bulkOf, skipped, taken, isWhole};
+ghost use Rattle.stream.specs.Upload.{begun, stepped, taken, isWhole};
+ghost use Rattle.stream.specs.Bulk.{bulkOf, skipped};
 ghost use Rattle.stream.specs.Upload.{statusOf, ended};
 ghost use Rattle.stream.specs.Report.{statusReport, endReport};
 

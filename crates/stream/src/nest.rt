@@ -186,7 +186,7 @@ fn entered(u: Upload, at: u16, tag: u8, start: u16, stop: u16) -> Upload
     }
     let level = depth + 1;
     let v = counted(u, level);
-    if tag / 32 % 2 == 0 {
+    if tag / 0x20 % 2 == 0 {
         return body_from(v, start, stop);
     }
     let mut ends = v.ends;

@@ -53,7 +53,7 @@ body n ends tl start stop = unless (close n stop ends tl) (passing n ends tl sta
 unfoldable pub enter : ℕ → List ℕ → Tally → (at t start stop : ℕ) → State
 enter n ends tl at t start stop =
     if leb uploadLevels (length ends) then Failed (fault tooMany at) else
-    if eqb (t / 32 % 2) 0 then body n ends (tallied (suc (length ends)) tl) start stop else
+    if eqb (t / 0x20 % 2) 0 then body n ends (tallied (suc (length ends)) tl) start stop else
     close n start (stop ∷ ends) (tallied (suc (length ends)) tl)
 
 -- a byte of a body that isn't examined

@@ -45,7 +45,7 @@ walkAt (suc l) v s end tl at =
     onElement (elementAt s (cursor at end))
     Stopped
     (λ t b n.
-    if eqb (t / 32 % 2) 0 then Reached (tallied v tl) (b .end) else
+    if eqb (t / 0x20 % 2) 0 then Reached (tallied v tl) (b .end) else
     many goOn Reached (walkAt l (suc v) s (b .end)) (b .end - b .at) (b .end) (tallied v tl) (b .at))
 
 -- the answer for a whole upload

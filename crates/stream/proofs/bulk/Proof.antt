@@ -1,6 +1,6 @@
 -- By the case of what is due.
 use Rattle.der.proofs.Choices.{choices}
-use Rattle.stream.specs.Upload.{bulkOf}
+use Rattle.stream.specs.Bulk.{bulkOf}
 use Rattle.stream.proofs.Rules.{bulk-body}
 use borrow.Author.Needs.{needs}
 use Rattle.stream.proofs.bulk.Statement.{statement}
