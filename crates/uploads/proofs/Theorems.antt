@@ -30,7 +30,7 @@ use Rattle.uploads.specs.Whole.{Tally, Answer, Refused, Passed, whole}
 use Rattle.uploads.specs.Same.{opaqueThenFinish, forgotten, PassedTree}
 use Rattle.uploads.specs.Certain.{Certain}
 use Rattle.uploads.specs.Judged.{joined, takenAll, FirstFault, NoneCertain, StatusIs, faulty, beyond, fine}
-use Rattle.uploads.specs.Judged.{EndIs, faultOf, answerOf}
+use Rattle.uploads.specs.Judged.{EndIs, Returned, faultOf, answerOf}
 use Rattle.uploads.proofs.Same as same
 use Rattle.uploads.proofs.Grown as grown
 use Rattle.uploads.proofs.Certain.{still-certain}
@@ -65,6 +65,12 @@ only-joined u (p ∷ ps) = only-joined (taken u p) ps ∙ sym (taken-append u p 
     taken-append : (v : Upload) (p q : List ℕ) → taken v (p ++ q) ≡ taken (taken v p) q
     taken-append v [] q = refl
     taken-append v (b ∷ p) q = taken-append (stepped v b) p q
+
+-- So the upload that the calls return is known by the announced length and the bytes: the theorems
+-- below are about `taken (begun n) b`, and with it about every one.
+pub returned-is : (n : ℕ) (b : List ℕ) (u : Upload) → Returned n b u → u ≡ taken (begun n) b
+returned-is n b u r =
+    sym (r .made) ∙ (only-joined (begun n) (r .portions) ∙ ap (taken (begun n)) (r .cut))
 
 -- Portions that together have the announced length get the answer of the whole check on the bytes
 -- joined, with the number of elements and the greatest level.

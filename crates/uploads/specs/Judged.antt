@@ -13,7 +13,7 @@ use Rattle.stream.specs.declared.Upload.{Upload}
 use Rattle.stream.specs.declared.Status.{Status}
 use Rattle.stream.specs.declared.Status.the-variants.{NoFault}
 use Rattle.stream.specs.declared.End.{End}
-use Rattle.stream.specs.Upload.{taken}
+use Rattle.stream.specs.Upload.{begun, taken}
 use Rattle.uploads.specs.Whole.{Tally, Answer, Refused, Passed, whole}
 use Rattle.uploads.specs.Certain.{Certain}
 
@@ -25,6 +25,13 @@ joined (p ∷ ps) = p ++ joined ps
 unfoldable pub takenAll : Upload → List (List ℕ) → Upload
 takenAll u [] = u
 takenAll u (p ∷ ps) = takenAll (taken u p) ps
+
+-- the uploads that the calls return: announced with n bytes, and then portions, cut anywhere, that
+-- join to b
+pub record Returned (n : ℕ) (b : List ℕ) (u : Upload) : Type 0 where
+  pub portions : List (List ℕ)
+  pub cut : joined portions ≡ b
+  pub made : takenAll (begun n) portions ≡ u
 
 -- the shortest beginning of b, within the announced length, after which a fault is certain has k
 -- bytes, and the fault is f
