@@ -1,3 +1,4 @@
 -- What the calls for C return and store.
 pub mod Calls
+pub mod Uploads
 pub mod Numbered

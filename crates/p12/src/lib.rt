@@ -11,6 +11,9 @@ ghost use Rattle.words.specs.Stored.{stored};
 ghost use Rattle.range.specs.Range.{wordRange};
 ghost use Rattle.p12.specs.Calls.{readNumber, readOffset, writtenNumber, pairedNumber, pairedRow, readCall};
 ghost use Rattle.p12.specs.Calls.{writeCall, attributeCall, certificateCall, listCall, pairsCall};
+
+mod upload;
+
 use attributes::Item;
 use buffer::Written;
 use pairing::Paired;

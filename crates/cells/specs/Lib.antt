@@ -1,0 +1,4 @@
+-- An upload as plain cells.
+pub mod Cells
+pub mod Fitting
+pub mod Numbered
