@@ -22,40 +22,55 @@ static void progress(size_t received, size_t announced)
         fprintf(stderr, "\rreceived %zu of %zu bytes ", received, announced);
 }
 
-/* Hands on what arrives until the input ends or a fault is certain. */
-static void receive(size_t announced, size_t most)
+/* Hands on what arrives, as soon as it does, until the input ends or a fault is certain. 0 where it can't be read. */
+static int receive(size_t announced, size_t most)
 {
-    size_t size, received = 0;
+    size_t received = 0;
+    ssize_t size = 0;
     unsigned number = p12_upload_begin(announced, state, P12_UPLOAD_LENGTH);
 
-    while (number == P12_OK && (size = fread(portion, 1, most, stdin)) > 0) {
-        number = p12_upload_take(state, P12_UPLOAD_LENGTH, portion, size);
-        received += size;
+    while (number == P12_OK && (size = read(0, portion, most)) > 0) {
+        number = p12_upload_take(state, P12_UPLOAD_LENGTH, portion, (size_t)size);
+        received += (size_t)size;
         progress(received, announced);
     }
     if (received > 0 && isatty(2))
         fputc('\n', stderr);
+    return size >= 0;
+}
+
+/* The announced length; 0 where the input ends before it does. */
+static int announcement(size_t *announced)
+{
+    uint8_t byte;
+
+    *announced = 0;
+    for (int i = 0; i < 4; i++) {
+        if (read(0, &byte, 1) != 1)
+            return 0;
+        *announced = *announced << 8 | byte;
+    }
+    return 1;
 }
 
 int main(int argc, char **argv)
 {
     size_t most = argc > 1 ? strtoul(argv[1], NULL, 10) : 1024;
     size_t announced, offset, after, elements, level;
-    uint8_t length[4];
     unsigned number;
 
     if (argc > 2 || most == 0 || most > sizeof portion) {
         fprintf(stderr, "usage: receive [PORTION], 1 to %zu\n", sizeof portion);
         return 2;
     }
-    if (fread(length, 1, sizeof length, stdin) < sizeof length) {
+    if (!announcement(&announced)) {
         printf("refused %d at 0 after 0 bytes\n", P12_EARLY);
-        return ferror(stdin) ? 2 : 1;
+        return 1;
     }
-    announced = (size_t)length[0] << 24 | (size_t)length[1] << 16 | (size_t)length[2] << 8 | length[3];
-    receive(announced, most);
-    if (ferror(stdin))
+    if (!receive(announced, most)) {
+        perror("receive");
         return 2;
+    }
     number = p12_upload_end(state, P12_UPLOAD_LENGTH, &offset, &after, &elements, &level);
     if (number == P12_OK)
         printf("passed %zu elements, level %zu\n", elements, level);
