@@ -10,6 +10,7 @@ use native.Mathlib.Omega.{arith}
 use lib.ListN.{length, length-append}
 use Rattle.der.specs.Span.{Bytes}
 use Rattle.der.specs.declared.Fault.{Fault}
+use Rattle.der.proofs.Octets.{bytes-append}
 use Rattle.uploads.specs.Whole.{Answer, Refused, Passed, whole}
 use Rattle.uploads.specs.Certain.{Certain}
 use Rattle.uploads.proofs.Machine.{State, Failed, Open, Done, feed, start, certainly}
@@ -17,7 +18,7 @@ use Rattle.uploads.proofs.Fed.{fed-append, fed-failed}
 use Rattle.uploads.proofs.Link.{after, whole-fed}
 use Rattle.uploads.proofs.Kept.{given}
 use Rattle.uploads.proofs.Zeros.{zeros, bytes-zeros, length-zeros}
-use Rattle.uploads.proofs.Unsure.{bytes-append, unsure}
+use Rattle.uploads.proofs.Unsure.{unsure}
 
 after-refused : (a : Answer) (f : Fault) → after a ≡ Failed f → a ≡ Refused f
 unfolding after

@@ -13,7 +13,7 @@ use Rattle.der.specs.Choice.{if_then_else_}
 use Rattle.der.specs.Element.{fault}
 use Rattle.der.specs.Span.{Bytes}
 use Rattle.der.specs.declared.Fault.{Fault}
-use Rattle.der.proofs.Choices.{either}
+use Rattle.der.proofs.Spans.{bytes-drop}
 use Rattle.header.specs.Numbers.{surplus, early}
 use Rattle.header.specs.Header.{arrivedAt}
 use Rattle.header.specs.declared.Due.{Due}
@@ -131,17 +131,12 @@ end-is n b h = by-status (statusOf u) refl (status-is n b h)
 
 -- ---- of bytes that have the announced length the answer is that of the whole check
 
-pub bytes-drop : (j : ℕ) (s : List ℕ) → Bytes s → Bytes (drop j s)
-bytes-drop zero s i = i
-bytes-drop (suc j) [] i = tt
-bytes-drop (suc j) (x ∷ s) i = bytes-drop j s (i .1)
-
 certain-whole : (n : ℕ) (b : List ℕ) (f : Fault) (k : ℕ) → Bytes b → length b ≡ n → Certain n (take k b) f
     → whole b ≡ Refused f
 unfolding Certain
 certain-whole n b f k h l c =
     let z = take-append-drop k b in
-    rw z at (c (drop k b) (bytes-drop k b h) (ap length z ∙ l))
+    rw z at (c (drop k b) (bytes-drop b k h) (ap length z ∙ l))
 
 pub end-whole-is : (n : ℕ) (b : List ℕ) (r : End) → Bytes b → length b ≡ n → EndIs n b r → answerOf r ≡ whole b
 unfolding answerOf

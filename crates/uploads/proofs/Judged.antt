@@ -17,6 +17,7 @@ use Rattle.der.specs.Numbers.{missing}
 use Rattle.der.specs.Span.{Bytes}
 use Rattle.der.specs.declared.Fault.{Fault}
 use Rattle.der.proofs.Choices.{either}
+use Rattle.der.proofs.Spans.{bytes-take}
 use Rattle.buffer.specs.Numbers.{fileBytes, tooLong}
 use Rattle.header.specs.Numbers.{surplus, early}
 use Rattle.header.specs.Header.{arrivedAt}
@@ -37,12 +38,6 @@ use Rattle.uploads.proofs.Kept.{Given, Kept, announced, given, start-gi
 use Rattle.uploads.proofs.Certain.{certainly-certain, certain-certainly}
 use Rattle.uploads.proofs.Follows.{endsIn, stateAt, stateOf, Follows}
 use Rattle.uploads.proofs.Runs.{Ran, found, ran, run, either-state}
-
--- the beginnings of bytes are bytes
-pub bytes-take : (k : ℕ) (b : List ℕ) → Bytes b → Bytes (take k b)
-bytes-take zero b h = tt
-bytes-take (suc k) [] h = tt
-bytes-take (suc k) (x ∷ b) h = (h .0, bytes-take k b (h .1))
 
 -- ---- with the announcement
 
@@ -83,13 +78,13 @@ some-none f x p q = let z : _≡_ {A = ℕ} 0 1 = cc in absurd (omega arith)
 first-certain : (n : ℕ) (b : List ℕ) (j : ℕ) (f : Fault) → Bytes b → feed n (start n) (take j b) ≡ Failed f
     → Certain n (take j b) f
 unfolding certainly
-first-certain n b j f h q = certainly-certain n (take j b) f (bytes-take j b h) (ap certainly q)
+first-certain n b j f h q = certainly-certain n (take j b) f (bytes-take b j h) (ap certainly q)
 
 none-certain : (n : ℕ) (b : List ℕ) (j : ℕ) (g : Fault) → Bytes b → j ≤ n → j ≤ length b
     → certainly (feed n (start n) (take j b)) ≡ option.none → Certain n (take j b) g → ⊥
 none-certain n b j g h k l q c =
     let w : length (take j b) ≤ n = omega (arith, length-take-le j b l) in
-    some-none g _ (certain-certainly n (take j b) g (bytes-take j b h) w c) q
+    some-none g _ (certain-certainly n (take j b) g (bytes-take b j h) w c) q
 
 -- after all announced bytes without a fault the next one is too many
 done-next : (n : ℕ) (st : State) (b : ℕ) → Given n n st → certainly st ≡ option.none

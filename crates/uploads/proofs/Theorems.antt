@@ -25,6 +25,7 @@ use Rattle.stream.specs.declared.Status.{Status}
 use Rattle.stream.specs.declared.Status.the-variants.{NoFault}
 use Rattle.stream.specs.declared.End.{End}
 use Rattle.stream.specs.Upload.{taken, stepped, first, begun, statusAt, statusOf, ended}
+use Rattle.der.proofs.Spans.{bytes-drop}
 use Rattle.stream.proofs.Taken.{taken-refused}
 use Rattle.uploads.specs.Whole.{Tally, Answer, Refused, Passed, whole}
 use Rattle.uploads.specs.Same.{opaqueThenFinish, forgotten, PassedTree}
@@ -93,7 +94,7 @@ reported-at-once n p f h l = (λ e. to _ (judged.status-is n p h) e, λ c. from 
     certain-all : (g : Fault) (k : ℕ) → FirstFault n p g k → Certain n p g
     certain-all g k v =
         let z = take-append-drop k p in
-        rw z at (still-certain n (take k p) (drop k p) g (ends.bytes-drop k p h) (v .certain))
+        rw z at (still-certain n (take k p) (drop k p) g (bytes-drop p k h) (v .certain))
 
     to : (s : Status) → StatusIs n p s → faultOf s ≡ some f → Certain n p f
     to s (faulty g k v) e = let z : g ≡ f = cc in rw z at (certain-all g k v)

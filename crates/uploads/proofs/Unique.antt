@@ -10,6 +10,7 @@ use Rattle.der.specs.Element.{fault}
 use Rattle.der.specs.Span.{Bytes}
 use Rattle.der.specs.declared.Fault.{Fault}
 use Rattle.der.proofs.Choices.{either}
+use Rattle.der.proofs.Spans.{bytes-take}
 use Rattle.header.specs.Numbers.{surplus}
 use Rattle.stream.specs.declared.Status.{Status}
 use Rattle.stream.specs.declared.End.{End}
@@ -18,7 +19,6 @@ use Rattle.uploads.specs.Certain.{Certain}
 use Rattle.uploads.specs.Judged.{FirstFault, NoneCertain, StatusIs, faulty, beyond, fine}
 use Rattle.uploads.specs.Judged.{EndIs, ends-faulty, ends-beyond, ends-short, ends-whole, answerOf}
 use Rattle.uploads.proofs.Certain.{certain-certainly}
-use Rattle.uploads.proofs.Judged.{bytes-take}
 use Rattle.uploads.proofs.Ends.{end-whole-is}
 
 -- one fault is certain
@@ -40,7 +40,7 @@ same-first n b f g k j h v w =
     (λ l. either j k (λ i. absurd (v .first j g i (w .certain))) (λ i. omega arith)) in
     let l : length (take j b) ≤ n = omega (arith, length-take-le j b (w .here), w .within) in
     record {
-      fault = one-certain n (take j b) f g (bytes-take j b h) l (rw z at (v .certain)) (w .certain);
+      fault = one-certain n (take j b) f g (bytes-take b j h) l (rw z at (v .certain)) (w .certain);
       bytes = z;
     }
 

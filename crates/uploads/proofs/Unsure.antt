@@ -11,6 +11,7 @@ use Rattle.der.specs.Span.{Bytes}
 use Rattle.der.specs.Numbers.{tooMany, overrun}
 use Rattle.der.specs.Element.{fault}
 use Rattle.der.specs.declared.Fault.{Fault}
+use Rattle.der.proofs.Octets.{bytes-append}
 use Rattle.der.proofs.Choices.{either, by-lt}
 use Rattle.header.specs.Numbers.{uploadLevels}
 use Rattle.header.specs.Header.{entering}
@@ -158,10 +159,6 @@ close-unsure n p k (x ∷ ends) tl f nest h e =
     by-lt (λ y. certainly y ≡ option.none → Other n k y f) _ _ p x
     (λ l q. tag-unsure n (x ∷ ends) tl p f k l (omega (arith, nest .0, top-within n ends (nest .1))) e)
     (λ l q. close-unsure n p k ends tl f (nest .1) (omega (arith, nest .0)) e q)
-
-pub bytes-append : (s t : List ℕ) → Bytes s → Bytes t → Bytes (s ++ t)
-bytes-append [] t a b = b
-bytes-append (x ∷ s) t a b = (a .0, bytes-append s t (a .1) b)
 
 pass-unsure : (n i stop k m : ℕ) (ends : List ℕ) (tl : Tally) (f : Fault) → i ≤ stop → k ≡ (stop - i) + m
     → Other n m (close n stop ends tl) f → Other n k (passing n ends tl i stop) f
