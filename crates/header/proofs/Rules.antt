@@ -1,6 +1,6 @@
 -- Rules by which `search` follows a definition by cases of what is due: w is what the code matched
 -- on.
-use mathlib.Core.Path.{_≡_, sym}
+use mathlib.Core.Path.{_≡_}
 use mathlib.Core.Bool.{Bool}
 use Prim.Native.Nat.{ℕ, _+_}
 use Rattle.header.specs.Header.{arrivedAt, onTag, onLength, onOne, onFirst, onSecond, moved}

@@ -1,7 +1,7 @@
 -- Rules by which the code follows the definitions: w is what the code matched on.
-use mathlib.Core.Path.{_≡_, refl, sym, ap, _∙_}
-use mathlib.Core.Bool.{Bool, true, false}
-use mathlib.Core.List.{List, [], _∷_}
+use mathlib.Core.Path.{_≡_, refl, sym, _∙_}
+use mathlib.Core.Bool.{Bool}
+use mathlib.Core.List.{List}
 use Prim.Native.Nat.{ℕ, zero, suc, _+_, _-_, _/_, _%_, _≤_, _<_}
 use native.Mathlib.Omega.{arith}
 use lib.Dec.{ltb, leb}
@@ -13,9 +13,9 @@ use Rattle.der.specs.declared.Fault.{Fault}
 use Rattle.header.specs.Numbers.{surplus, uploadLevels}
 use Rattle.header.specs.Header.{moved}
 use Rattle.header.specs.declared.Due.{Due}
-use Rattle.header.specs.declared.Due.the-variants.{Tag, Length, One, First, Second, Body, Nothing}
+use Rattle.header.specs.declared.Due.the-variants.{Body}
 use Rattle.header.specs.declared.Move.{Move}
-use Rattle.header.specs.declared.Move.the-variants.{Refuse, Await, Enter, Pass, Surplus, Stay}
+use Rattle.header.specs.declared.Move.the-variants.{Refuse, Await, Enter, Pass, Surplus}
 use Rattle.stream.specs.declared.Upload.{Upload}
 use Rattle.stream.specs.declared.Status.{Status}
 use Rattle.stream.specs.declared.Status.the-variants.{NoFault}

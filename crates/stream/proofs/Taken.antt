@@ -4,11 +4,10 @@ use mathlib.Core.Path.{_≡_, refl, sym, ap, _∙_}
 use mathlib.Core.List.{List, [], _∷_}
 use Prim.Native.Nat.{ℕ, zero, suc, _+_, _-_, _≤_, _<_}
 use native.Mathlib.Omega.{arith}
-use lib.Dec.{ltb, leb}
+use lib.Dec.{leb}
 use lib.ListN.{length, getD, drop, length-drop, drop-of-length-le}
 use lib.Seq.{drop-cons, drop-drop}
-use borrow.Author.Tests.{lt-ltb, le-ltb}
-use Rattle.der.specs.Choice.{if_then_else_}
+use borrow.Author.Tests.{lt-ltb}
 use Rattle.der.proofs.Choices.{by-lt}
 use Rattle.header.specs.Numbers.{uploadLevels}
 use Rattle.header.specs.Header.{moved}

@@ -1,6 +1,5 @@
 -- How bytes are passed at once. Nobody has to believe this: `take` is `taken`, which takes them one by
 -- one.
-use mathlib.Core.List.{List}
 use Prim.Native.Nat.{ℕ, _-_}
 use lib.Dec.{ltb}
 use Rattle.der.specs.Choice.{if_then_else_}

@@ -1,6 +1,6 @@
 -- What each case of an answer reports (Rule 9.2). `Report` is that of `der`; beside a refusal's
 -- number and offset its value is the number of bytes after which it was certain.
-use mathlib.Core.List.{List, [], _∷_}
+use mathlib.Core.List.{[], _∷_}
 use Prim.Native.Nat.{ℕ}
 use Rattle.der.specs.Report.{Report, passing}
 use Rattle.der.specs.declared.Fault.{Fault}

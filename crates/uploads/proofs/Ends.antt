@@ -1,10 +1,9 @@
 -- The answer at the end is what is due; and what is due is one status and one answer.
 use mathlib.Core.Path.{_≡_, refl, sym, ap, _∙_}
 use mathlib.Core.Bool.{Bool, true, false}
-use mathlib.Core.List.{List, [], _∷_, _++_}
-use mathlib.Core.Option.{Option, some}
+use mathlib.Core.List.{List}
 use mathlib.Core.Option as option
-use Prim.Native.Nat.{ℕ, zero, suc, _+_, _≤_, _<_}
+use Prim.Native.Nat.{ℕ, _+_, _<_}
 use native.Mathlib.Omega.{arith}
 use native.Mathlib.Nat.{zero-add}
 use lib.ListN.{length, take, drop, take-append-drop}
@@ -26,13 +25,12 @@ use Rattle.stream.specs.Upload.{taken, begun, statusAt, statusOf, isWhole, onSt
 use Rattle.stream.proofs.Taken.{taken-refused}
 use Rattle.uploads.specs.Whole.{Tally, Answer, Refused, Passed, whole}
 use Rattle.uploads.specs.Certain.{Certain}
-use Rattle.uploads.specs.Judged.{FirstFault, NoneCertain, StatusIs, faulty, beyond, fine}
+use Rattle.uploads.specs.Judged.{NoneCertain, StatusIs, faulty, beyond, fine}
 use Rattle.uploads.specs.Judged.{EndIs, ends-faulty, ends-beyond, ends-short, ends-whole, answerOf}
-use Rattle.uploads.proofs.Machine.{State, Failed, Open, Done, feed, start, certainly}
+use Rattle.uploads.proofs.Machine.{Done, feed, start, certainly}
 use Rattle.uploads.proofs.Link.{after, whole-fed}
 use Rattle.uploads.proofs.Kept.{Given, Awaits, announced, start-given}
-use Rattle.uploads.proofs.Certain.{certainly-certain, certain-certainly}
-use Rattle.uploads.proofs.Follows.{endsOf, tallyOf, stateAt, stateOf, Follows}
+use Rattle.uploads.proofs.Follows.{tallyOf, stateAt, stateOf}
 use Rattle.uploads.proofs.Runs.{Ran, found, ran, run}
 use Rattle.uploads.proofs.Judged.{begin-by, status-is}
 

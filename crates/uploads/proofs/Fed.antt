@@ -7,7 +7,7 @@ use native.Mathlib.Omega.{arith}
 use lib.Dec.{leb, ltb, eqb}
 use lib.ListN.{length, getD, drop, length-drop}
 use lib.Seq.{drop-cons, drop-drop}
-use borrow.Author.Tests.{lt-ltb, le-ltb, le-leb, lt-leb, ltb-true, ltb-false, leb-true, leb-false}
+use borrow.Author.Tests.{lt-ltb, le-ltb, le-leb, lt-leb, ltb-true, leb-true, leb-false}
 use Rattle.der.specs.Numbers.{tooMany, overrun, tagForm, lengthForm}
 use Rattle.der.specs.Element.{cursor, fault, elementAt, onElement, onExtent, extentAt, oneOctet, twoOctets, within}
 use Rattle.der.specs.Span.{Bytes}

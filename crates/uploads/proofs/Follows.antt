@@ -3,30 +3,24 @@
 use mathlib.Core.Path.{_≡_, refl, sym, ap, _∙_}
 use mathlib.Core.Bool.{Bool, true, false}
 use mathlib.Core.List.{List, [], _∷_}
-use Prim.Native.Nat.{ℕ, zero, suc, _+_, _*_, _/_, _%_, _≤_, _<_, max}
+use Prim.Native.Nat.{ℕ, zero, suc, _+_, _/_, _%_, _≤_, _<_}
 use native.Mathlib.Omega.{arith}
 use native.Mathlib.Numerals.{add-one}
 use lib.Dec.{leb, ltb, eqb}
-use lib.ListN.{length, getD, set, length-set}
+use lib.ListN.{length, set, length-set}
 use lib.Seq.{getD-set-same, getD-set-other}
 use borrow.Author.Tests.{lt-ltb, ltb-false, leb-false}
 use Rattle.der.specs.Choice.{if_then_else_}
 use Rattle.der.specs.Element.{fault}
-use Rattle.der.specs.Numbers.{leftOver, tooMany}
-use Rattle.der.proofs.Choices.{never, by-lt, by-le, by-eq}
+use Rattle.der.proofs.Choices.{never}
 use Rattle.header.specs.Numbers.{uploadLevels}
-use Rattle.header.specs.Header.{entering, onTag, onLength, onOne, onFirst, onSecond, moved}
 use Rattle.header.specs.declared.Due.{Due}
 use Rattle.header.specs.declared.Due.the-variants.{Tag, Length, One, First, Second, Body, Nothing}
-use Rattle.header.specs.declared.Move.{Move}
-use Rattle.header.specs.declared.Move.the-variants.{Refuse, Await, Enter, Pass}
 use Rattle.stream.specs.declared.Upload.{Upload}
-use Rattle.stream.specs.Upload.{endAt, parentEnd, stillOpen, withDue, closedTo, closedAt, isRefused, bodyBefore}
-use Rattle.stream.specs.Upload.{bodyFrom, oneMore, counted, pushed, entered, passed, applied, stepped}
-use Rattle.stream.proofs.Taken.{stepped-on}
+use Rattle.stream.specs.Upload.{endAt, parentEnd, stillOpen, closedTo, closedAt, isRefused, bodyBefore}
+use Rattle.stream.specs.Upload.{bodyFrom, oneMore, counted, pushed, entered, passed}
 use Rattle.uploads.specs.Whole.{Tally, tallied}
-use Rattle.uploads.proofs.Machine.{State, Failed, Open, Done, top, close, passing, unless, body, enter, pass}
-use Rattle.uploads.proofs.Machine.{apply, step}
+use Rattle.uploads.proofs.Machine.{State, Failed, Open, Done, top, close, unless, body, enter, pass}
 use Rattle.uploads.proofs.Fed.{cases}
 
 -- the ends of the open elements, the innermost first

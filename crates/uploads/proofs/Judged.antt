@@ -1,17 +1,15 @@
 -- The status and the answer at the end are what is due.
 use mathlib.Core.Path.{_≡_, refl, sym, ap, _∙_}
-use mathlib.Core.Bool.{Bool, true, false}
-use mathlib.Core.List.{List, [], _∷_, _++_}
+use mathlib.Core.List.{List, [], _∷_}
 use mathlib.Core.Option.{Option, some}
 use mathlib.Core.Option as option
-use Prim.Native.Nat.{ℕ, zero, suc, _+_, _≤_, _<_}
+use Prim.Native.Nat.{ℕ, suc, _+_, _≤_, _<_}
 use native.Mathlib.Omega.{arith}
 use native.Mathlib.Nat.{zero-add}
 use lib.Dec.{ltb, eqb}
-use lib.ListN.{length, take, drop, getD, take-append-drop, length-append}
-use lib.Seq.{take-nil, take-all, length-take-le, take-suc}
-use borrow.Author.Tests.{lt-ltb, le-ltb, eq-eqb, ne-eqb, ltb-true, ltb-false, eqb-true, eqb-false}
-use Rattle.der.specs.Choice.{if_then_else_}
+use lib.ListN.{length, take, getD}
+use lib.Seq.{take-all, length-take-le, take-suc}
+use borrow.Author.Tests.{ltb-false}
 use Rattle.der.specs.Element.{fault}
 use Rattle.der.specs.Numbers.{missing}
 use Rattle.der.specs.Span.{Bytes}
@@ -19,25 +17,23 @@ use Rattle.der.specs.declared.Fault.{Fault}
 use Rattle.der.proofs.Choices.{either}
 use Rattle.der.proofs.Spans.{bytes-take}
 use Rattle.buffer.specs.Numbers.{fileBytes, tooLong}
-use Rattle.header.specs.Numbers.{surplus, early}
-use Rattle.header.specs.Header.{arrivedAt}
+use Rattle.header.specs.Numbers.{surplus}
 use Rattle.header.specs.declared.Due.{Due}
 use Rattle.header.specs.declared.Due.the-variants.{Tag, Length, One, First, Second, Body, Nothing}
 use Rattle.stream.specs.declared.Upload.{Upload}
 use Rattle.stream.specs.declared.Status.{Status}
 use Rattle.stream.specs.declared.Status.the-variants.{NoFault}
-use Rattle.stream.specs.declared.End.{End}
-use Rattle.stream.specs.Upload.{taken, noEnds, first, begun, statusAt, statusOf, isWhole, onStatus, ended}
+use Rattle.stream.specs.Upload.{taken, noEnds, first, begun, statusAt, statusOf}
 use Rattle.stream.proofs.Taken.{taken-refused}
-use Rattle.uploads.specs.Whole.{Tally, noElement, Answer, Refused, Passed, whole}
+use Rattle.uploads.specs.Whole.{Tally, noElement, Refused}
 use Rattle.uploads.specs.Certain.{Certain}
 use Rattle.uploads.specs.Judged.{FirstFault, NoneCertain, StatusIs, faulty, beyond, fine}
-use Rattle.uploads.proofs.Machine.{State, Failed, Open, Done, top, step, feed, start, certainly}
+use Rattle.uploads.proofs.Machine.{State, Failed, Open, Done, step, feed, start, certainly}
 use Rattle.uploads.proofs.Fed.{cases, fed-append}
 use Rattle.uploads.proofs.Kept.{Given, Kept, announced, given, start-given}
 use Rattle.uploads.proofs.Certain.{certainly-certain, certain-certainly}
 use Rattle.uploads.proofs.Follows.{endsIn, stateAt, stateOf, Follows}
-use Rattle.uploads.proofs.Runs.{Ran, found, ran, run, either-state}
+use Rattle.uploads.proofs.Runs.{Ran, found, ran, run}
 
 -- ---- with the announcement
 

@@ -4,9 +4,8 @@ use mathlib.Core.List.{List, [], _∷_}
 use mathlib.Core.Option as option
 use Prim.Native.Nat.{ℕ, suc, _+_, _*_, _/_, _%_, _≤_, _<_}
 use native.Mathlib.Omega.{arith}
-use lib.Dec.{leb, ltb}
+use lib.Dec.{leb}
 use lib.ListN.{length}
-use Rattle.der.specs.Choice.{if_then_else_}
 use Rattle.der.proofs.Choices.{either, by-lt, by-le, by-eq}
 use Rattle.buffer.specs.Numbers.{fileBytes}
 use Rattle.header.specs.Numbers.{uploadLevels}

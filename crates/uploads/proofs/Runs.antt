@@ -1,26 +1,23 @@
 -- Whole runs: an upload follows the machine up to the first fault, which it keeps.
 use mathlib.Core.Path.{_≡_, refl, sym, ap, _∙_}
-use mathlib.Core.List.{List, [], _∷_, _++_}
+use mathlib.Core.List.{List, [], _∷_}
 use mathlib.Core.Option.{Option, some}
 use mathlib.Core.Option as option
 use Prim.Native.Nat.{ℕ, zero, suc, _+_, _≤_, _<_}
 use native.Mathlib.Omega.{arith}
-use lib.Dec.{ltb, eqb}
 use lib.ListN.{length, take}
 use lib.Seq.{take-nil}
-use borrow.Author.Tests.{le-ltb, ne-eqb}
-use Rattle.der.specs.Choice.{if_then_else_}
 use Rattle.der.specs.Element.{fault}
 use Rattle.der.specs.declared.Fault.{Fault}
 use Rattle.buffer.specs.Numbers.{fileBytes}
 use Rattle.header.specs.declared.Due.{Due}
 use Rattle.header.specs.declared.Due.the-variants.{Tag, Length, One, First, Second, Body, Nothing}
 use Rattle.stream.specs.declared.Upload.{Upload}
-use Rattle.stream.specs.Upload.{taken, stepped, noEnds, first, begun}
-use Rattle.stream.proofs.Taken.{taken-cons, taken-refused}
-use Rattle.uploads.proofs.Machine.{State, Failed, Open, Done, top, step, feed, start, certainly}
-use Rattle.uploads.proofs.Kept.{Given, step-given, start-given}
-use Rattle.uploads.proofs.Follows.{endsIn, stateAt, stateOf, Since, Follows}
+use Rattle.stream.specs.Upload.{taken, stepped}
+use Rattle.stream.proofs.Taken.{taken-refused}
+use Rattle.uploads.proofs.Machine.{State, Failed, Open, Done, step, feed, certainly}
+use Rattle.uploads.proofs.Kept.{Given, step-given}
+use Rattle.uploads.proofs.Follows.{stateAt, Since, Follows}
 use Rattle.uploads.proofs.Stepped.{step-follows}
 
 -- what a run of p comes to, from an upload with i bytes: the first fault, after j bytes more, or none

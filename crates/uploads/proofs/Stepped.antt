@@ -1,13 +1,11 @@
 -- One byte: an upload that follows a state that isn't a fault follows the next one too.
-use mathlib.Core.Path.{_≡_, refl, sym, ap, _∙_}
-use mathlib.Core.Bool.{Bool, true, false}
-use mathlib.Core.List.{List, [], _∷_}
+use mathlib.Core.Path.{_≡_, refl, sym}
+use mathlib.Core.Bool.{Bool}
 use mathlib.Core.Option as option
-use Prim.Native.Nat.{ℕ, zero, suc, _+_, _*_, _%_, _≤_, _<_}
+use Prim.Native.Nat.{ℕ, _+_, _*_, _%_, _≤_, _<_}
 use native.Mathlib.Omega.{arith}
-use lib.Dec.{leb, ltb, eqb}
+use lib.Dec.{leb}
 use lib.ListN.{length}
-use Rattle.der.specs.Choice.{if_then_else_}
 use Rattle.der.proofs.Choices.{by-test, by-lt, by-le, by-eq}
 use Rattle.buffer.specs.Numbers.{fileBytes}
 use Rattle.header.specs.Numbers.{uploadLevels}
@@ -17,13 +15,12 @@ use Rattle.header.specs.declared.Due.the-variants.{Tag, Length, One, First, Sec
 use Rattle.header.specs.declared.Move.{Move}
 use Rattle.header.specs.declared.Move.the-variants.{Refuse, Await, Enter, Pass}
 use Rattle.stream.specs.declared.Upload.{Upload}
-use Rattle.stream.specs.Upload.{parentEnd, withDue, applied, stepped}
+use Rattle.stream.specs.Upload.{applied, stepped}
 use Rattle.stream.proofs.Taken.{stepped-on}
-use Rattle.uploads.specs.Whole.{Tally}
-use Rattle.uploads.proofs.Machine.{State, Failed, Open, Done, top, apply, step, certainly}
+use Rattle.uploads.proofs.Machine.{State, top, apply, step, certainly}
 use Rattle.uploads.proofs.Kept.{Given, Kept, Awaits, top-within}
 use Rattle.uploads.proofs.Kept as kept
-use Rattle.uploads.proofs.Follows.{endsOf, tallyOf, stateAt, stateOf, Since, Follows, ends-length, parent-top}
+use Rattle.uploads.proofs.Follows.{endsOf, tallyOf, stateAt, Follows, ends-length, parent-top}
 use Rattle.uploads.proofs.Follows.{since-at, entered-follows, passed-follows}
 
 -- a move of an upload with i bytes so far

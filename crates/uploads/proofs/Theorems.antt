@@ -3,14 +3,12 @@
 use mathlib.Core.Path.{_≡_, refl, sym, ap, _∙_}
 use mathlib.Core.Logic.{_↔_}
 use mathlib.Core.List.{List, [], _∷_, _++_}
-use mathlib.Core.Option.{Option, some}
-use mathlib.Core.Option as option
+use mathlib.Core.Option.{some}
 use Prim.Native.Nat.{ℕ, _≤_, _<_}
 use native.Mathlib.Omega.{arith}
 use lib.ListN.{length, take, drop, take-append-drop}
 use lib.Seq.{take-all}
 use borrow.Author.Tests.{lt-ltb}
-use Rattle.der.specs.Choice.{if_then_else_}
 use Rattle.der.specs.Element.{fault}
 use Rattle.der.specs.Span.{Bytes}
 use Rattle.der.specs.Tree.{Tree, encode, depth, Formed}
@@ -27,7 +25,7 @@ use Rattle.stream.specs.declared.End.{End}
 use Rattle.stream.specs.Upload.{taken, stepped, first, begun, statusAt, statusOf, ended}
 use Rattle.der.proofs.Spans.{bytes-drop}
 use Rattle.stream.proofs.Taken.{taken-refused}
-use Rattle.uploads.specs.Whole.{Tally, Answer, Refused, Passed, whole}
+use Rattle.uploads.specs.Whole.{Tally, Refused, Passed, whole}
 use Rattle.uploads.specs.Same.{opaqueThenFinish, forgotten, PassedTree}
 use Rattle.uploads.specs.Certain.{Certain}
 use Rattle.uploads.specs.Judged.{joined, takenAll, FirstFault, NoneCertain, StatusIs, faulty, beyond, fine}

@@ -1,8 +1,8 @@
 -- What is due is one status and one answer.
-use mathlib.Core.Path.{_≡_, refl, sym, ap, _∙_}
-use mathlib.Core.List.{List, [], _∷_, _++_}
+use mathlib.Core.Path.{_≡_, refl, sym, _∙_}
+use mathlib.Core.List.{List}
 use mathlib.Core.Option.{Option, some}
-use Prim.Native.Nat.{ℕ, _+_, _≤_, _<_}
+use Prim.Native.Nat.{ℕ, _≤_}
 use native.Mathlib.Omega.{arith}
 use lib.ListN.{length, take}
 use lib.Seq.{length-take-le}
@@ -11,10 +11,9 @@ use Rattle.der.specs.Span.{Bytes}
 use Rattle.der.specs.declared.Fault.{Fault}
 use Rattle.der.proofs.Choices.{either}
 use Rattle.der.proofs.Spans.{bytes-take}
-use Rattle.header.specs.Numbers.{surplus}
 use Rattle.stream.specs.declared.Status.{Status}
 use Rattle.stream.specs.declared.End.{End}
-use Rattle.uploads.specs.Whole.{Tally, Answer, Refused, Passed, whole}
+use Rattle.uploads.specs.Whole.{Tally, Refused, Passed, whole}
 use Rattle.uploads.specs.Certain.{Certain}
 use Rattle.uploads.specs.Judged.{FirstFault, NoneCertain, StatusIs, faulty, beyond, fine}
 use Rattle.uploads.specs.Judged.{EndIs, ends-faulty, ends-beyond, ends-short, ends-whole, answerOf}

@@ -7,7 +7,6 @@ use native.Mathlib.Omega.{arith}
 use lib.ListN.{length, length-append}
 use lib.Seq.{drop-at}
 use borrow.Author.Tests.{lt-ltb, le-ltb, le-leb, lt-leb, eq-eqb, ne-eqb}
-use Rattle.der.specs.Span.{Bytes}
 use Rattle.der.specs.Numbers.{tooMany, overrun}
 use Rattle.der.specs.Element.{fault}
 use Rattle.der.specs.declared.Fault.{Fault}

@@ -1,11 +1,10 @@
 -- What comes of zeros: after an element they close every element that ends with it, and a fault that
 -- follows is at that offset and isn't 3.
-use mathlib.Core.Path.{_≡_, refl, sym, ap, _∙_}
+use mathlib.Core.Path.{_≡_, refl}
 use mathlib.Core.List.{List, [], _∷_}
 use Prim.Native.Nat.{ℕ, zero, suc, _+_, _-_, _/_, _%_, _≤_, _<_}
 use native.Mathlib.Omega.{arith}
 use lib.ListN.{length, drop, replicate, length-replicate}
-use borrow.Author.Tests.{lt-ltb, le-ltb}
 use Rattle.der.specs.Span.{Bytes}
 use Rattle.der.specs.Numbers.{leftOver, tooMany, overrun, tagForm, lengthForm}
 use Rattle.der.specs.Element.{fault}
@@ -13,9 +12,9 @@ use Rattle.der.proofs.Choices.{by-lt, by-le, by-eq}
 use Rattle.header.specs.Numbers.{uploadLevels}
 use Rattle.header.specs.Header.{entering, onTag}
 use Rattle.header.specs.declared.Due.{Due}
-use Rattle.header.specs.declared.Due.the-variants.{Tag, Body}
+use Rattle.header.specs.declared.Due.the-variants.{Tag}
 use Rattle.uploads.specs.Whole.{Tally, tallied}
-use Rattle.uploads.proofs.Machine.{State, Failed, Open, Done, top, close, unless, body, enter, pass}
+use Rattle.uploads.proofs.Machine.{State, Failed, Open, Done, top, close, body, enter}
 use Rattle.uploads.proofs.Machine.{apply, step, feed}
 use Rattle.uploads.proofs.Fed.{fed-failed, fed-refused, body-over}
 use Rattle.uploads.proofs.Kept.{Nested, top-within}

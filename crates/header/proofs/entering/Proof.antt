@@ -4,7 +4,6 @@ use Rattle.header.specs.Header.{entering}
 use borrow.Author.Needs.{needs}
 use Rattle.header.proofs.entering.Statement.{statement}
 use Rattle.header.proofs.entering.Tie as tie
-use Rattle.header.proofs.entering.Lts as lts
 
 cast-after : tie.Need-cast-after
 cast-after c = search needs

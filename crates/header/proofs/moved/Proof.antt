@@ -3,7 +3,6 @@ use Rattle.header.proofs.Rules.{cases}
 use borrow.Author.Needs.{needs}
 use Rattle.header.proofs.moved.Statement.{statement}
 use Rattle.header.proofs.moved.Tie as tie
-use Rattle.header.proofs.moved.Lts as lts
 
 enum-known-due : tie.Need-enum-known-due
 enum-known-due c = search needs

@@ -4,7 +4,6 @@ use Rattle.header.specs.Header.{onFirst}
 use borrow.Author.Needs.{needs}
 use Rattle.header.proofs.on_first.Statement.{statement}
 use Rattle.header.proofs.on_first.Tie as tie
-use Rattle.header.proofs.on_first.Lts as lts
 
 add-after : tie.Need-add-after
 add-after c = search needs

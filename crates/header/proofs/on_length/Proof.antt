@@ -4,7 +4,6 @@ use Rattle.header.specs.Header.{onLength}
 use borrow.Author.Needs.{needs}
 use Rattle.header.proofs.on_length.Statement.{statement}
 use Rattle.header.proofs.on_length.Tie as tie
-use Rattle.header.proofs.on_length.Lts as lts
 
 add-after : tie.Need-add-after
 add-after c = search needs

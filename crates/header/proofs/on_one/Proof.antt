@@ -4,7 +4,6 @@ use Rattle.header.specs.Header.{onOne}
 use borrow.Author.Needs.{needs}
 use Rattle.header.proofs.on_one.Statement.{statement}
 use Rattle.header.proofs.on_one.Tie as tie
-use Rattle.header.proofs.on_one.Lts as lts
 
 add-after : tie.Need-add-after
 add-after c = search needs

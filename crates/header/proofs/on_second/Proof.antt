@@ -4,7 +4,6 @@ use Rattle.header.specs.Header.{onSecond}
 use borrow.Author.Needs.{needs}
 use Rattle.header.proofs.on_second.Statement.{statement}
 use Rattle.header.proofs.on_second.Tie as tie
-use Rattle.header.proofs.on_second.Lts as lts
 
 add-start : tie.Need-add-start
 add-start c = search needs

@@ -4,7 +4,6 @@ use Rattle.header.specs.Header.{onTag}
 use borrow.Author.Needs.{needs}
 use Rattle.header.proofs.on_tag.Statement.{statement}
 use Rattle.header.proofs.on_tag.Tie as tie
-use Rattle.header.proofs.on_tag.Lts as lts
 
 add-after : tie.Need-add-after
 add-after c = search needs

@@ -5,7 +5,6 @@ use Rattle.stream.proofs.Rules.{bulk-body}
 use borrow.Author.Needs.{needs}
 use Rattle.stream.proofs.bulk.Statement.{statement}
 use Rattle.stream.proofs.bulk.Tie as tie
-use Rattle.stream.proofs.bulk.Lts as lts
 
 enum-told : tie.Need-enum-told
 enum-told c = search needs

@@ -3,7 +3,6 @@ use Rattle.stream.proofs.Rules.{skipped-body}
 use borrow.Author.Needs.{needs}
 use Rattle.stream.proofs.skip.Statement.{statement}
 use Rattle.stream.proofs.skip.Tie as tie
-use Rattle.stream.proofs.skip.Lts as lts
 
 enum-told : tie.Need-enum-told
 enum-told c = search needs

@@ -3,7 +3,6 @@ use Rattle.stream.proofs.Rules.{stepped-by}
 use borrow.Author.Needs.{needs}
 use Rattle.stream.proofs.step.Statement.{statement}
 use Rattle.stream.proofs.step.Tie as tie
-use Rattle.stream.proofs.step.Lts as lts
 
 parent-end-requires : tie.Need-parent-end-requires
 parent-end-requires c κs = search needs

@@ -4,7 +4,6 @@ use Rattle.stream.specs.Upload.{begun, first, noEnds}
 use borrow.Author.Needs.{needs}
 use Rattle.stream.proofs.Upload.begin.Statement.{statement}
 use Rattle.stream.proofs.Upload.begin.Tie as tie
-use Rattle.stream.proofs.Upload.begin.Lts as lts
 
 returns : tie.Need-returns
 unfolding begun first noEnds

@@ -7,7 +7,6 @@ use Rattle.stream.proofs.Rules.{on-none, on-refused}
 use borrow.Author.Needs.{needs}
 use Rattle.stream.proofs.Upload.end.Statement.{statement}
 use Rattle.stream.proofs.Upload.end.Tie as tie
-use Rattle.stream.proofs.Upload.end.Lts as lts
 
 status-requires : tie.Need-status-requires
 status-requires c κs = search needs

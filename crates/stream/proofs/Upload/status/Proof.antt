@@ -5,7 +5,6 @@ use Rattle.stream.proofs.Rules.{status-refused}
 use borrow.Author.Needs.{needs}
 use Rattle.stream.proofs.Upload.status.Statement.{statement}
 use Rattle.stream.proofs.Upload.status.Tie as tie
-use Rattle.stream.proofs.Upload.status.Lts as lts
 
 enum-told : tie.Need-enum-told
 enum-told c = search needs

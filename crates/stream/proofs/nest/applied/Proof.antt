@@ -3,7 +3,6 @@ use Rattle.stream.proofs.Rules.{applied-refuse, applied-await, applied-
 use borrow.Author.Needs.{needs}
 use Rattle.stream.proofs.nest.applied.Statement.{statement}
 use Rattle.stream.proofs.nest.applied.Tie as tie
-use Rattle.stream.proofs.nest.applied.Lts as lts
 
 enum-known-m : tie.Need-enum-known-m
 enum-known-m c = search needs

@@ -5,7 +5,6 @@ use Rattle.stream.proofs.Rules.{body-before}
 use borrow.Author.Needs.{needs}
 use Rattle.stream.proofs.nest.body_from.Statement.{statement}
 use Rattle.stream.proofs.nest.body_from.Tie as tie
-use Rattle.stream.proofs.nest.body_from.Lts as lts
 
 closed-requires : tie.Need-closed-requires
 closed-requires c κs = search needs

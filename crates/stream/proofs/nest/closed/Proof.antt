@@ -5,7 +5,6 @@ use Rattle.stream.proofs.Rules.{closed-to}
 use borrow.Author.Needs.{needs}
 use Rattle.stream.proofs.nest.closed.Statement.{statement}
 use Rattle.stream.proofs.nest.closed.Tie as tie
-use Rattle.stream.proofs.nest.closed.Lts as lts
 
 still-open-requires : tie.Need-still-open-requires
 still-open-requires c κs = search needs

@@ -2,7 +2,6 @@
 use borrow.Author.Needs.{needs}
 use Rattle.stream.proofs.nest.counted.Statement.{statement}
 use Rattle.stream.proofs.nest.counted.Tie as tie
-use Rattle.stream.proofs.nest.counted.Lts as lts
 
 one-more-requires : tie.Need-one-more-requires
 one-more-requires c κs = search needs

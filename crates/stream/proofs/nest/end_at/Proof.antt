@@ -4,7 +4,6 @@ use Rattle.stream.specs.Upload.{endAt}
 use borrow.Author.Needs.{needs}
 use Rattle.stream.proofs.nest.end_at.Statement.{statement}
 use Rattle.stream.proofs.nest.end_at.Tie as tie
-use Rattle.stream.proofs.nest.end_at.Lts as lts
 
 mul-result : tie.Need-mul-result
 mul-result c = search needs

@@ -5,7 +5,6 @@ use Rattle.stream.proofs.Rules.{entered-body, entered-open}
 use borrow.Author.Needs.{needs}
 use Rattle.stream.proofs.nest.entered.Statement.{statement}
 use Rattle.stream.proofs.nest.entered.Tie as tie
-use Rattle.stream.proofs.nest.entered.Lts as lts
 
 with-requires : tie.Need-with-requires
 with-requires c κs = search needs

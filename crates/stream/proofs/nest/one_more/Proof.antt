@@ -4,7 +4,6 @@ use Rattle.stream.specs.Upload.{oneMore}
 use borrow.Author.Needs.{needs}
 use Rattle.stream.proofs.nest.one_more.Statement.{statement}
 use Rattle.stream.proofs.nest.one_more.Tie as tie
-use Rattle.stream.proofs.nest.one_more.Lts as lts
 
 add-result : tie.Need-add-result
 add-result c = search needs

@@ -3,7 +3,6 @@ use Rattle.stream.proofs.Rules.{parent-none, parent-some}
 use borrow.Author.Needs.{needs}
 use Rattle.stream.proofs.nest.parent_end.Statement.{statement}
 use Rattle.stream.proofs.nest.parent_end.Tie as tie
-use Rattle.stream.proofs.nest.parent_end.Lts as lts
 
 returns : tie.Need-returns
 returns c = search (parent-none, parent-some, needs)

@@ -4,7 +4,6 @@ use Rattle.stream.specs.Upload.{passed}
 use borrow.Author.Needs.{needs}
 use Rattle.stream.proofs.nest.passed.Statement.{statement}
 use Rattle.stream.proofs.nest.passed.Tie as tie
-use Rattle.stream.proofs.nest.passed.Lts as lts
 
 add-next : tie.Need-add-next
 add-next c = search needs
