@@ -1,5 +1,5 @@
 // An upload as plain cells of 16 bits in a caller's memory: the check of an upload for callers that
-// hold no value of it. Every call answers any cells. The cells are those of `p12_upload` in
+// hold no value of it. Every call answers any cells. They are the `state` of `p12_upload_begin` in
 // include/p12.h.
 ghost use mathlib.Core.Path.{_≡_};
 ghost use Rattle.der.specs.Span.{Bytes};
