@@ -15,6 +15,18 @@ static size_t walker(const uint8_t *file, size_t n)
     return (size_t)walk(file, n, &walked, &fault);
 }
 
+/* Begin, one portion, end: the deepest of the three. */
+static size_t call_upload(const uint8_t *file, size_t n)
+{
+    uint16_t state[P12_UPLOAD_LENGTH];
+    size_t offset, after, elements, level;
+
+    p12_upload_begin(n, state, P12_UPLOAD_LENGTH);
+    p12_upload_take(state, P12_UPLOAD_LENGTH, file, n);
+    p12_upload_end(state, P12_UPLOAD_LENGTH, &offset, &after, &elements, &level);
+    return elements;
+}
+
 static void show_stack(int there, peer call, const uint8_t *file, size_t n)
 {
     if (there)
@@ -35,6 +47,7 @@ static int stack_of_file(const char *name, const uint8_t *file, size_t n)
     show_stack(1, call_pairs, file, n);
     show_stack(table.attribute_count > 0, call_attribute, file, n);
     show_stack(subjects.keys > 0, call_certificate_for, file, n);
+    show_stack(1, call_upload, file, n);
     show_stack(1, walker, file, n);
     puts("");
     return 0;
@@ -44,5 +57,5 @@ int main(int argc, char **argv)
 {
     return each_file(argc, argv,
         "stack in bytes                bytes      read     write mac_input      list     pairs attribute  cert_for"
-        "         c", stack_of_file);
+        "    upload         c", stack_of_file);
 }

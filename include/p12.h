@@ -25,9 +25,9 @@
  *
  * What a call takes on trust: a pointer and its length belong together, and the pointer isn't NULL
  * unless the length is 0; pointers to single results are never NULL; every pointer is aligned as
- * its type requires, so the words of a table or a row to 4 bytes (struct p12_table is), the cells of
- * an upload to 2; what is
- * written shares no byte with anything else that is handed over; and there is enough stack.
+ * its type requires, so the words of a table or a row to 4 bytes (struct p12_table is), and the
+ * cells of an upload to 2; what is written shares no byte with anything else that is handed over;
+ * and there is enough stack.
  *
  * The stack that one call takes on x86-64, in bytes, measured and not proved:
  *
@@ -35,6 +35,8 @@
  *   p12_mac_input    107,200       p12_write              74,000
  *   p12_list         107,200       p12_attribute          70,500
  *   p12_pairs        114,500       p12_element               100
+ *
+ * and 500 for the calls on uploads, whatever arrives.
  *
  * That is for a file as deep as one can be; 307 bytes are enough for such a file, so a thread that
  * reads files of unknown origin needs that much. */
