@@ -99,7 +99,8 @@ module _ (s : List ℕ) where
   unfolding statusIn
   status-few r h p = at-lt _ _ _ _ _ h p
 
-  pub status-held : (r : Status) (u : Upload) → uploadLength ≤ length s → u ≡ uploadIn s → r ≡ statusOf u → r ≡ statusIn s
+  pub status-held : (r : Status) (u : Upload) → uploadLength ≤ length s → u ≡ uploadIn s → r ≡ statusOf u
+      → r ≡ statusIn s
   unfolding statusIn
   status-held r u h i p = at-not-lt _ _ _ _ _ h (p ∙ ap (λ (x : Upload). statusOf x) i)
 

@@ -1,5 +1,5 @@
-// The header of an element, byte by byte: what the next byte decides, with the first byte that does.
-// Every public function answers any values.
+// The header of an element, byte by byte: what the next byte decides, with the first byte that
+// does. Every public function answers any values.
 ghost use mathlib.Core.Path.{_≡_};
 ghost use Prim.Native.Nat.{_+_, _^_, _<_};
 ghost use Rattle.header.specs.Header.{arrivedAt, entering, onTag, onLength, onOne, onFirst};
@@ -30,12 +30,13 @@ pub enum Due {
     Body { at: u16, end: u16 },
     // nothing: every byte that was announced is here
     Nothing,
-    // nothing matters any more: the fault, and the number of bytes after which it was certain
+    // nothing: a fault is certain, since so many bytes
     Refused { number: u8, offset: u16, after: u32 },
 }
 
-// What a byte does: refuses the element at `at`, after so many bytes, waits for the next byte of a header, enters the
-// body of an element, passes a byte of a body, comes after the last one, or changes nothing.
+// What a byte does: refuses the element at `at`, after so many bytes, waits for the next byte of
+// a header, enters the body of an element, passes a byte of a body, comes after the last one, or
+// changes nothing.
 pub enum Move {
     Refuse {
         number: u8,

@@ -1,5 +1,5 @@
--- The ways out of the calls on uploads: what an answer reports, by its case, and what a call returns
--- and stores of the answer that `cells` gave. w is what the code matched on.
+-- The ways out of the calls on uploads: what an answer reports, by its case, and what a call
+-- returns and stores of the answer that `cells` gave. w is what the code matched on.
 use mathlib.Core.Path.{_≡_, ap, _∙_}
 use Prim.Native.Nat.{ℕ}
 use Rattle.der.specs.declared.Fault.{Fault}
@@ -16,8 +16,8 @@ module _ (w : Status) (r : Reported) where
   pub none-reported : w ≡ NoFault → r ≡ reported ok 0 0 0 0 → r ≡ statusReported w
   none-reported p e = rw p e
 
-  pub fault-reported : (f : Fault) (after : ℕ) → w ≡ Status.Refused f after → r ≡ reported (f .number) (f .offset) after 0 0
-      → r ≡ statusReported w
+  pub fault-reported : (f : Fault) (after : ℕ) → w ≡ Status.Refused f after
+      → r ≡ reported (f .number) (f .offset) after 0 0 → r ≡ statusReported w
   fault-reported f after p e = rw p e
 
 -- by the case of an answer at the end
@@ -25,8 +25,8 @@ module _ (w : End) (r : Reported) where
   pub passed-reported : (m v : ℕ) → w ≡ Passed m v → r ≡ reported ok 0 0 m v → r ≡ endReported w
   passed-reported m v p e = rw p e
 
-  pub refused-reported : (f : Fault) (after : ℕ) → w ≡ End.Refused f after → r ≡ reported (f .number) (f .offset) after 0 0
-      → r ≡ endReported w
+  pub refused-reported : (f : Fault) (after : ℕ) → w ≡ End.Refused f after
+      → r ≡ reported (f .number) (f .offset) after 0 0 → r ≡ endReported w
   refused-reported f after p e = rw p e
 
 -- what x reports y reports

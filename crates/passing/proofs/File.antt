@@ -30,8 +30,8 @@ identifier-tree l x = plain l identifierTag x refl refl refl
 sequence-tree : {l : ℕ} {x : List ℕ} → RunOf l x → TreeOf (suc l) (sequence x)
 sequence-tree a = around sequenceTag refl refl refl a
 
--- Rules 2.7, 3.11: AlgorithmIdentifier; its parameters are at most one opaque element, of at most 16
--- levels
+-- Rules 2.7, 3.11: AlgorithmIdentifier; its parameters are at most one opaque element, of at most
+-- 16 levels
 opaque-tree : (x : List ℕ) → Opaque x → TreeOf 16 x
 opaque-tree x o = record { tree = o .as-tree; formed = λ h. o .formed; levels = o .depth; bytes = o .whole }
 

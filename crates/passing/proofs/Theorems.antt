@@ -1,6 +1,7 @@
--- Every accepted file passes the check of an upload. `Bytes f`: each number of the list is below 256.
--- `IsAccepted f`: `readFile f` accepts. `Follows f x`: f is what the valid reading x is written as,
--- and has at most 65,535 bytes. `Passes f`: `whole f` passes, and the greatest level is at most 20.
+-- Every accepted file passes the check of an upload. `Bytes f`: each number of the list is below
+-- 256. `IsAccepted f`: `readFile f` accepts. `Follows f x`: f is what the valid reading x is
+-- written as, and has at most 65,535 bytes. `Passes f`: `whole f` passes, and the greatest level
+-- is at most 20.
 use mathlib.Core.Path.{sym, ap, _∙_}
 use mathlib.Core.List.{List}
 use Prim.Native.Nat.{ℕ, _≤_}

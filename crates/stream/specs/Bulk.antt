@@ -1,5 +1,5 @@
--- How bytes are passed at once. Nobody has to believe this: `take` is `taken`, which takes them one by
--- one.
+-- How bytes are passed at once. Nobody has to believe this: `take` is `taken`, which takes them
+-- one by one.
 use Prim.Native.Nat.{ℕ, _-_}
 use lib.Dec.{ltb}
 use Rattle.der.specs.Choice.{if_then_else_}

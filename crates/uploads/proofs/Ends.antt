@@ -39,7 +39,8 @@ pub data Still (n i : ℕ) (x : Due) (u : Upload) : Type 0 where
   all-here : i ≡ n → isWhole x ≡ true → stateAt x u ≡ Done (tallyOf u) → Still n i x u
   some-left : i < n → isWhole x ≡ false → arrivedAt x (u .total) ≡ i → Still n i x u
 
-still : (n i : ℕ) (x : Due) (u : Upload) → Given n i (stateAt x u) → certainly (stateAt x u) ≡ option.none → Still n i x u
+still : (n i : ℕ) (x : Due) (u : Upload) → Given n i (stateAt x u) → certainly (stateAt x u) ≡ option.none
+    → Still n i x u
 unfolding Given Awaits certainly
 still n i (Tag at) u g c = some-left (announced n i _ _ _ g) refl (sym (g .awaits .0))
 still n i (Length at t) u g c = some-left (announced n i _ _ _ g) refl (sym (g .awaits .0))
@@ -124,7 +125,9 @@ end-is n b h = by-status (statusOf u) refl (status-is n b h)
 
     by-status : (s : Status) → statusOf u ≡ s → StatusIs n b s → EndIs n b (ended u)
     by-status s e (faulty f k w) = end-to n b _ _ (end-by u (Status.Refused f k) _ e refl) (ends-faulty f k w)
-    by-status s e (beyond k c) = end-to n b _ _ (end-by u (Status.Refused (fault surplus 0) (n + 1)) _ e refl) (ends-beyond k c)
+    by-status s e (beyond k c) =
+        let r = Status.Refused (fault surplus 0) (n + 1) in
+        end-to n b _ _ (end-by u r _ e refl) (ends-beyond k c)
     by-status s e (fine k c) = end-without n b h u e c (without n b e)
 
 -- ---- of bytes that have the announced length the answer is that of the whole check

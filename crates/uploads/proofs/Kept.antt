@@ -32,9 +32,9 @@ unfolding Nested top
 top-within n [] h = omega arith
 top-within n (e ∷ es) h = omega (arith, h .0, top-within n es (h .1))
 
--- The next byte is at offset i, and the parent has it. After 82 the parent has both bytes. Once the
--- first of them is known, the least length fits, and on a level too many the greatest doesn't. After
--- a body that isn't examined there is no fault yet.
+-- The next byte is at offset i, and the parent has it. After 82 the parent has both bytes. Once
+-- the first of them is known, the least length fits, and on a level too many the greatest
+-- doesn't. After a body that isn't examined there is no fault yet.
 unfoldable pub Awaits : ℕ → ℕ → Due → List ℕ → Tally → Type 0
 Awaits n i (Tag at) ends tl = (i ≡ at) × (at < top n ends)
 Awaits n i (Length at t) ends tl = (i ≡ at + 1) × (at + 1 < top n ends)

@@ -1,6 +1,6 @@
--- The check byte by byte, of an upload of n bytes, with the ends of the open elements as a list, the
--- innermost first, and without the number of bytes after which a fault was certain. `Upload` of
--- `stream` is shown to follow it (`Follows`); the theorems are proved of it.
+-- The check byte by byte, of an upload of n bytes, with the ends of the open elements as a list,
+-- the innermost first, and without the number of bytes after which a fault was certain. `Upload`
+-- of `stream` is shown to follow it (`Follows`); the theorems are proved of it.
 use mathlib.Core.List.{List, [], _∷_}
 use mathlib.Core.Option.{Option, some}
 use mathlib.Core.Option as option

@@ -1,5 +1,5 @@
--- Completions that aren't refused with a fault f, whatever it is: where a tag is due, the first byte
--- of a length, the byte after 81, or the first after 82.
+-- Completions that aren't refused with a fault f, whatever it is: where a tag is due, the first
+-- byte of a length, the byte after 81, or the first after 82.
 use mathlib.Core.Path.{_≡_, refl, sym, ap, _∙_}
 use mathlib.Core.Bool.{Bool, true, false}
 use mathlib.Core.List.{List, [], _∷_}

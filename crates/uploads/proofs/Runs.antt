@@ -20,7 +20,8 @@ use Rattle.uploads.proofs.Kept.{Given, step-given}
 use Rattle.uploads.proofs.Follows.{stateAt, Since, Follows}
 use Rattle.uploads.proofs.Stepped.{step-follows}
 
--- what a run of p comes to, from an upload with i bytes: the first fault, after j bytes more, or none
+-- what a run of p comes to, from an upload with i bytes: the first fault, after j bytes more, or
+-- none
 pub data Ran (n i : ℕ) (st : State) (u : Upload) (p : List ℕ) : Type 0 where
   found : (j m o : ℕ) → 0 < j → j ≤ length p → taken u p .due ≡ Due.Refused m o (i + j)
       → feed n st (take j p) ≡ Failed (fault m o)

@@ -1,5 +1,5 @@
--- The check of the whole is the opaque check of `der` with 20 levels, and then no byte left: the same
--- refusals, and the same number of elements.
+-- The check of the whole is the opaque check of `der` with 20 levels, and then no byte left: the
+-- same refusals, and the same number of elements.
 use mathlib.Core.Path.{_≡_, refl, sym, ap, _∙_}
 use mathlib.Core.List.{List}
 use Prim.Native.Nat.{ℕ, zero, suc, _+_, _-_, _/_, _%_, _≤_}

@@ -24,7 +24,8 @@ use Rattle.uploads.proofs.Follows.{endsOf, tallyOf, stateAt, Follows, e
 use Rattle.uploads.proofs.Follows.{since-at, entered-follows, passed-follows}
 
 -- a move of an upload with i bytes so far
-module _ (u : Upload) (i : ℕ) (l : length (u .ends) ≡ 20) (h : u .depth ≤ 20) (few : u .elements < 65_535) (x : Due) where
+module _ (u : Upload) (i : ℕ) (l : length (u .ends) ≡ 20) (h : u .depth ≤ 20) (few : u .elements < 65_535)
+    (x : Due) where
   abbrev Moves : Move → Type 0
   Moves m = Follows (u .total) (i + 1) (apply (u .total) x (endsOf u) (tallyOf u) m) (applied u m)
 

@@ -123,7 +123,8 @@ pub end-one : (n : ℕ) (b : List ℕ) (s t : End) → Bytes b → EndIs n b s �
 end-one = unique.end-one
 
 -- A fault, 19 too, is kept by every further portion, whatever the upload is.
-pub fault-kept : (u : Upload) (f : Fault) (after : ℕ) (q : List ℕ) → statusOf u ≡ Status.Refused f after → taken u q ≡ u
+pub fault-kept : (u : Upload) (f : Fault) (after : ℕ) (q : List ℕ) → statusOf u ≡ Status.Refused f after
+    → taken u q ≡ u
 fault-kept u f after q e = by-due (u .due) refl e
   where
     other : {A : Type 0} → NoFault ≡ Status.Refused f after → A
@@ -144,7 +145,8 @@ pub announced-nothing : (b : List ℕ) → statusOf (taken (begun 0) b) ≡ Stat
 unfolding begun first
 announced-nothing b = ap statusOf (taken-refused (begun 0) 1 0 0 b refl)
 
-pub announced-too-long : (n : ℕ) (b : List ℕ) → 65_535 < n → statusOf (taken (begun n) b) ≡ Status.Refused (fault 9 0) 0
+pub announced-too-long : (n : ℕ) (b : List ℕ) → 65_535 < n
+    → statusOf (taken (begun n) b) ≡ Status.Refused (fault 9 0) 0
 unfolding begun first
 announced-too-long n b h =
     let d : begun n .due ≡ Due.Refused 9 0 0 = rw (lt-ltb 65_535 n h) in

@@ -31,7 +31,8 @@ pub record Same (f g : Fault) (k j : ℕ) : Type 0 where
   pub fault : f ≡ g
   pub bytes : k ≡ j
 
-same-first : (n : ℕ) (b : List ℕ) (f g : Fault) (k j : ℕ) → Bytes b → FirstFault n b f k → FirstFault n b g j → Same f g k j
+same-first : (n : ℕ) (b : List ℕ) (f g : Fault) (k j : ℕ) → Bytes b → FirstFault n b f k → FirstFault n b g j
+    → Same f g k j
 same-first n b f g k j h v w =
     let z : k ≡ j =
     either k j

@@ -1,5 +1,5 @@
--- What comes of zeros: after an element they close every element that ends with it, and a fault that
--- follows is at that offset and isn't 3.
+-- What comes of zeros: after an element they close every element that ends with it, and a fault
+-- that follows is at that offset and isn't 3.
 use mathlib.Core.Path.{_≡_, refl}
 use mathlib.Core.List.{List, [], _∷_}
 use Prim.Native.Nat.{ℕ, zero, suc, _+_, _-_, _/_, _%_, _≤_, _<_}

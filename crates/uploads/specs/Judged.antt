@@ -1,5 +1,5 @@
--- What is due of an upload that was announced with n bytes and of which b has arrived, cut in any way
--- (Rules 10.3 to 10.6).
+-- What is due of an upload that was announced with n bytes and of which b has arrived, cut in any
+-- way (Rules 10.3 to 10.6).
 use mathlib.Core.Path.{_≡_}
 use mathlib.Core.List.{List, [], _∷_, _++_}
 use mathlib.Core.Option.{Option, some}

@@ -10,7 +10,8 @@ use Rattle.der.specs.declared.Checked.{Checked}
 use Rattle.header.specs.Numbers.{uploadLevels}
 use Rattle.uploads.specs.Whole.{Tally, Answer, Refused, Passed}
 
--- one opaque element of 20 levels at most from offset 0 on, then no byte left; the number of elements
+-- one opaque element of 20 levels at most from offset 0 on, then no byte left; the number of
+-- elements
 unfoldable pub opaqueThenFinish : List ℕ → Checked
 opaqueThenFinish s =
     onChecked (opaqueAt uploadLevels s (wholeOf s))

@@ -1,5 +1,5 @@
--- The check of the whole (Rule 10.2): one opaque element of 20 levels at most, and no byte after it.
--- A check that passes returns the number of elements and the greatest level.
+-- The check of the whole (Rule 10.2): one opaque element of 20 levels at most, and no byte after
+-- it. A check that passes returns the number of elements and the greatest level.
 use mathlib.Core.List.{List}
 use Prim.Native.Nat.{ℕ, zero, suc, _+_, _-_, _/_, _%_, max}
 use lib.Dec.{ltb, eqb}

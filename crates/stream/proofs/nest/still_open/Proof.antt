@@ -28,14 +28,16 @@ end-at-requires c κs = search needs
 
 returns : tie.Need-returns Inv-loop μ-loop
 returns c =
-    still-stop _ _ _ (omega arith) (omega (arith, c .before .end-at .ensures)) ∙ c .before .before .before .loop .inv .1
+    let inv = c .before .before .before .loop .inv in
+    still-stop _ _ _ (omega arith) (omega (arith, c .before .end-at .ensures)) ∙ inv .1
 
 loop-less : tie.Need-loop-less Inv-loop μ-loop
 loop-less c = search needs
 
 loop-again : tie.Need-loop-again Inv-loop μ-loop
 loop-again c =
-    (omega arith, still-turn _ _ _ (omega arith) (omega (arith, c .before .end-at .ensures)) ∙ c .before .before .before .loop .inv .1)
+    let inv = c .before .before .before .loop .inv in
+    (omega arith, still-turn _ _ _ (omega arith) (omega (arith, c .before .end-at .ensures)) ∙ inv .1)
 
 returns-2 : tie.Need-returns-2 Inv-loop μ-loop
 returns-2 c = still-end _ _ _ (omega arith) ∙ c .before .loop .inv .1
