@@ -15,4 +15,5 @@ pub mod Runs
 pub mod Judged
 pub mod Ends
 pub mod Unique
+pub mod Bench
 pub mod Theorems

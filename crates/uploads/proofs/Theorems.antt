@@ -30,9 +30,11 @@ use Rattle.uploads.specs.Same.{opaqueThenFinish, forgotten, PassedTree}
 use Rattle.uploads.specs.Certain.{Certain}
 use Rattle.uploads.specs.Judged.{joined, takenAll, FirstFault, NoneCertain, StatusIs, faulty, beyond, fine}
 use Rattle.uploads.specs.Judged.{EndIs, Returned, faultOf, answerOf}
+use Rattle.uploads.specs.Bench.{Holds, benchCases}
 use Rattle.uploads.proofs.Same as same
 use Rattle.uploads.proofs.Grown as grown
 use Rattle.uploads.proofs.Certain.{still-certain}
+use Rattle.uploads.proofs.Bench as bench
 use Rattle.uploads.proofs.Judged as judged
 use Rattle.uploads.proofs.Ends as ends
 use Rattle.uploads.proofs.Unique as unique
@@ -151,3 +153,8 @@ unfolding begun first
 announced-too-long n b h =
     let d : begun n .due ≡ Due.Refused 9 0 0 = rw (lt-ltb 65_535 n h) in
     ap statusOf (taken-refused (begun n) 9 0 0 b d) ∙ ap statusAt d
+
+-- Uploads with every number written out, computed: M whole, early and with a byte too many, and each
+-- case in which a fault is certain before the check of the whole would meet it.
+pub bench-uploads : Holds benchCases
+bench-uploads = bench.bench-uploads

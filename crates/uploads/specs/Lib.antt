@@ -3,3 +3,4 @@ pub mod Whole
 pub mod Same
 pub mod Certain
 pub mod Judged
+pub mod Bench

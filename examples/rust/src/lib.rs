@@ -1,4 +1,5 @@
-//! PKCS #12 files: reading, writing, attributes, pairing and listing, over the proved library libp12.a. include/p12.h says what each call answers.
+//! PKCS #12 files: reading, writing, attributes, pairing and listing, and uploads, over the proved library libp12.a. include/p12.h says what each
+//! call answers.
 //!
 //! ```no_run
 //! let file = std::fs::read("keys.p12").unwrap();
@@ -14,9 +15,13 @@ mod numbers;
 #[allow(unsafe_code)]
 mod sys;
 mod table;
+mod upload;
 
-pub use numbers::{Number, ATTRIBUTE_ROWS, BAG_ROWS, FILE_BYTES, LEVELS, LISTING_BYTES, OPAQUE_LEVELS, PAIRS_BYTES, SAFE_ROWS};
+pub use numbers::{
+    Number, ATTRIBUTE_ROWS, BAG_ROWS, FILE_BYTES, LEVELS, LISTING_BYTES, OPAQUE_LEVELS, PAIRS_BYTES, SAFE_ROWS, UPLOAD_LEVELS,
+};
 pub use table::{Attribute, Bag, BagKind, Parts, Range, Safe, SafeKind, Table};
+pub use upload::{Passed, Spoiled, Upload};
 
 use numbers::{DONE, OK};
 use std::fmt;

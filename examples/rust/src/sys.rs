@@ -3,6 +3,7 @@
 //! What p12.h takes on trust holds by the types: a slice's pointer and length belong together and the pointer isn't NULL; a `&mut` shares no byte
 //! with anything else that is handed over; results behind pointers are locals. `Table` and `Attribute` are `repr(C)`, and all their members are u32,
 //! so they are words without padding, and any words are a value of them.
+use crate::numbers::UPLOAD_LENGTH;
 use crate::table::{Attribute, Table};
 use std::mem::{align_of, size_of};
 
@@ -20,6 +21,10 @@ extern "C" {
     fn p12_certificate_for(table: *const u32, words: usize, bytes: *const u8, length: usize, key: usize, bag: *mut usize) -> u8;
     fn p12_list(file: *const u8, length: usize, out: *mut u8, capacity: usize, written: *mut usize) -> u8;
     fn p12_pairs(file: *const u8, length: usize, out: *mut u8, capacity: usize, written: *mut usize) -> u8;
+    fn p12_upload_begin(length: usize, state: *mut u16, cells: usize) -> u8;
+    fn p12_upload_take(state: *mut u16, cells: usize, portion: *const u8, length: usize) -> u8;
+    fn p12_upload_status(state: *const u16, cells: usize, offset: *mut usize, after: *mut usize) -> u8;
+    fn p12_upload_end(state: *const u16, cells: usize, offset: *mut usize, after: *mut usize, elements: *mut usize, level: *mut usize) -> u8;
 }
 
 fn words(table: &Table) -> *const u32 {
@@ -90,4 +95,35 @@ pub fn pairs(file: &[u8], out: &mut [u8]) -> (u8, usize) {
     // SAFETY: the module's head.
     let number = unsafe { p12_pairs(file.as_ptr(), file.len(), out.as_mut_ptr(), out.len(), &mut written) };
     (number, written)
+}
+
+/// What an upload's state is kept in.
+pub type Cells = [u16; UPLOAD_LENGTH];
+
+/// The number.
+pub fn upload_begin(length: usize, state: &mut Cells) -> u8 {
+    // SAFETY: the module's head.
+    unsafe { p12_upload_begin(length, state.as_mut_ptr(), state.len()) }
+}
+
+/// The number.
+pub fn upload_take(state: &mut Cells, portion: &[u8]) -> u8 {
+    // SAFETY: the module's head.
+    unsafe { p12_upload_take(state.as_mut_ptr(), state.len(), portion.as_ptr(), portion.len()) }
+}
+
+/// The number, the offset, and the number of bytes after which it was certain.
+pub fn upload_status(state: &Cells) -> (u8, usize, usize) {
+    let (mut offset, mut after) = (0, 0);
+    // SAFETY: the module's head.
+    let number = unsafe { p12_upload_status(state.as_ptr(), state.len(), &mut offset, &mut after) };
+    (number, offset, after)
+}
+
+/// The same, and the number of elements and the greatest level.
+pub fn upload_end(state: &Cells) -> (u8, usize, usize, usize, usize) {
+    let (mut offset, mut after, mut elements, mut level) = (0, 0, 0, 0);
+    // SAFETY: the module's head.
+    let number = unsafe { p12_upload_end(state.as_ptr(), state.len(), &mut offset, &mut after, &mut elements, &mut level) };
+    (number, offset, after, elements, level)
 }

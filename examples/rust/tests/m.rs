@@ -1,5 +1,5 @@
 //! The calls on M, the smallest file of the bench set: 47 bytes, with no safe.
-use p12::{Number, Range, Refusal, Table};
+use p12::{Number, Passed, Range, Refusal, Spoiled, Table, Upload};
 
 const M: [u8; 47] = [
     0x30, 0x2D, 0x02, 0x01, 0x03, 0x30, 0x11, 0x06, 0x09, 0x2A, 0x86, 0x48, 0x86, 0xF7, 0x0D, 0x01, 0x07, 0x01, 0xA0, 0x04, 0x04, 0x02, 0x30, 0x00,
@@ -158,4 +158,33 @@ fn refused_pairs_leave_the_buffer() {
 #[test]
 fn refusals_are_told() {
     assert_eq!(p12::read(&M[..46]).unwrap_err().to_string(), "refused 15 at 0");
+}
+
+fn spoiled<T>(number: Number, offset: usize, after: usize) -> Result<T, Spoiled> {
+    Err(Spoiled { refusal: Refusal { number, offset }, after })
+}
+
+#[test]
+fn uploads_m_in_portions() {
+    for most in 1..=M.len() {
+        let mut upload = Upload::begin(M.len());
+        for portion in M.chunks(most) {
+            assert_eq!(upload.end(), spoiled(Number::Early, 0, upload.end().unwrap_err().after));
+            assert_eq!(upload.take(portion), Ok(()));
+        }
+        assert_eq!(upload.take(&[]), Ok(()));
+        assert_eq!(upload.end(), Ok(Passed { elements: 12, level: 5 }));
+        assert_eq!(upload.take(&M[..1]), spoiled(Number::Surplus, 0, 48));
+    }
+}
+
+#[test]
+fn reports_a_spoiled_upload_at_once_and_ever_after() {
+    let mut upload = Upload::begin(46);
+    assert_eq!(upload.take(&M[..1]), Ok(()));
+    assert_eq!(upload.take(&M[1..2]), spoiled(Number::Overrun, 0, 2));
+    assert_eq!(upload.take(&M[2..]), spoiled(Number::Overrun, 0, 2));
+    assert_eq!(upload.end(), spoiled(Number::Overrun, 0, 2));
+    assert_eq!(Upload::begin(0).status(), spoiled(Number::Missing, 0, 0));
+    assert_eq!(Upload::begin(65_536).status(), spoiled(Number::TooLong, 0, 0));
 }
