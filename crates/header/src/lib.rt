@@ -119,10 +119,10 @@ fn on_length(at: u16, tag: u8, b: u8, end: u16) -> Move
     ensures { λ r. ⌜ r ≡ onLength at tag b end ⌝ }
 {
     let after = at as u32 + 2;
-    let place = at as usize;
+    let offset = at as usize;
     let wide = end as usize;
-    let second = place + 2;
-    let third = place + 3;
+    let second = offset + 2;
+    let third = offset + 3;
     if b < 0x80 {
         let size = b as usize;
         return entering(at, tag, second, size, end);

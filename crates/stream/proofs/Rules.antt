@@ -80,7 +80,7 @@ module _ {A : Type 0} (v w : Status) (r none : A) (refused : Fault → ℕ → A
       → r ≡ onStatus v none refused
   on-refused f after p q e = rw (sym p ∙ q) e
 
--- what a callee returned, in its place
+-- what a callee returned, for what the definition has
 module _ (u r : Upload) where
   pub closed-to : (p after k : ℕ) → k ≡ stillOpen (u .ends) (u .depth) p → r ≡ closedTo u p after k
       → r ≡ closedAt u p after

@@ -54,10 +54,10 @@ fn bulk(due: Due, left: usize) -> usize
             first: _,
         } => 0,
         Due::Body { at, end } => {
-            let place = at as usize;
+            let offset = at as usize;
             let stop = end as usize;
-            if place < stop {
-                let rest = stop - place;
+            if offset < stop {
+                let rest = stop - offset;
                 if left < rest {
                     return left;
                 }
@@ -232,11 +232,8 @@ impl Upload {
                 offset,
                 after,
             } => {
-                let place = offset as usize;
-                let fault = Fault {
-                    number,
-                    offset: place,
-                };
+                let at = offset as usize;
+                let fault = Fault { number, offset: at };
                 let wide = after as usize;
                 Status::Refused { fault, after: wide }
             }

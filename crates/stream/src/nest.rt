@@ -209,8 +209,8 @@ pub(crate) fn passed(u: Upload, at: u16, end: u16, k: usize) -> Upload
     requires { ⌜ k < 2 ^ 63 ⌝ }
     ensures { λ r. ⌜ r ≡ passed u at end k ⌝ }
 {
-    let place = at as usize;
-    let next = place + k;
+    let offset = at as usize;
+    let next = offset + k;
     let wide = end as usize;
     if next < wide {
         let at16 = next as u16;

@@ -24,8 +24,8 @@ enum-told-5 c = search needs
 enum-known-due : tie.Need-enum-known-due
 enum-known-due c = search needs
 
-cast-place : tie.Need-cast-place
-cast-place c = search needs
+cast-offset : tie.Need-cast-offset
+cast-offset c = search needs
 
 cast-stop : tie.Need-cast-stop
 cast-stop c = search needs
@@ -89,7 +89,7 @@ bulk-spec =
     enum-told-4
     enum-told-5
     enum-known-due
-    cast-place
+    cast-offset
     cast-stop
     sub-rest
     returns

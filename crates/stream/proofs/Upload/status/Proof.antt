@@ -30,8 +30,8 @@ enum-told-7 c = search needs
 enum-known-due : tie.Need-enum-known-due
 enum-known-due c = search needs
 
-cast-place : tie.Need-cast-place
-cast-place c = search needs
+cast-at : tie.Need-cast-at
+cast-at c = search needs
 
 cast-wide : tie.Need-cast-wide
 cast-wide c = search needs
@@ -72,7 +72,7 @@ status-spec =
     enum-told-6
     enum-told-7
     enum-known-due
-    cast-place
+    cast-at
     cast-wide
     returns
     returns-2
