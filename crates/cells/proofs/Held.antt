@@ -11,7 +11,8 @@ use Rattle.der.specs.Span.{Bytes}
 use Rattle.der.proofs.Choices.{at-lt, at-not-lt, by-eq, either}
 use Rattle.buffer.specs.Numbers.{notSound}
 use Rattle.stream.specs.declared.Upload.{Upload}
-use Rattle.stream.specs.Upload.{begun, stepped, taken, statusOf, ended}
+use Rattle.stream.specs.Upload.{begun, taken, statusOf, ended}
+use Rattle.stream.proofs.Taken.{taken-append}
 use Rattle.cells.specs.declared.Plain.{Plain}
 use Rattle.cells.specs.Cells.{uploadLength, endCount, endsAt, cellsOf, refusalOf, dueOf, plainIn, uploadIn}
 use Rattle.cells.specs.Cells.{Outcome, leaving, storing, begunIn, takenIn, statusIn, endIn}
@@ -115,11 +116,6 @@ taken-few : (s p : List ℕ) → length s < uploadLength → takenIn s p ≡ lea
 unfolding takenIn
 taken-few s p h = sym (at-lt _ _ _ _ _ h refl)
 
-taken-append : (u : Upload) (p q : List ℕ) → taken (taken u p) q ≡ taken u (p ++ q)
-unfolding taken
-taken-append u [] q = refl
-taken-append u (b ∷ p) q = taken-append (stepped u b) p q
-
 pub begun-taken : (n : ℕ) (s p : List ℕ) → uploadLength ≤ length s
     → takenIn (begunIn n s .cells) p ≡ storing (taken (begun n) p) s
 begun-taken n s p h =
@@ -132,4 +128,4 @@ portions s p q e b =
     ∙ (taken-few s q h ∙ sym (taken-few s (p ++ q) h)))
     (λ h. ap (λ (o : Outcome). takenIn (o .cells) q) (taken-is s p h)
     ∙ (stored-taken (taken (uploadIn s) p) (taken-fits (uploadIn s) p (held-fits s h e) b) s q
-    ∙ (ap (λ (u : Upload). storing u s) (taken-append (uploadIn s) p q) ∙ sym (taken-is s (p ++ q) h))))
+    ∙ (ap (λ (u : Upload). storing u s) (sym (taken-append (uploadIn s) p q)) ∙ sym (taken-is s (p ++ q) h))))

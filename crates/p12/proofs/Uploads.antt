@@ -1,12 +1,15 @@
 -- The ways out of the calls on uploads: what an answer reports, by its case, and what a call
 -- returns and stores of the answer that `cells` gave. w is what the code matched on.
-use mathlib.Core.Path.{_≡_, ap, _∙_}
+use mathlib.Core.Path.{_≡_, refl, ap, _∙_}
+use mathlib.Core.List.{List, [], _∷_}
 use Prim.Native.Nat.{ℕ}
+use lib.ListN.{getD}
 use Rattle.der.specs.declared.Fault.{Fault}
 use Rattle.stream.specs.declared.Status.{Status}
 use Rattle.stream.specs.declared.Status.the-variants.{NoFault}
 use Rattle.stream.specs.declared.End.{End}
 use Rattle.stream.specs.declared.End.the-variants.{Passed}
+use Rattle.stream.specs.Report.{statusReport, endReport}
 use Rattle.p12.specs.Calls.{ok}
 use Rattle.p12.specs.declared.upload.Reported.{Reported}
 use Rattle.p12.specs.Uploads.{reported, statusReported, endReported}
@@ -62,3 +65,22 @@ module _ (x y : End) (t : Reported) (e : x ≡ y) (p : t ≡ endReported x) wher
       ),
     ),
   )
+
+-- what the calls report is what the answers report (`Report` of `stream`): the number, the offset, and
+-- the values, which are those of a fault or those of a check that passed
+pub status-reports : (s : Status) → (statusReported s .number ≡ statusReport s .number)
+    × ((statusReported s .offset ≡ statusReport s .offset)
+    × (statusReported s .after ≡ getD (statusReport s .values) 0 0))
+unfolding statusReport
+status-reports NoFault = (refl, (refl, refl))
+status-reports (Status.Refused f after) = (refl, (refl, refl))
+
+abbrev pub ValuesAre : End → List ℕ → Type 0
+ValuesAre (Passed m v) x = x ≡ endReported (Passed m v) .elements ∷ endReported (Passed m v) .level ∷ []
+ValuesAre (End.Refused f after) x = x ≡ endReported (End.Refused f after) .after ∷ []
+
+pub end-reports : (r : End) → (endReported r .number ≡ endReport r .number)
+    × ((endReported r .offset ≡ endReport r .offset) × ValuesAre r (endReport r .values))
+unfolding endReport
+end-reports (Passed m v) = (refl, (refl, refl))
+end-reports (End.Refused f after) = (refl, (refl, refl))

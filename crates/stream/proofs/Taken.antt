@@ -1,7 +1,7 @@
 -- Bytes that don't matter are passed at once: those of a body that isn't examined, and all after a
 -- fault.
 use mathlib.Core.Path.{_≡_, refl, sym, ap, _∙_}
-use mathlib.Core.List.{List, [], _∷_}
+use mathlib.Core.List.{List, [], _∷_, _++_}
 use Prim.Native.Nat.{ℕ, zero, suc, _+_, _-_, _≤_, _<_}
 use native.Mathlib.Omega.{arith}
 use lib.Dec.{leb}
@@ -27,6 +27,12 @@ stepped-on u x b e =
 pub taken-cons : (u v : Upload) (b : ℕ) (s : List ℕ) → stepped u b ≡ v → taken u (b ∷ s) ≡ taken v s
 unfolding taken
 taken-cons u v b s e = ap (λ x. taken x s) e
+
+-- two portions one after the other are one
+pub taken-append : (u : Upload) (p q : List ℕ) → taken u (p ++ q) ≡ taken (taken u p) q
+unfolding taken
+taken-append u [] q = refl
+taken-append u (b ∷ p) q = taken-append (stepped u b) p q
 
 -- after a fault nothing changes
 pub taken-refused : (u : Upload) (n p after : ℕ) (s : List ℕ) → u .due ≡ Due.Refused n p after → taken u s ≡ u

@@ -2,7 +2,7 @@
 ghost use mathlib.Core.Path.{_≡_};
 ghost use Prim.Native.Nat.{_^_, _<_, max};
 ghost use Rattle.stream.specs.Upload.{endAt, parentEnd, stillOpen, withDue, closedAt, isRefused};
-ghost use Rattle.stream.specs.Upload.{bodyFrom, oneMore, counted, pushed, entered, passed, applied};
+ghost use Rattle.stream.specs.Upload.{bodyFrom, oneMore, counted, entered, passed, applied};
 use crate::Upload;
 use header::Due;
 use header::Move;

@@ -2,7 +2,7 @@
 -- and `ended` are what its calls return. Whole runs, any cuts.
 use mathlib.Core.Path.{_≡_, refl, sym, ap, _∙_}
 use mathlib.Core.Logic.{_↔_}
-use mathlib.Core.List.{List, [], _∷_, _++_}
+use mathlib.Core.List.{List, [], _∷_}
 use mathlib.Core.Option.{some}
 use Prim.Native.Nat.{ℕ, _≤_, _<_}
 use native.Mathlib.Omega.{arith}
@@ -22,9 +22,9 @@ use Rattle.stream.specs.declared.Upload.{Upload}
 use Rattle.stream.specs.declared.Status.{Status}
 use Rattle.stream.specs.declared.Status.the-variants.{NoFault}
 use Rattle.stream.specs.declared.End.{End}
-use Rattle.stream.specs.Upload.{taken, stepped, first, begun, statusAt, statusOf, ended}
+use Rattle.stream.specs.Upload.{taken, first, begun, statusAt, statusOf, ended}
 use Rattle.der.proofs.Spans.{bytes-drop}
-use Rattle.stream.proofs.Taken.{taken-refused}
+use Rattle.stream.proofs.Taken.{taken-append, taken-refused}
 use Rattle.uploads.specs.Whole.{Tally, Refused, Passed, whole}
 use Rattle.uploads.specs.Same.{opaqueThenFinish, forgotten, PassedTree}
 use Rattle.uploads.specs.Certain.{Certain}
@@ -62,10 +62,6 @@ pub only-joined : (u : Upload) (ps : List (List ℕ)) → takenAll u ps ≡ take
 unfolding takenAll joined taken
 only-joined u [] = refl
 only-joined u (p ∷ ps) = only-joined (taken u p) ps ∙ sym (taken-append u p (joined ps))
-  where
-    taken-append : (v : Upload) (p q : List ℕ) → taken v (p ++ q) ≡ taken (taken v p) q
-    taken-append v [] q = refl
-    taken-append v (b ∷ p) q = taken-append (stepped v b) p q
 
 -- So the upload that the calls return is known by the announced length and the bytes: the theorems
 -- below are about `taken (begun n) b`, and with it about every one.
