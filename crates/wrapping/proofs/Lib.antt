@@ -1,0 +1,7 @@
+-- The proofs of the theorems on text.
+pub mod Account
+pub mod Rest
+pub mod Ended
+pub mod Judged
+pub mod Refused
+pub mod Unwrapped

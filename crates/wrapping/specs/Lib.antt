@@ -1,0 +1,2 @@
+-- What the theorems on text are stated over.
+pub mod Text

@@ -1,0 +1,1 @@
+// What import and export of text come to: theorems only.
