@@ -1,14 +1,14 @@
 -- Characters and their values undo each other.
 use mathlib.Core.Path.{_≡_, refl, sym, ap, _∙_}
 use mathlib.Core.List.{List, [], _∷_, map}
-use Prim.Native.Nat.{ℕ, zero, suc, _%_, _<_, _≤_}
+use Prim.Native.Nat.{ℕ, zero, suc, _+_, _%_, _<_, _≤_}
 use native.Mathlib.Omega.{arith}
 use lib.Dec.{eqb}
 use lib.ListN.{length, getD, List·getD-map}
 use Rattle.der.specs.Choice.{if_then_else_}
 use Rattle.der.proofs.Choices.{by-eq}
 use Rattle.buffer.specs.Text.{ascii}
-use Rattle.base64.specs.Alphabet.{alphabet, letterOf, placeOf, valueOf}
+use Rattle.base64.specs.Alphabet.{alphabet, letterOf, placeOf, valueOf, tabulated}
 use Rattle.base64.proofs.Tables.{entry}
 
 -- ---- places
@@ -35,10 +35,17 @@ unfolding valueOf alphabet ascii
 value-bound c = place-bound c alphabet
 
 -- every place of the table, computed
+places : map valueOf alphabet ≡ tabulated (λ k. k) 0 64
+unfolding valueOf placeOf alphabet ascii tabulated
+places = refl
+
 at-place : (k : ℕ) → k < 64 → valueOf (getD alphabet k 0) ≡ k
-unfolding valueOf placeOf alphabet ascii
 at-place k h =
-    sym (List·getD-map valueOf alphabet k 0) ∙ entry (λ n. n) (map valueOf alphabet) refl k (valueOf 0) h
+    let z : 0 + k ≡ k = omega arith in
+    sym (List·getD-map valueOf alphabet k 0)
+    ∙ ap (λ (l : List ℕ). getD l k (valueOf 0)) places
+    ∙ entry (λ k. k) 64 0 k (valueOf 0) h
+    ∙ z
 
 -- the character of a value has that value
 pub value-letter : (v : ℕ) → valueOf (letterOf v) ≡ v % 64

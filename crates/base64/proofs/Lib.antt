@@ -1,6 +1,5 @@
 -- The rule of a table, and the laws of base64.
 pub mod Tables
-pub mod Values
 pub mod Alphabet
 pub mod Coded
 pub mod Encoded

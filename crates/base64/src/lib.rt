@@ -1,6 +1,8 @@
 // Base64 (RFC 4648, section 4): the characters of the 64 values, and the values of characters.
 ghost use mathlib.Core.Path.{_≡_};
-ghost use Rattle.base64.specs.Alphabet.{letterOf, valueOf};
+ghost use Prim.Native.Nat.{_%_};
+ghost use lib.ListN.{getD};
+ghost use Rattle.base64.specs.Alphabet.{alphabet, valueTable};
 
 // What the table has for a byte that is no character of a value.
 pub const NONE: u8 = 0x40;
@@ -26,16 +28,31 @@ const VALUES: [u8; 256] = *b"\
 
 const LETTERS: [u8; 64] = *b"ABCDEFGHIJKLMNOPQRSTUVWXYZabcdefghijklmnopqrstuvwxyz0123456789+/";
 
-// The value of a character, NONE for a byte that is no such character.
-pub fn value(c: u8) -> u8
-    ensures { λ r. ⌜ r ≡ valueOf c ⌝ }
+// The table of values: its entry for each of the 256 bytes. A caller has a copy of its own and lends
+// it, since a constant is built anew wherever it is used.
+pub fn values() -> [u8; 256]
+    ensures { λ r. ⌜ r ≡ valueTable ⌝ }
 {
-    VALUES[c as usize]
+    VALUES
 }
 
-// The character of a value; of a greater number, that of its low six bits.
-pub fn letter(v: u8) -> u8
-    ensures { λ r. ⌜ r ≡ letterOf v ⌝ }
+// The table of characters, for the same use.
+pub fn letters() -> [u8; 64]
+    ensures { λ r. ⌜ r ≡ alphabet ⌝ }
 {
-    LETTERS[(v % 64) as usize]
+    LETTERS
+}
+
+// The entry of a byte in a table of values.
+pub fn value(values: &[u8; 256], c: u8) -> u8
+    ensures { λ r. ⌜ r ≡ getD (now (values .entry)) c 0 ⌝ }
+{
+    values[c as usize]
+}
+
+// The entry of a number in a table of characters, by its low six bits.
+pub fn letter(letters: &[u8; 64], v: u8) -> u8
+    ensures { λ r. ⌜ r ≡ getD (now (letters .entry)) (v % 64) 0 ⌝ }
+{
+    letters[(v % 64) as usize]
 }
