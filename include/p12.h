@@ -84,6 +84,8 @@ enum p12_number {
     P12_MORE_CERTIFICATES = 14,
     /* A header or a length runs past the end of the element around it, or of the file. */
     P12_OVERRUN = 15,
+    /* The text isn't that of a wrapped file, or there is no byte to wrap. */
+    P12_NOT_TEXT = 16,
     /* More bytes arrived than were announced. */
     P12_SURPLUS = 19,
     /* The upload ended before all announced bytes were there. */
@@ -159,6 +161,7 @@ struct p12_attribute {
 #define P12_OPAQUE_LEVELS 16    /* Levels of an opaque element; the element itself is level 1. */
 #define P12_UPLOAD_LEVELS 20    /* Levels of an upload; the outermost element is level 1. */
 #define P12_UPLOAD_LENGTH 29    /* Cells of an upload's state, of 16 bits each. */
+#define P12_TEXT_BYTES 88790    /* Bytes of the text that the longest file is wrapped in. */
 #define P12_LISTING_BYTES 65536 /* Every listing fits into this number of bytes. */
 #define P12_PAIRS_BYTES 4288    /* Every text of pairs fits into this number of bytes. */
 /* generated up to here */

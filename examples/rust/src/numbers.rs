@@ -16,6 +16,8 @@ pub const OPAQUE_LEVELS: usize = 16;
 pub const UPLOAD_LEVELS: usize = 20;
 /// Cells of an upload's state, of 16 bits each.
 pub const UPLOAD_LENGTH: usize = 29;
+/// Bytes of the text that the longest file is wrapped in.
+pub const TEXT_BYTES: usize = 88790;
 /// Every listing fits into this number of bytes.
 pub const LISTING_BYTES: usize = 65536;
 /// Every text of pairs fits into this number of bytes.
@@ -60,6 +62,8 @@ pub enum Number {
     MoreCertificates = 14,
     /// A header or a length runs past the end of the element around it, or of the file.
     Overrun = 15,
+    /// The text isn't that of a wrapped file, or there is no byte to wrap.
+    NotText = 16,
     /// More bytes arrived than were announced.
     Surplus = 19,
     /// The upload ended before all announced bytes were there.
@@ -67,7 +71,7 @@ pub enum Number {
 }
 
 impl Number {
-    pub(crate) const ALL: [Number; 17] = [
+    pub(crate) const ALL: [Number; 18] = [
         Number::Missing,
         Number::TagForm,
         Number::LengthForm,
@@ -83,6 +87,7 @@ impl Number {
         Number::NoCertificate,
         Number::MoreCertificates,
         Number::Overrun,
+        Number::NotText,
         Number::Surplus,
         Number::Early,
     ];
