@@ -14,7 +14,7 @@ use Rattle.der.proofs.Spans.{bytes-take}
 use Rattle.base64.specs.Alphabet.{letterOf, valueOf}
 use Rattle.base64.specs.Encoded.{pad, encoded, threeOf}
 use Rattle.base64.proofs.Alphabet.{value-letter, letter-value, pad-none}
-use Rattle.base64.proofs.Coded.{Going, Coded}
+use Rattle.base64.specs.Coded.{Going, Coded}
 
 -- ---- four values and three bytes
 
@@ -110,7 +110,7 @@ pub record EncodedOf (cs : List ℕ) : Type 0 where
   pub fit : Bytes bytes
   pub is : encoded bytes ≡ cs
 
--- what stands next: a letter, or padding
+-- what comes next: a letter, or padding
 by-coded : {P : Type 0} (q v c : ℕ) (cs : List ℕ) → Coded q v (c ∷ cs)
     → (valueOf c < 64 → Coded (suc q % 4) (valueOf c) cs → P)
     → (q ≡ 2 → v % 16 ≡ 0 → c ≡ pad → cs ≡ pad ∷ [] → P)

@@ -1,5 +1,4 @@
 -- The rule of a table, and the laws of base64.
 pub mod Tables
 pub mod Alphabet
-pub mod Coded
 pub mod Encoded

@@ -1,2 +1,3 @@
 pub mod Alphabet
 pub mod Encoded
+pub mod Coded

@@ -10,7 +10,7 @@ use Rattle.der.proofs.Choices.{by-eq}
 use Rattle.base64.specs.Alphabet.{valueOf}
 use Rattle.base64.specs.Encoded.{pad}
 use Rattle.base64.proofs.Alphabet.{pad-none}
-use Rattle.base64.proofs.Coded.{Coded}
+use Rattle.base64.specs.Coded.{Coded}
 use Rattle.base64.proofs.Encoded.{letterCount}
 use Rattle.pem.specs.Wrap.{newline, end, fill}
 use Rattle.pem.specs.Judged.{ending, bytesOf, closedBy, ended}

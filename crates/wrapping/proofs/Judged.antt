@@ -12,7 +12,7 @@ use Rattle.der.proofs.Choices.{by-eq, either, never}
 use Rattle.buffer.specs.Text.{ascii}
 use Rattle.base64.specs.Alphabet.{valueOf}
 use Rattle.base64.proofs.Alphabet.{newline-none}
-use Rattle.base64.proofs.Coded.{Coded}
+use Rattle.base64.specs.Coded.{Coded}
 use Rattle.base64.proofs.Encoded.{letterCount, count-none}
 use Rattle.pem.specs.Wrap.{newline, begin, end, fill}
 use Rattle.pem.specs.Judged.{agreeing, bytesOf, inLine, judged}

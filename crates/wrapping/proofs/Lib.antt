@@ -5,3 +5,4 @@ pub mod Ended
 pub mod Judged
 pub mod Refused
 pub mod Unwrapped
+pub mod Outcomes

@@ -15,15 +15,10 @@ use Rattle.pem.specs.Wrap.{begin, end, fill, linesOf, wrap}
 use Rattle.pem.specs.Judged.{judged}
 use Rattle.pem.specs.declared.Judged.{Judged}
 use Rattle.pem.specs.declared.Judged.the-variants.{Wraps, Breaks}
-use Rattle.wrapping.specs.Text.{Text, Begins, GoesWrong, IsCut, RefusedAt}
+use Rattle.wrapping.specs.Text.{Text, Begins, GoesWrong, IsCut, RefusedAt, WrapsOf}
 use Rattle.wrapping.proofs.Account.{BeginsIn, Broken, Account, wraps, breaks, account-broken, account-wraps}
 use Rattle.wrapping.proofs.Account.{broken-breaks, broken-none}
 use Rattle.wrapping.proofs.Judged.{TextIn, judged-account, text-number}
-
--- a text of the form that wraps m bytes
-pub record WrapsOf (t : List ℕ) (m : ℕ) : Type 0 where
-  pub text : Text t
-  pub number : m ≡ length (text .bytes)
 
 -- ---- bytes and characters
 

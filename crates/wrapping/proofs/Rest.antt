@@ -14,7 +14,7 @@ use Rattle.buffer.specs.Text.{ascii}
 use Rattle.base64.specs.Alphabet.{alphabet, placeOf, valueOf}
 use Rattle.base64.specs.Encoded.{pad}
 use Rattle.base64.proofs.Alphabet.{newline-none, pad-none, dash-none}
-use Rattle.base64.proofs.Coded.{Going, Coded}
+use Rattle.base64.specs.Coded.{Going, Coded}
 use Rattle.base64.proofs.Encoded.{letterCount, count-letter}
 use Rattle.pem.specs.Wrap.{newline, end, fill}
 use Rattle.pem.specs.Judged.{bytesOf}

@@ -1,2 +1,3 @@
 -- What the theorems on text are stated over.
 pub mod Text
+pub mod Outcomes

@@ -34,3 +34,8 @@ pub record IsCut (t : List ℕ) (p : ℕ) : Type 0 where
 -- Rule 11.7: where a text is refused by 16
 abbrev pub RefusedAt : List ℕ → ℕ → Type 0
 RefusedAt t p = GoesWrong t p ⊎ IsCut t p
+
+-- t is the text of m bytes
+pub record WrapsOf (t : List ℕ) (m : ℕ) : Type 0 where
+  pub text : Text t
+  pub number : m ≡ length (text .bytes)

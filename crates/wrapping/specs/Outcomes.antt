@@ -1,0 +1,45 @@
+-- When import and export return what.
+use mathlib.Core.Path.{_≡_}
+use mathlib.Core.List.{List}
+use Prim.Native.Nat.{ℕ, _≤_, _<_}
+use lib.ListN.{length}
+use Rattle.pem.specs.Wrap.{wrap}
+use Rattle.wrapping.specs.Text.{Text}
+
+-- ---- import (Rules 11.6, 11.7)
+
+-- t is the text of n bytes, n is at most 65,535, and a buffer has space for them
+pub record Imports (t buffer : List ℕ) (n : ℕ) : Type 0 where
+  pub text : Text t
+  pub number : n ≡ length (text .bytes)
+  pub short : n ≤ 65_535
+  pub space : n ≤ length buffer
+
+-- 9: t is the text of more bytes
+pub record WrapsMore (t : List ℕ) (p : ℕ) : Type 0 where
+  pub text : Text t
+  pub long : 65_535 < length (text .bytes)
+  pub place : p ≡ 0
+
+-- 10: t is the text of 1 to 65,535 bytes, and the buffer is shorter than they are
+pub record LacksSpace (t buffer : List ℕ) (p : ℕ) : Type 0 where
+  pub text : Text t
+  pub short : length (text .bytes) ≤ 65_535
+  pub lacking : length buffer < length (text .bytes)
+  pub place : p ≡ 0
+
+-- ---- export (Rule 11.8)
+
+-- there are 1 to 65,535 bytes, their text has n, and a buffer has space for it
+pub record Exports (x buffer : List ℕ) (n : ℕ) : Type 0 where
+  pub some : 1 ≤ length x
+  pub short : length x ≤ 65_535
+  pub number : n ≡ length (wrap x)
+  pub space : n ≤ length buffer
+
+-- 10: there are 1 to 65,535 bytes, and the buffer is shorter than their text
+pub record LacksTextSpace (x buffer : List ℕ) (p : ℕ) : Type 0 where
+  pub some : 1 ≤ length x
+  pub short : length x ≤ 65_535
+  pub lacking : length buffer < length (wrap x)
+  pub place : p ≡ 0
