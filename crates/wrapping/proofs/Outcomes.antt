@@ -251,6 +251,15 @@ module _ (x b : List ℕ) where
       (λ s h k e. (inr (inr (sym (ap numberIn e))), refl))
       (λ s h k e. absurd (omega (arith, ap kindIn e)))
 
+pub export-text : (x b : List ℕ) → 1 ≤ length x → length x ≤ 65_535 → length (wrap x) ≤ length b
+    → exported x b ≡ success (wrap x) b
+export-text x b s h k = export-into x b s h ∙ written (wrap x) b k
+
+pub import-bytes : (x b : List ℕ) → Bytes x → 1 ≤ length x → length x ≤ 65_535 → length x ≤ length b
+    → imported (wrap x) b ≡ success x b
+import-bytes x b f s h k =
+    text-into (wrap x) b (record { bytes = x; fit = f; some = s; is = refl }) h ∙ written x b k
+
 -- ---- each undoes the other
 
 -- the bytes of a success
@@ -263,12 +272,10 @@ module _ (x b c : List ℕ) (n : ℕ) (fit : Bytes x) where
   export-import e h =
       let i = export-length-iff x b n .0 e in
       let o : exported x b ≡ success (wrap x) b =
-      export-into x b (i .some) (i .short) ∙ written (wrap x) b (omega (arith, i .number, i .space)) in
+      export-text x b (i .some) (i .short) (omega (arith, i .number, i .space)) in
       let t : take n (exported x b .buffer) ≡ wrap x =
       ap (λ (w : Outcome). take n (w .buffer)) o ∙ front-of (wrap x) b n (i .number) in
-      ap (λ (l : List ℕ). imported l c) t
-      ∙ text-into (wrap x) c (record { bytes = x; fit = fit; some = i .some; is = refl }) (i .short)
-      ∙ written x c h
+      ap (λ (l : List ℕ). imported l c) t ∙ import-bytes x c fit (i .some) (i .short) h
 
 module _ (t b c : List ℕ) (n : ℕ) where
   pub import-export : imported t b .answer ≡ Length n → length t ≤ length c
