@@ -16,9 +16,12 @@ DER = TOP / "crates/test_der"           # calls of `der`
 TEST_FILES = TOP / "crates/test_files"  # files, their listings, pairs and calls
 TEST_TABLES = TOP / "crates/test_tables"  # tables, and what is written of them
 TEST_UPLOADS = TOP / "crates/test_uploads"  # uploads in portions, and their statuses
+TEST_TEXTS = TOP / "crates/test_texts"  # texts that are imported, and bytes that are exported as texts
 LIST = TOP / "crates/list"              # a file and its listing
 PAIRS = TOP / "crates/pairs"            # a file and its pairs
 REWRITE = TOP / "crates/rewrite"        # a file that is read and written back
+WRAP = TOP / "crates/wrap"              # a file and its text
+UNWRAP = TOP / "crates/unwrap"          # a text and the file that it wraps
 
 
 def program(folder):

@@ -1,5 +1,5 @@
-// Lists the file on standard input. Of a file that is too long one byte more than the longest has
-// is read, so that it is refused as such.
+// Lists the file on standard input: bytes, or a text that wraps them. Of an input that is too long
+// one byte more than the longest text has is read, so that it is refused as such.
 fn list(file: &[u8]) {
     let mut text = io::large_buffer();
     let written = listing::list(file.len(), reader::read(file), &mut text);
@@ -7,7 +7,8 @@ fn list(file: &[u8]) {
 }
 
 fn main() {
-    let mut buffer = io::large_buffer();
+    let mut buffer = [0u8; source::READ_BYTES];
+    let mut unwrapped = io::large_buffer();
     let n = stdio::read_all(&mut buffer);
-    list(&buffer[..n]);
+    list(source::opened(&buffer[..n], &mut unwrapped));
 }

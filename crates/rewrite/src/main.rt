@@ -1,26 +1,13 @@
 // Reads the file on standard input and writes it back from its table: the bytes that the writer
 // makes, and nothing else. A refusal is one line.
-use buffer::Written;
-use der::Fault;
 use pkcs12::Answer;
 use pkcs12::Table;
 
-// The line of a refusal. It is the reading's: the writer refuses no table of an accepted file.
-fn refused(fault: Fault) {
-    let mut line = [0u8; 64];
-    let n = text::refused(&mut line, 0, fault);
-    stdio::write_front(&line, n);
-}
-
+// The writer refuses no table of an accepted file.
 fn write_back(table: Table, file: &[u8]) {
     let mut out = io::large_buffer();
     let written = writer::write(table, file, &mut out);
-    match written {
-        Written::Length(n) => {
-            stdio::write_front(&out, n);
-        }
-        Written::Refused(fault) => refused(fault),
-    }
+    stdio::write_result(&out, written);
 }
 
 fn rewrite(file: &[u8]) {
@@ -28,7 +15,9 @@ fn rewrite(file: &[u8]) {
     let answer = reading.answer;
     match answer {
         Answer::Accepted => write_back(reading.table, file),
-        Answer::Refused(fault) => refused(fault),
+        Answer::Refused(fault) => {
+            stdio::write_refused(fault);
+        }
     }
 }
 

@@ -1,4 +1,4 @@
-// What programs do with standard input and standard output. No contract can say what the operating
+// What programs do with standard input, output and error. No contract can say what the operating
 // system read or wrote: a function that reads promises to stay within the buffer, and one that
 // writes how many bytes it handed on.
 ghost use mathlib.Core.Path.{_≡_};
@@ -7,8 +7,10 @@ ghost use Rattle.io.specs.Counts.{Counts};
 ghost use Rattle.io.specs.Digits.{Fewest};
 ghost use Rattle.stdio.specs.Frame.{InBuffer};
 ghost use Rattle.stdio.specs.Handed.{front, handed};
+ghost use Rattle.text.specs.Text.{refusedLine};
 use buffer::Written;
 use buffer::read;
+use der::Fault;
 
 // The bytes of a frame's length.
 const LENGTH: usize = 4;
@@ -71,23 +73,46 @@ pub fn write_front(buffer: &[u8], n: usize) -> usize
     n
 }
 
-// Writes what a call left at the front of a buffer, nothing if it was refused. Returns the number
+// Writes the line of a refusal. Returns the number of bytes handed on.
+pub fn write_refused(fault: Fault) -> usize
+    ensures { λ r. ⌜ r ≡ length (refusedLine fault) ⌝ }
+{
+    let mut line = [0u8; 64];
+    let n = text::refused(&mut line, 0, fault);
+    write_front(&line, n)
+}
+
+// Writes what a call left at the front of a buffer, or the line of its refusal. Returns the number
 // of bytes handed on.
 pub fn write_result(buffer: &[u8], result: Written) -> usize
     ensures { λ r. ⌜ r ≡ handed (now (buffer .entry)) result ⌝ }
 {
     match result {
         Written::Length(n) => write_front(buffer, n),
-        Written::Refused(_) => 0,
+        Written::Refused(fault) => write_refused(fault),
     }
+}
+
+// Writes a text to one of the outputs. Returns the number of bytes handed on.
+fn write_to(output: i32, text: &[u8]) -> usize
+    ensures { λ r. ⌜ r ≡ length (now (text .entry)) ⌝ }
+{
+    io::write_all(output, text);
+    text.len()
 }
 
 // Writes a text. Returns the number of bytes handed on.
 pub fn write_text(text: &[u8]) -> usize
     ensures { λ r. ⌜ r ≡ length (now (text .entry)) ⌝ }
 {
-    io::write_all(libc::STDOUT_FILENO, text);
-    text.len()
+    write_to(libc::STDOUT_FILENO, text)
+}
+
+// Writes a text to standard error. Returns the number of bytes handed on.
+pub fn write_error(text: &[u8]) -> usize
+    ensures { λ r. ⌜ r ≡ length (now (text .entry)) ⌝ }
+{
+    write_to(libc::STDERR_FILENO, text)
 }
 
 // Writes a number in decimal, without leading zeros. Returns the number of digits handed on.

@@ -1,0 +1,3 @@
+-- What the bytes are, by what import answered; the statements.
+pub mod Sources
+pub mod Theorems

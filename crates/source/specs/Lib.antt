@@ -1,0 +1,2 @@
+-- What the bytes are that a program read.
+pub mod Source
