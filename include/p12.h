@@ -1,5 +1,5 @@
-/* PKCS #12 files (RFC 7292, password integrity, DER): reading, writing, attributes, pairing and
- * listing, and the check of an upload while it arrives. Link libp12.a (`rt staticlib p12`).
+/* PKCS #12 files (RFC 7292, password integrity, DER): reading, writing, attributes, pairing, listing,
+ * files as text, and the check of an upload while it arrives. Link libp12.a (`rt staticlib p12`).
  *
  * Every call returns, whatever it is handed; none allocates, keeps anything between calls or stops
  * the program. Each returns a number, P12_OK or that of the refusal; only p12_element returns a
@@ -15,6 +15,8 @@
  *                   leaves `row` as it was
  *   p12_list        the first *written bytes of `out`; a refusal leaves `out` as it was
  *   p12_pairs       the same
+ *   p12_import, p12_export
+ *                   the same
  *   p12_upload_begin, p12_upload_take
  *                   the first P12_UPLOAD_LENGTH cells of `state`, also for a fault; too few cells
  *                   stay as they were
@@ -36,7 +38,8 @@
  *   p12_list         107,200       p12_attribute          70,500
  *   p12_pairs        114,500       p12_element               100
  *
- * and 500 for the calls on uploads, whatever arrives.
+ * and 500 for the calls on uploads, whatever arrives, and 400 for p12_import and p12_export,
+ * whatever the text or the bytes.
  *
  * That is for a file as deep as one can be; 307 bytes are enough for such a file, so a thread that
  * reads files of unknown origin needs that much. */
@@ -108,6 +111,8 @@ enum p12_number {
  *   - p12_write: `out`, for fewer bytes than the file has, after 11 and 9;
  *   - p12_attribute: `row`, for fewer than P12_ATTRIBUTE_WORDS words, if the attribute exists;
  *   - p12_list, p12_pairs: `out`, for fewer bytes than the text has;
+ *   - p12_import: `out`, for fewer bytes than the text wraps, after 16 and 9;
+ *   - p12_export: `out`, for fewer bytes than the text has, after 16 and 9;
  *   - p12_upload_begin: `state`, for fewer than P12_UPLOAD_LENGTH cells.
  *
  * 11: also for a table of fewer than P12_TABLE_WORDS words, and for a state that holds no upload. */
@@ -227,6 +232,28 @@ uint8_t p12_list(const uint8_t *file, size_t length, uint8_t *out, size_t capaci
  * refused file has the one line `refused N at P`, and the call returns P12_OK. 10 for a buffer that
  * is too short, which one of P12_PAIRS_BYTES bytes never is; *written is 0 then. */
 uint8_t p12_pairs(const uint8_t *file, size_t length, uint8_t *out, size_t capacity, size_t *written);
+
+/* A file as text, as certificate offices mail it (RFC 7468, the strict form). In this order:
+ *   - the first line, `-----BEGIN PKCS12-----`;
+ *   - the base64 of the bytes, padded and with unused bits 0, in lines of 64 characters, the last of
+ *     them with 4 to 64;
+ *   - the last line, `-----END PKCS12-----`.
+ * There is one byte 0A after each line, the last one too, and nothing else before, between or after
+ * the lines. So the same bytes have one text. A text wraps one byte or more. */
+
+/* Writes the bytes that a text wraps into a buffer, and their number into *written. 16 for a text
+ * that isn't of the form: *offset is that of the first byte with which no text of the form could go
+ * on, or the length of a text that is cut. Then 9 for more than P12_FILE_BYTES bytes, then 10 for a
+ * buffer that is too short, which one of P12_FILE_BYTES bytes never is; *offset is 0 with both, and
+ * with P12_OK. *written is 0 with a refusal. The file isn't judged: p12_read may refuse what is
+ * written. A final 0 isn't part of a text; with it the text is refused. */
+uint8_t p12_import(const uint8_t *text, size_t length, uint8_t *out, size_t capacity, size_t *written, size_t *offset);
+
+/* Writes the text of bytes into a buffer, without a final 0, and its length into *written. 16 for no
+ * byte, then 9 for more than P12_FILE_BYTES bytes, then 10 for a buffer that is too short, which one
+ * of P12_TEXT_BYTES bytes never is; *written is 0 then. These are all at 0, so there is no offset.
+ * The bytes aren't judged: they needn't be a file. */
+uint8_t p12_export(const uint8_t *bytes, size_t length, uint8_t *out, size_t capacity, size_t *written);
 
 /* An upload, checked while it arrives. Its length is announced first, and its bytes come in portions
  * that are cut anywhere. The check is of the shape alone: one DER element with all elements in it, to

@@ -54,6 +54,9 @@ module _ (o : Outcome) (w : Written) (z : List ℕ) (p : w ≡ o .answer) (q : z
   wrote-is : (k : ℕ) → k ≡ lengthOf w → called n z k ≡ wrote o
   wrote-is k e = rw (e, r, q, p) refl
 
+  pub wrote-gives : (k : ℕ) → k ≡ lengthOf w → Gives (wrote o) n z k
+  wrote-gives k e = gives-all _ n z k (wrote-is k e)
+
   put-is : called n z 0 ≡ put o
   put-is = rw (r, q, p) refl
 

@@ -27,6 +27,7 @@ use Rattle.words.specs.Stored.{wordsOf, storedRow}
 use Rattle.load.specs.Loaded.{tableIn}
 use Rattle.listing.specs.Listed.{listed}
 use Rattle.pair_lines.specs.Listed.{pairsListed}
+use Rattle.pem.specs.Calls.{imported, exported}
 
 -- the number of an answer that is no refusal
 abbrev pub ok : ℕ
@@ -43,9 +44,12 @@ readNumber a = answerReport a .number
 abbrev pub readOffset : Answer → ℕ
 readOffset a = answerReport a .offset
 
--- the number that an answer of writing reports
+-- the number and the offset that an answer of writing reports
 abbrev pub writtenNumber : Written → ℕ
 writtenNumber w = writtenReport w .number
+
+abbrev pub writtenOffset : Written → ℕ
+writtenOffset w = writtenReport w .offset
 
 -- the number that an answer of pairing reports, and the row of a certificate, 0 where there is none
 abbrev pub pairedNumber : Paired → ℕ
@@ -118,3 +122,14 @@ listCall f buffer = wrote (listed (length f) (readFile f) buffer)
 -- `p12_pairs`: the pairs of what reading returns
 unfoldable pub pairsCall : List ℕ → List ℕ → Called
 pairsCall f buffer = wrote (pairsListed f (readFile f) buffer)
+
+-- `p12_import`: the bytes that a text wraps; the offset of a refusal
+unfoldable pub importCall : List ℕ → List ℕ → Called
+importCall t buffer = wrote (imported t buffer)
+
+unfoldable pub importOffset : List ℕ → List ℕ → ℕ
+importOffset t buffer = writtenOffset (imported t buffer .answer)
+
+-- `p12_export`: the text of bytes
+unfoldable pub exportCall : List ℕ → List ℕ → Called
+exportCall x buffer = wrote (exported x buffer)

@@ -9,9 +9,11 @@ ghost use Rattle.elements.specs.Elements.{elementRanges, countedOf};
 ghost use Rattle.words.specs.Layout.{tableWords};
 ghost use Rattle.words.specs.Stored.{stored};
 ghost use Rattle.range.specs.Range.{wordRange};
-ghost use Rattle.p12.specs.Calls.{readNumber, readOffset, writtenNumber, pairedNumber, pairedRow, readCall};
+ghost use Rattle.p12.specs.Calls.{readNumber, readOffset, writtenNumber, writtenOffset};
+ghost use Rattle.p12.specs.Calls.{pairedNumber, pairedRow, readCall};
 ghost use Rattle.p12.specs.Calls.{writeCall, attributeCall, certificateCall, listCall, pairsCall};
 
+mod texts;
 mod upload;
 
 use attributes::Item;
@@ -52,6 +54,16 @@ fn written_number(written: Written) -> u8
     match written {
         Written::Length(_) => OK,
         Written::Refused(f) => f.number,
+    }
+}
+
+// The offset of a refusal, 0 where there is none.
+fn written_offset(written: Written) -> usize
+    ensures { λ r. ⌜ r ≡ writtenOffset written ⌝ }
+{
+    match written {
+        Written::Length(_) => 0,
+        Written::Refused(f) => f.offset,
     }
 }
 
