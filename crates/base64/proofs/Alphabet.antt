@@ -1,11 +1,9 @@
 -- Characters and their values undo each other.
 use mathlib.Core.Path.{_≡_, refl, sym, ap, _∙_}
 use mathlib.Core.List.{List, [], _∷_, map}
-use Prim.Native.Nat.{ℕ, zero, suc, _+_, _%_, _<_, _≤_}
+use Prim.Native.Nat.{ℕ, suc, _+_, _%_, _<_, _≤_}
 use native.Mathlib.Omega.{arith}
-use lib.Dec.{eqb}
 use lib.ListN.{length, getD, List·getD-map}
-use Rattle.der.specs.Choice.{if_then_else_}
 use Rattle.der.proofs.Choices.{by-eq}
 use Rattle.buffer.specs.Text.{ascii}
 use Rattle.base64.specs.Alphabet.{alphabet, letterOf, placeOf, valueOf, tabulated}
@@ -17,7 +15,8 @@ place-bound : (c : ℕ) (xs : List ℕ) → placeOf c xs ≤ length xs
 unfolding placeOf
 place-bound c [] = omega arith
 place-bound c (x ∷ xs) =
-    by-eq (λ n. n ≤ length (x ∷ xs)) 0 (suc (placeOf c xs)) c x (λ e. omega arith) (λ e. omega (arith, place-bound c xs))
+    by-eq (λ n. n ≤ length (x ∷ xs)) 0 (suc (placeOf c xs)) c x (λ e. omega arith)
+    (λ e. omega (arith, place-bound c xs))
 
 -- where the list has c, it has c
 place-has : (c : ℕ) (xs : List ℕ) → placeOf c xs < length xs → getD xs (placeOf c xs) 0 ≡ c
@@ -55,7 +54,8 @@ value-letter v = at-place (v % 64) (omega arith)
 -- a byte that has a value is the character of it
 pub letter-value : (c : ℕ) → valueOf c < 64 → letterOf (valueOf c) ≡ c
 unfolding letterOf valueOf alphabet ascii
-letter-value c h = let z : placeOf c alphabet % 64 ≡ placeOf c alphabet = omega (arith, h) in rw z (place-has c alphabet h)
+letter-value c h =
+    let z : placeOf c alphabet % 64 ≡ placeOf c alphabet = omega (arith, h) in rw z (place-has c alphabet h)
 
 -- the bytes of a text that aren't in its characters have none
 pub newline-none : valueOf 0x0A ≡ 64

@@ -1,9 +1,8 @@
 -- A table of the values of a function: the rule at each entry.
 use mathlib.Core.Path.{_≡_, refl, ap, _∙_}
-use mathlib.Core.List.{List, [], _∷_}
 use Prim.Native.Nat.{ℕ, zero, suc, _+_, _<_}
 use native.Mathlib.Omega.{arith}
-use lib.ListN.{length, getD}
+use lib.ListN.{getD}
 use Rattle.base64.specs.Alphabet.{tabulated, valueOf, valueTable}
 
 pub entry : (f : ℕ → ℕ) (n i k d : ℕ) → k < n → getD (tabulated f i n) k d ≡ f (i + k)

@@ -44,8 +44,8 @@ pub fn opened<'a>(read: &'a [u8], out: &'a mut [u8]) -> &'a [u8]
     }
 }
 
-// The fault of a text of which no more was read. If it could still go on behind the most bytes that
-// are read, it is too long, however it ends.
+// The fault of a text of which no more was read. If it could still go on behind the most bytes
+// that are read, it is too long, however it ends.
 fn so_far(fault: Fault) -> Fault
     ensures { λ r. ⌜ r ≡ soFar fault ⌝ }
 {

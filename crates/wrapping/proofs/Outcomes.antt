@@ -1,21 +1,19 @@
 -- When import and export return what.
 use mathlib.Core.Path.{_≡_, refl, sym, ap, subst, _∙_}
 use mathlib.Core.Logic.{_↔_, _⊎_, inl, inr}
-use mathlib.Core.List.{List, _++_}
+use mathlib.Core.List.{List}
 use Prim.Native.Nat.{ℕ, _≤_, _<_}
 use native.Mathlib.Omega.{arith}
-use lib.Dec.{eqb, ltb}
+use lib.Dec.{ltb}
 use lib.ListN.{length, take, drop}
 use lib.Seq.{take-at}
 use borrow.Author.Tests.{lt-ltb, le-ltb, eq-eqb, ne-eqb}
 use Rattle.der.specs.Choice.{if_then_else_}
 use Rattle.der.specs.Element.{fault}
-use Rattle.der.specs.Report.{Report}
 use Rattle.der.specs.Span.{Bytes}
 use Rattle.der.specs.declared.Fault.{Fault}
 use Rattle.der.proofs.Choices.{by-lt, by-eq, either}
 use Rattle.buffer.specs.Numbers.{tooLong, shortBuffer}
-use Rattle.buffer.specs.Report.{writtenReport}
 use Rattle.buffer.specs.Written.{Outcome, lengthOf, refusal, success, intoBuffer}
 use Rattle.buffer.specs.declared.Written.{Written}
 use Rattle.buffer.specs.declared.Written.the-variants.{Length}
@@ -26,8 +24,8 @@ use Rattle.pem.specs.Judged.{judged}
 use Rattle.pem.specs.Calls.{unwrapped, broken, importedAs, imported, exported}
 use Rattle.pem.specs.declared.Judged.{Judged}
 use Rattle.pem.specs.declared.Judged.the-variants.{Wraps, Breaks}
-use Rattle.wrapping.specs.Text.{Text, RefusedAt, WrapsOf}
-use Rattle.wrapping.specs.Outcomes.{Imports, WrapsMore, LacksSpace, Exports, LacksTextSpace}
+use Rattle.wrapping.specs.Text.{Text, RefusedAt}
+use Rattle.wrapping.specs.Outcomes.{TextNumber, Imports, WrapsMore, LacksSpace, Exports, LacksTextSpace}
 use Rattle.wrapping.proofs.Refused.{refused-at, judged-wraps, wrap-judged}
 use Rattle.wrapping.proofs.Unwrapped.{unwrapped-wrap}
 
@@ -68,17 +66,23 @@ module _ (t b : List ℕ) where
   text-unwrapped x = ap (λ (l : List ℕ). unwrapped l (length (x .bytes))) (x .is) ∙ unwrapped-wrap (x .bytes) (x .fit)
 
   module _ (x : Text t) where
+    -- 9, or these bytes into the buffer
+    toBuffer : List ℕ → Outcome
+    toBuffer l = if ltb 65_535 (length (x .bytes)) then refusal tooLong b else intoBuffer l b
+
     -- what import does with the text of bytes
-    text-outcome : imported t b ≡ (if ltb 65_535 (length (x .bytes)) then refusal tooLong b else intoBuffer (x .bytes) b)
-    unfolding imported
+    text-outcome : imported t b ≡ toBuffer (x .bytes)
+    unfolding imported toBuffer
     text-outcome =
         ap (λ (j : Judged). importedAs j t b) (text-judged x)
-        ∙ ap (λ (l : List ℕ). if ltb 65_535 (length (x .bytes)) then refusal tooLong b else intoBuffer l b) (text-unwrapped x)
+        ∙ ap toBuffer (text-unwrapped x)
 
     pub text-long : 65_535 < length (x .bytes) → imported t b ≡ refusal tooLong b
+    unfolding toBuffer
     text-long h = text-outcome ∙ rw (lt-ltb 65_535 (length (x .bytes)) h) refl
 
     pub text-into : length (x .bytes) ≤ 65_535 → imported t b ≡ intoBuffer (x .bytes) b
+    unfolding toBuffer
     text-into h = text-outcome ∙ rw (le-ltb 65_535 (length (x .bytes)) h) refl
 
   broken-outcome : (p : ℕ) → judged t ≡ Breaks p → imported t b ≡ broken p b
@@ -156,10 +160,10 @@ module _ (t b : List ℕ) where
 
   -- a refusal has one of these numbers, and the buffer is as before
   pub refused-by : (f : Fault) → imported t b .answer ≡ Written.Refused f
-      → ((f .number ≡ 16) ⊎ ((f .number ≡ 9) ⊎ (f .number ≡ 10))) × (imported t b .buffer ≡ b)
+      → TextNumber f × (imported t b .buffer ≡ b)
   refused-by f =
       imported-by
-      (λ o. o .answer ≡ Written.Refused f → ((f .number ≡ 16) ⊎ ((f .number ≡ 9) ⊎ (f .number ≡ 10))) × (o .buffer ≡ b))
+      (λ o. o .answer ≡ Written.Refused f → TextNumber f × (o .buffer ≡ b))
       (λ p r e. (inl (sym (ap numberIn e)), refl))
       (λ x h e. (inr (inl (sym (ap numberIn e))), refl))
       (λ x h k e. (inr (inr (sym (ap numberIn e))), refl))
@@ -214,10 +218,12 @@ module _ (x b : List ℕ) where
         (λ s h k e. absurd (omega (arith, ap numberIn e)))
         (λ s h k e. absurd (omega (arith, ap numberIn e))),
     λ r.
-        ap (λ (w : Outcome). w .answer) (export-none (r .0)) ∙ ap (λ (q : ℕ). Written.Refused (fault 16 q)) (sym (r .1)),
+        ap (λ (w : Outcome). w .answer) (export-none (r .0))
+        ∙ ap (λ (q : ℕ). Written.Refused (fault 16 q)) (sym (r .1)),
   )
 
-  pub export-long-iff : (p : ℕ) → (exported x b .answer ≡ Written.Refused (fault 9 p)) ↔ ((65_535 < length x) × (p ≡ 0))
+  pub export-long-iff : (p : ℕ)
+      → (exported x b .answer ≡ Written.Refused (fault 9 p)) ↔ ((65_535 < length x) × (p ≡ 0))
   export-long-iff p = (
     exported-by (λ o. o .answer ≡ Written.Refused (fault 9 p) → (65_535 < length x) × (p ≡ 0))
         (λ z e. absurd (omega (arith, ap numberIn e)))
@@ -225,7 +231,8 @@ module _ (x b : List ℕ) where
         (λ s h k e. absurd (omega (arith, ap numberIn e)))
         (λ s h k e. absurd (omega (arith, ap numberIn e))),
     λ r.
-        ap (λ (w : Outcome). w .answer) (export-long (r .0)) ∙ ap (λ (q : ℕ). Written.Refused (fault 9 q)) (sym (r .1)),
+        ap (λ (w : Outcome). w .answer) (export-long (r .0))
+        ∙ ap (λ (q : ℕ). Written.Refused (fault 9 q)) (sym (r .1)),
   )
 
   pub export-short-iff : (p : ℕ) → (exported x b .answer ≡ Written.Refused (fault 10 p)) ↔ LacksTextSpace x b p
@@ -242,10 +249,10 @@ module _ (x b : List ℕ) where
 
   -- a refusal has one of these numbers, and the buffer is as before
   pub export-refused-by : (f : Fault) → exported x b .answer ≡ Written.Refused f
-      → ((f .number ≡ 16) ⊎ ((f .number ≡ 9) ⊎ (f .number ≡ 10))) × (exported x b .buffer ≡ b)
+      → TextNumber f × (exported x b .buffer ≡ b)
   export-refused-by f =
       exported-by
-      (λ o. o .answer ≡ Written.Refused f → ((f .number ≡ 16) ⊎ ((f .number ≡ 9) ⊎ (f .number ≡ 10))) × (o .buffer ≡ b))
+      (λ o. o .answer ≡ Written.Refused f → TextNumber f × (o .buffer ≡ b))
       (λ z e. (inl (sym (ap numberIn e)), refl))
       (λ h e. (inr (inl (sym (ap numberIn e))), refl))
       (λ s h k e. (inr (inr (sym (ap numberIn e))), refl))
@@ -286,7 +293,8 @@ module _ (t b c : List ℕ) (n : ℕ) where
       let short : length x ≤ 65_535 = omega (arith, i .number, i .short) in
       let o : imported t b ≡ success x b =
       text-into t b (i .text) short ∙ written x b (omega (arith, i .number, i .space)) in
-      let f : take n (imported t b .buffer) ≡ x = ap (λ (w : Outcome). take n (w .buffer)) o ∙ front-of x b n (i .number) in
+      let f : take n (imported t b .buffer) ≡ x =
+      ap (λ (w : Outcome). take n (w .buffer)) o ∙ front-of x b n (i .number) in
       let w : wrap x ≡ t = sym (i .text .is) in
       ap (λ (l : List ℕ). exported l c) f
       ∙ export-into x c (i .text .some) short

@@ -1,8 +1,8 @@
--- The theorems about text, stated over the definitions of `pem`: `imported` and `exported` are what its
--- calls return and leave in the buffer. `Bytes x` is required where the numbers of a list must be
--- below 256: they are, in what a call is handed.
+-- The theorems about text, stated over the definitions of `pem`: `imported` and `exported` are
+-- what its calls return and leave in the buffer. `Bytes x` is required where the numbers of a list must
+-- be below 256: they are, in what a call is handed.
 use mathlib.Core.Path.{_≡_}
-use mathlib.Core.Logic.{_↔_, _⊎_}
+use mathlib.Core.Logic.{_↔_}
 use mathlib.Core.List.{List}
 use Prim.Native.Nat.{ℕ, _≤_, _<_}
 use lib.ListN.{length, take}
@@ -16,7 +16,7 @@ use Rattle.pem.specs.Wrap.{wrap}
 use Rattle.pem.specs.Calls.{imported, exported}
 use Rattle.wrapping.specs.Text.{Text, RefusedAt}
 use Rattle.wrapping.specs.Form.{InForm}
-use Rattle.wrapping.specs.Outcomes.{Imports, WrapsMore, LacksSpace, Exports, LacksTextSpace}
+use Rattle.wrapping.specs.Outcomes.{TextNumber, Imports, WrapsMore, LacksSpace, Exports, LacksTextSpace}
 use Rattle.wrapping.specs.Bench.{Encodes, listed, Holds, benchTexts}
 use Rattle.wrapping.proofs.Form as form
 use Rattle.wrapping.proofs.Outcomes as outcomes
@@ -24,8 +24,8 @@ use Rattle.wrapping.proofs.Bench as bench
 
 -- ---- the form (Rules 11.1 to 11.5)
 
--- The texts of one byte or more are those of the form in words: a first line, lines of 64 characters
--- of base64, one of 4 to 64, a last line, and one byte 0A after each.
+-- The texts of one byte or more are those of the form in words: a first line, lines of 64
+-- characters of base64, one of 4 to 64, a last line, and one byte 0A after each.
 pub form-iff : (t : List ℕ) → Text t ↔ InForm t
 form-iff = form.form-iff
 
@@ -51,9 +51,10 @@ pub import-bytes : (x buffer : List ℕ) → Bytes x → 1 ≤ length x → leng
     → imported (wrap x) buffer ≡ success x buffer
 import-bytes = outcomes.import-bytes
 
--- 16 at p exactly if the first p bytes begin a text of the form and the first p + 1 begin none, or if
--- all p bytes begin one and are none.
-pub refused-at : (t buffer : List ℕ) (p : ℕ) → (imported t buffer .answer ≡ Written.Refused (fault 16 p)) ↔ RefusedAt t p
+-- 16 at p exactly if the first p bytes begin a text of the form and the first p + 1 begin none, or
+-- if all p bytes begin one and are none.
+pub refused-at : (t buffer : List ℕ) (p : ℕ)
+    → (imported t buffer .answer ≡ Written.Refused (fault 16 p)) ↔ RefusedAt t p
 refused-at = outcomes.not-text-iff
 
 -- 9 exactly for the texts of more than 65,535 bytes; 10 exactly for the others, if the buffer is
@@ -68,7 +69,7 @@ import-short-buffer = outcomes.short-buffer-iff
 
 -- There is no other refusal, and each leaves the whole buffer as before.
 pub import-refusals : (t buffer : List ℕ) (f : Fault) → imported t buffer .answer ≡ Written.Refused f
-    → ((f .number ≡ 16) ⊎ ((f .number ≡ 9) ⊎ (f .number ≡ 10))) × (imported t buffer .buffer ≡ buffer)
+    → TextNumber f × (imported t buffer .buffer ≡ buffer)
 import-refusals = outcomes.refused-by
 
 -- ---- export (Rule 11.8)
@@ -93,7 +94,7 @@ pub export-short-buffer : (x buffer : List ℕ) (p : ℕ)
 export-short-buffer = outcomes.export-short-iff
 
 pub export-refusals : (x buffer : List ℕ) (f : Fault) → exported x buffer .answer ≡ Written.Refused f
-    → ((f .number ≡ 16) ⊎ ((f .number ≡ 9) ⊎ (f .number ≡ 10))) × (exported x buffer .buffer ≡ buffer)
+    → TextNumber f × (exported x buffer .buffer ≡ buffer)
 export-refusals = outcomes.export-refused-by
 
 -- ---- each undoes the other (Rule 11.9)

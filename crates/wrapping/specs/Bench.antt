@@ -1,5 +1,5 @@
--- Bytes and their characters as RFC 4648, section 10, lists them; and texts with what each is judged
--- to be, every number written out.
+-- Bytes and their characters as RFC 4648, section 10, lists them; and texts with what each is
+-- judged to be, every number written out.
 use mathlib.Core.Path.{_≡_}
 use mathlib.Core.List.{List, [], _∷_, _++_, map}
 use Prim.Native.Nat.{ℕ, zero, suc}
@@ -63,8 +63,8 @@ benchTexts =
     ∷ wraps (between (row (ascii "Zm9v"))) 3
     ∷ wraps (between (row (manyA 64))) 48
     ∷ wraps (between (row (manyA 64) ++ row (ascii "Zm9v"))) 51
-    -- no byte; a blank in front; another label; lower-case words; the first line without its end, and
-    -- with 0D in front of it
+    -- no byte; a blank in front; another label; lower-case words; the first line without its end,
+    -- and with 0D in front of it
     ∷ breaks [] 0
     ∷ breaks (0x20 ∷ between (row (ascii "Zm9v"))) 0
     ∷ breaks (row (ascii "-----BEGIN CERTIFICATE-----")) 11

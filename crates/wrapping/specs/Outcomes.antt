@@ -1,10 +1,16 @@
 -- When import and export return what.
 use mathlib.Core.Path.{_≡_}
 use mathlib.Core.List.{List}
+use mathlib.Core.Logic.{_⊎_}
 use Prim.Native.Nat.{ℕ, _≤_, _<_}
 use lib.ListN.{length}
+use Rattle.der.specs.declared.Fault.{Fault}
 use Rattle.pem.specs.Wrap.{wrap}
 use Rattle.wrapping.specs.Text.{Text}
+
+-- the numbers of refusals that import and export return
+abbrev pub TextNumber : Fault → Type 0
+TextNumber f = (f .number ≡ 16) ⊎ ((f .number ≡ 9) ⊎ (f .number ≡ 10))
 
 -- ---- import (Rules 11.6, 11.7)
 
