@@ -105,22 +105,38 @@ static long rounds_for(peer call, const uint8_t *file, size_t n, double goal)
     return rounds > 0 ? rounds : 1;
 }
 
-void best(const peer *peers, int count, const uint8_t *file, size_t n, double *ns)
+static int by_size(const void *a, const void *b)
 {
+    double x = *(const double *)a, y = *(const double *)b;
+
+    return (x > y) - (x < y);
+}
+
+/* Of the times of each peer, sorted, the one at `place`. */
+static void time_at(int place, const peer *peers, int count, const uint8_t *file, size_t n, double *ns)
+{
+    double times[PEERS][REPEATS];
     long rounds[PEERS];
 
-    for (int k = 0; k < count; k++) {
+    for (int k = 0; k < count; k++)
         rounds[k] = peers[k] ? rounds_for(peers[k], file, n, SECONDS / REPEATS) : 0;
-        ns[k] = 0;
-    }
     for (int repeat = 0; repeat < REPEATS; repeat++)
         for (int k = 0; k < count; k++)
-            if (peers[k]) {
-                double took = 1e9 * run(peers[k], file, n, rounds[k]) / (double)rounds[k];
+            times[k][repeat] = peers[k] ? 1e9 * run(peers[k], file, n, rounds[k]) / (double)rounds[k] : 0;
+    for (int k = 0; k < count; k++) {
+        qsort(times[k], REPEATS, sizeof times[k][0], by_size);
+        ns[k] = times[k][place];
+    }
+}
 
-                if (!repeat || took < ns[k])
-                    ns[k] = took;
-            }
+void best(const peer *peers, int count, const uint8_t *file, size_t n, double *ns)
+{
+    time_at(0, peers, count, file, n, ns);
+}
+
+void median(const peer *peers, int count, const uint8_t *file, size_t n, double *ns)
+{
+    time_at(REPEATS / 2, peers, count, file, n, ns);
 }
 
 void show_ns(double ns, char mark)

@@ -1,4 +1,5 @@
-/* What the programs share: the loop over files, the best of many repeats, the painted stack, the cells of a table. */
+/* What the programs share: the loop over files, the best and the median of many repeats, the painted stack, the cells
+   of a table. */
 #ifndef COMMON_H
 #define COMMON_H
 
@@ -24,6 +25,9 @@ enum { PEERS = 8 };
 /* The nanoseconds of one call of each of up to PEERS peers. Each runs REPEATS times, in turns with the others, for about
    SECONDS / REPEATS each time; the best time counts. 0 where the peer is NULL. */
 void best(const peer *peers, int count, const uint8_t *file, size_t n, double *ns);
+
+/* The same, with the median of the times in place of the best. */
+void median(const peer *peers, int count, const uint8_t *file, size_t n, double *ns);
 
 /* The bytes of stack that one call uses, beside those of a call that does nothing. Painted: stack that the deepest frame
    reserves and never writes isn't seen. */

@@ -1,9 +1,10 @@
 #!/usr/bin/env python3
-"""Makes the files that bench/run times, all accepted ones but the bare ones.
+"""Makes the files that bench/run times, all accepted ones but the bare and the random ones.
 
     make_files.py FOLDER    wants openssl on the path
 """
 import pathlib
+import random
 import subprocess
 import sys
 
@@ -73,6 +74,7 @@ def main(folder):
     made = {"m": bench_m(), "flat_64_128": flat(), "opaque_16384": opaque(16384, NULL), "opaque_65535": opaque(FILE_BYTES, NULL),
             "opaque_deep_65535": opaque(FILE_BYTES, depth(OPAQUE_LEVELS).encode()), "levels_8": deep(), "bare_flat_65535": bare(NULL),
             "bare_deep_65535": bare(depth(UPLOAD_LEVELS - 1).encode())}
+    made.update(("random_%d" % size, random.Random(size).randbytes(size)) for size in (1500, FILE_BYTES))
     for name, data in made.items():
         (folder / (name + ".p12")).write_bytes(data)
     openssl(folder)

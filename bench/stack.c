@@ -27,6 +27,17 @@ static size_t call_upload(const uint8_t *file, size_t n)
     return elements;
 }
 
+/* Export, then import of that text: the deeper of the two. */
+static size_t call_texts(const uint8_t *file, size_t n)
+{
+    static uint8_t text[P12_TEXT_BYTES], bytes[P12_FILE_BYTES];
+    size_t size, count, offset;
+
+    p12_export(file, n, text, sizeof text, &size);
+    p12_import(text, size, bytes, sizeof bytes, &count, &offset);
+    return count;
+}
+
 static void show_stack(int there, peer call, const uint8_t *file, size_t n)
 {
     if (there)
@@ -48,6 +59,7 @@ static int stack_of_file(const char *name, const uint8_t *file, size_t n)
     show_stack(table.attribute_count > 0, call_attribute, file, n);
     show_stack(subjects.keys > 0, call_certificate_for, file, n);
     show_stack(1, call_upload, file, n);
+    show_stack(1, call_texts, file, n);
     show_stack(1, walker, file, n);
     puts("");
     return 0;
@@ -57,5 +69,5 @@ int main(int argc, char **argv)
 {
     return each_file(argc, argv,
         "stack in bytes                bytes      read     write mac_input      list     pairs attribute  cert_for"
-        "    upload         c", stack_of_file);
+        "    upload     texts         c", stack_of_file);
 }

@@ -24,8 +24,8 @@ import p12_make
 import stored
 import text_vectors
 from models import pairs, reader
-from models.numbers import FILE_BYTES, TOO_LONG
-from models.text import EXPORT, IMPORT, NOT_TEXT, exported, imported, wrap
+from models.numbers import FILE_BYTES, NOT_TEXT, TOO_LONG
+from models.text import EXPORT, IMPORT, exported, imported, wrap
 from text_check import damaged
 
 SEED = 1
@@ -80,7 +80,7 @@ def vectors(kind):
     calls = []
     for _, made in text_vectors.calls():
         calls += made if len(made) <= MANY else made[::EACH]
-    calls += [call[:3] for call in text_vectors.long_cases()]
+    calls += text_vectors.long_calls()
     longest = random.Random(SEED).randbytes(100000)
     calls += [(EXPORT, 0, longest[:FILE_BYTES + more]) for more in (-1, 0, 1, 2)] + [(EXPORT, 0, longest)]
     text = wrap(longest)

@@ -23,8 +23,8 @@ import sys
 from collections import Counter
 
 import stored
-from models.numbers import FILE_BYTES, SHORT_BUFFER, TOO_LONG
-from models.text import COLUMNS, EXPORT, FIRST, IMPORT, LAST, NOT_TEXT, answer, line, shown, wrap
+from models.numbers import FILE_BYTES, NOT_TEXT, SHORT_BUFFER, TOO_LONG
+from models.text import COLUMNS, EXPORT, FIRST, IMPORT, LAST, answer, line, shown, wrap
 from text_check import ALPHABET, CALLS, IMPORTS, body, damaged
 
 NUMBERS = (TOO_LONG, SHORT_BUFFER, NOT_TEXT)

@@ -1,5 +1,5 @@
-//! PKCS #12 files: reading, writing, attributes, pairing and listing, and uploads, over the proved library libp12.a. include/p12.h says what each
-//! call answers.
+//! PKCS #12 files: reading, writing, attributes, pairing and listing, uploads, and files wrapped as text, over the
+//! proved library libp12.a. include/p12.h says what each call answers.
 //!
 //! ```no_run
 //! let file = std::fs::read("keys.p12").unwrap();
@@ -18,7 +18,7 @@ mod table;
 mod upload;
 
 pub use numbers::{
-    Number, ATTRIBUTE_ROWS, BAG_ROWS, FILE_BYTES, LEVELS, LISTING_BYTES, OPAQUE_LEVELS, PAIRS_BYTES, SAFE_ROWS, UPLOAD_LEVELS,
+    Number, ATTRIBUTE_ROWS, BAG_ROWS, FILE_BYTES, LEVELS, LISTING_BYTES, OPAQUE_LEVELS, PAIRS_BYTES, SAFE_ROWS, TEXT_BYTES, UPLOAD_LEVELS,
 };
 pub use table::{Attribute, Bag, BagKind, Parts, Range, Safe, SafeKind, Table};
 pub use upload::{Passed, Spoiled, Upload};
@@ -32,7 +32,7 @@ impl Number {
     }
 }
 
-/// A refusal: its number, and the offset in the file for the numbers 1 to 8 and 15.
+/// A refusal: its number, and the offset in the file for the numbers 1 to 8 and 15, in the text for 16.
 #[derive(Clone, Copy, Debug, PartialEq, Eq)]
 pub struct Refusal {
     pub number: Number,
@@ -103,6 +103,36 @@ fn text(file: &[u8], most: usize, write: fn(&[u8], &mut [u8]) -> Result<usize, R
     let written = write(file, &mut out).expect("a buffer for every text");
     out.truncate(written);
     String::from_utf8(out).expect("a text is ASCII")
+}
+
+/// The bytes that a text wraps. `NotText` has the offset of the first byte with which no text could go on; `TooLong`
+/// for more than `FILE_BYTES` bytes.
+pub fn import(text: &[u8]) -> Result<Vec<u8>, Refusal> {
+    let mut out = vec![0; FILE_BYTES.min(text.len())];
+    let written = import_into(text, &mut out)?;
+    out.truncate(written);
+    Ok(out)
+}
+
+/// The text of bytes. `NotText` for none, `TooLong` for more than `FILE_BYTES`.
+pub fn export(bytes: &[u8]) -> Result<String, Refusal> {
+    let mut out = vec![0; TEXT_BYTES];
+    let written = export_into(bytes, &mut out)?;
+    out.truncate(written);
+    Ok(String::from_utf8(out).expect("a text is ASCII"))
+}
+
+/// Writes the bytes that a text wraps to the front of the buffer, and returns their number. A refusal leaves the
+/// buffer as it was.
+pub fn import_into(text: &[u8], out: &mut [u8]) -> Result<usize, Refusal> {
+    let (number, offset, written) = sys::import(text, out);
+    answer(number, offset, written)
+}
+
+/// Writes the text of bytes to the front of the buffer, and returns its length. A refusal leaves the buffer as it was.
+pub fn export_into(bytes: &[u8], out: &mut [u8]) -> Result<usize, Refusal> {
+    let (number, written) = sys::export(bytes, out);
+    answer(number, 0, written)
 }
 
 /// The number of elements in an attribute's values, and element i, counted from 0, header included.

@@ -21,6 +21,8 @@ extern "C" {
     fn p12_certificate_for(table: *const u32, words: usize, bytes: *const u8, length: usize, key: usize, bag: *mut usize) -> u8;
     fn p12_list(file: *const u8, length: usize, out: *mut u8, capacity: usize, written: *mut usize) -> u8;
     fn p12_pairs(file: *const u8, length: usize, out: *mut u8, capacity: usize, written: *mut usize) -> u8;
+    fn p12_import(text: *const u8, length: usize, out: *mut u8, capacity: usize, written: *mut usize, offset: *mut usize) -> u8;
+    fn p12_export(bytes: *const u8, length: usize, out: *mut u8, capacity: usize, written: *mut usize) -> u8;
     fn p12_upload_begin(length: usize, state: *mut u16, cells: usize) -> u8;
     fn p12_upload_take(state: *mut u16, cells: usize, portion: *const u8, length: usize) -> u8;
     fn p12_upload_status(state: *const u16, cells: usize, offset: *mut usize, after: *mut usize) -> u8;
@@ -94,6 +96,22 @@ pub fn pairs(file: &[u8], out: &mut [u8]) -> (u8, usize) {
     let mut written = 0;
     // SAFETY: the module's head.
     let number = unsafe { p12_pairs(file.as_ptr(), file.len(), out.as_mut_ptr(), out.len(), &mut written) };
+    (number, written)
+}
+
+/// The number, the offset and the length written.
+pub fn import(text: &[u8], out: &mut [u8]) -> (u8, usize, usize) {
+    let (mut written, mut offset) = (0, 0);
+    // SAFETY: the module's head.
+    let number = unsafe { p12_import(text.as_ptr(), text.len(), out.as_mut_ptr(), out.len(), &mut written, &mut offset) };
+    (number, offset, written)
+}
+
+/// The number and the length written.
+pub fn export(bytes: &[u8], out: &mut [u8]) -> (u8, usize) {
+    let mut written = 0;
+    // SAFETY: the module's head.
+    let number = unsafe { p12_export(bytes.as_ptr(), bytes.len(), out.as_mut_ptr(), out.len(), &mut written) };
     (number, written)
 }
 

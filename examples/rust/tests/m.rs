@@ -188,3 +188,54 @@ fn reports_a_spoiled_upload_at_once_and_ever_after() {
     assert_eq!(Upload::begin(0).status(), spoiled(Number::Missing, 0, 0));
     assert_eq!(Upload::begin(65_536).status(), spoiled(Number::TooLong, 0, 0));
 }
+
+/// M, wrapped.
+const TEXT: &str = "-----BEGIN PKCS12-----
+MC0CAQMwEQYJKoZIhvcNAQcBoAQEAjAAMBUwEDALBglghkgBZQMEAgEEAaoEAVU=
+-----END PKCS12-----
+";
+
+#[test]
+fn exports_and_imports_m() {
+    assert_eq!(p12::export(&M), Ok(TEXT.to_string()));
+    assert_eq!(p12::import(TEXT.as_bytes()).as_deref(), Ok(M.as_slice()));
+    for size in (1..=100).chain([p12::FILE_BYTES - 1, p12::FILE_BYTES]) {
+        let bytes: Vec<u8> = M.iter().copied().cycle().take(size).collect();
+        let text = p12::export(&bytes).unwrap();
+        assert_eq!(p12::import(text.as_bytes()), Ok(bytes));
+    }
+    assert_eq!(p12::export(&[0; p12::FILE_BYTES]).unwrap().len(), p12::TEXT_BYTES);
+}
+
+#[test]
+fn refuses_what_is_no_text() {
+    let (text, size, ends) = (TEXT.as_bytes(), TEXT.len(), TEXT.replace('\n', "\r\n"));
+    let cases: [(&[u8], usize); 4] = [(b"", 0), (&M, 0), (&text[..size - 1], size - 1), (ends.as_bytes(), 22)];
+    for (given, offset) in cases {
+        assert_eq!(p12::import(given), refusal(Number::NotText, offset));
+    }
+    assert_eq!(p12::import(&[text, b"\n"].concat()), refusal(Number::NotText, size));
+    assert_eq!(p12::export(&[]), refusal(Number::NotText, 0));
+}
+
+#[test]
+fn refuses_what_is_too_long() {
+    assert_eq!(p12::export(&[0; p12::FILE_BYTES + 1]), refusal(Number::TooLong, 0));
+    let (full, left) = ("A".repeat(64) + "\n", "A".repeat(22) + "==\n"); // 65,536 zeros: 1,365 lines, and 16 more
+    let text = [&TEXT[..23], &full.repeat(1365), &left, &TEXT[TEXT.len() - 21..]].concat();
+    assert_eq!(p12::import(text.as_bytes()), refusal(Number::TooLong, 0));
+}
+
+#[test]
+fn refused_import_and_export_leave_the_buffer() {
+    let mut out = vec![0xEE; TEXT.len() - 1];
+    assert_eq!(p12::export_into(&M, &mut out), refusal(Number::ShortBuffer, 0));
+    assert_eq!(p12::import_into(TEXT.as_bytes(), &mut out[..46]), refusal(Number::ShortBuffer, 0));
+    assert_eq!(p12::import_into(&TEXT.as_bytes()[1..], &mut out), refusal(Number::NotText, 4));
+    assert!(out.iter().all(|byte| *byte == 0xEE));
+    assert_eq!(p12::import_into(TEXT.as_bytes(), &mut out), Ok(47));
+    assert_eq!((&out[..47], &out[47..50]), (M.as_slice(), [0xEE; 3].as_slice()));
+    out.push(0xEE);
+    assert_eq!(p12::export_into(&M, &mut out), Ok(TEXT.len()));
+    assert_eq!(out, TEXT.as_bytes());
+}
