@@ -27,7 +27,7 @@ static size_t text_size, letter_count;
 
 static uint8_t out[P12_TEXT_BYTES + 1]; /* EVP_EncodeBlock writes a final 0 */
 
-/* Import: each gives the number of bytes in `out`, EVP_DecodeBlock with a byte for each padding. */
+/* Import: each returns the number of bytes in `out`, EVP_DecodeBlock with a byte for each padding. */
 
 static size_t import_ours(const uint8_t *file, size_t n)
 {
@@ -77,7 +77,7 @@ static size_t import_pem(const uint8_t *file, size_t n)
     return (size_t)count;
 }
 
-/* Export: each gives the number of characters in `out`. */
+/* Export: each returns the number of characters in `out`. */
 
 static size_t export_ours(const uint8_t *file, size_t n)
 {
