@@ -68,11 +68,11 @@ encoded-coded [] v = refl
 encoded-coded (a ∷ []) v =
     let u : valueOf (letterOf (a % 4 * 16)) % 16 ≡ 0 = omega (arith, value-letter (a % 4 * 16)) in
     letter-goes (a / 4) (letter-goes (a % 4 * 16)
-    (inr (inl (record { place = refl; unused = u; first = refl; behind = refl }))))
+    (inr (inl (record { column = refl; unused = u; first = refl; behind = refl }))))
 encoded-coded (a ∷ b ∷ []) v =
     let u : valueOf (letterOf (b % 16 * 4)) % 4 ≡ 0 = omega (arith, value-letter (b % 16 * 4)) in
     letter-goes (a / 4) (letter-goes (a % 4 * 16 + b / 16) (letter-goes (b % 16 * 4)
-    (inr (inr (record { place = refl; unused = u; first = refl; behind = refl })))))
+    (inr (inr (record { column = refl; unused = u; first = refl; behind = refl })))))
 encoded-coded (a ∷ b ∷ c ∷ x) v =
     letter-goes (a / 4) (letter-goes (a % 4 * 16 + b / 16) (letter-goes (b % 16 * 4 + c / 64) (letter-goes (c % 64)
     (encoded-coded x (valueOf (letterOf (c % 64)))))))
@@ -116,8 +116,8 @@ by-coded : {P : Type 0} (q v c : ℕ) (cs : List ℕ) → Coded q v (c ∷ cs)
     → (q ≡ 2 → v % 16 ≡ 0 → c ≡ pad → cs ≡ pad ∷ [] → P)
     → (q ≡ 3 → v % 4 ≡ 0 → c ≡ pad → cs ≡ [] → P) → P
 by-coded q v c cs (inl g) f two one = f (g .letter) (g .rest)
-by-coded q v c cs (inr (inl p)) f two one = two (p .place) (p .unused) (p .first) (p .behind)
-by-coded q v c cs (inr (inr p)) f two one = one (p .place) (p .unused) (p .first) (p .behind)
+by-coded q v c cs (inr (inl p)) f two one = two (p .column) (p .unused) (p .first) (p .behind)
+by-coded q v c cs (inr (inr p)) f two one = one (p .column) (p .unused) (p .first) (p .behind)
 
 -- the first two characters of four are letters
 letter-then : {P : Type 0} (q v c : ℕ) (cs : List ℕ) → q < 2 → Coded q v (c ∷ cs)

@@ -14,7 +14,7 @@ pub record Going (Next : Type 0) (c : ℕ) : Type 0 where
 -- Padding ends it: `=` behind `due` characters of four, and `after` behind that. The unused bits
 -- of the last character, whose value is v, are zero: v is a multiple of `unit`.
 pub record Padding (q v c : ℕ) (cs : List ℕ) (due unit : ℕ) (after : List ℕ) : Type 0 where
-  pub place : q ≡ due
+  pub column : q ≡ due
   pub unused : v % unit ≡ 0
   pub first : c ≡ pad
   pub behind : cs ≡ after

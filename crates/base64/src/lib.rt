@@ -28,8 +28,8 @@ const VALUES: [u8; 256] = *b"\
 
 const LETTERS: [u8; 64] = *b"ABCDEFGHIJKLMNOPQRSTUVWXYZabcdefghijklmnopqrstuvwxyz0123456789+/";
 
-// The table of values: its entry for each of the 256 bytes. A caller has a copy of its own and
-// lends it, since a constant is built anew wherever it is used.
+// The table of values: its entry for each of the 256 bytes. A caller keeps a copy and passes a
+// reference to it, since a constant is built anew wherever it is used.
 pub fn values() -> [u8; 256]
     ensures { λ r. ⌜ r ≡ valueTable ⌝ }
 {

@@ -14,20 +14,20 @@ use Rattle.pem.specs.Wrap.{wrap}
 use Rattle.p12.specs.Calls.{writtenNumber, writtenOffset, importCall, importOffset, exportCall}
 use Rattle.p12.proofs.Gives.{three-and, Gives, wrote-gives}
 
-pub import-gives : (t room : List ℕ) (w : Written) → w ≡ imported t room .answer
-    → (z : List ℕ) → z ≡ imported t room .buffer → (n : ℕ) → n ≡ writtenNumber w
+pub import-gives : (t buffer : List ℕ) (w : Written) → w ≡ imported t buffer .answer
+    → (z : List ℕ) → z ≡ imported t buffer .buffer → (n : ℕ) → n ≡ writtenNumber w
     → (k : ℕ) → k ≡ lengthOf w → (j : ℕ) → j ≡ writtenOffset w
-    → (n ≡ importCall t room .number)
-    × ((z ≡ importCall t room .memory) × ((k ≡ importCall t room .value) × (j ≡ importOffset t room)))
+    → (n ≡ importCall t buffer .number)
+    × ((z ≡ importCall t buffer .memory) × ((k ≡ importCall t buffer .value) × (j ≡ importOffset t buffer)))
 unfolding importCall importOffset
-import-gives t room w p z q n r k e j l =
-    three-and (wrote-gives (imported t room) w z p q n r k e) (l ∙ ap (λ (x : Written). writtenOffset x) p)
+import-gives t buffer w p z q n r k e j l =
+    three-and (wrote-gives (imported t buffer) w z p q n r k e) (l ∙ ap (λ (x : Written). writtenOffset x) p)
 
-pub export-gives : (x room : List ℕ) (w : Written) → w ≡ exported x room .answer
-    → (z : List ℕ) → z ≡ exported x room .buffer → (n : ℕ) → n ≡ writtenNumber w
-    → (k : ℕ) → k ≡ lengthOf w → Gives (exportCall x room) n z k
+pub export-gives : (x buffer : List ℕ) (w : Written) → w ≡ exported x buffer .answer
+    → (z : List ℕ) → z ≡ exported x buffer .buffer → (n : ℕ) → n ≡ writtenNumber w
+    → (k : ℕ) → k ≡ lengthOf w → Gives (exportCall x buffer) n z k
 unfolding exportCall
-export-gives x room w p z q = wrote-gives (exported x room) w z p q
+export-gives x buffer w p z q = wrote-gives (exported x buffer) w z p q
 
 -- ---- what the calls report is what the answers report: number, offset and length
 
@@ -36,28 +36,28 @@ unfolding writtenReport
 length-reports (Length n) = refl
 length-reports (Written.Refused f) = refl
 
-pub import-reports : (t room : List ℕ)
-    → (importCall t room .number ≡ writtenReport (imported t room .answer) .number)
-    × ((importOffset t room ≡ writtenReport (imported t room .answer) .offset)
-    × (importCall t room .value ≡ getD (writtenReport (imported t room .answer) .values) 0 0))
+pub import-reports : (t buffer : List ℕ)
+    → (importCall t buffer .number ≡ writtenReport (imported t buffer .answer) .number)
+    × ((importOffset t buffer ≡ writtenReport (imported t buffer .answer) .offset)
+    × (importCall t buffer .value ≡ getD (writtenReport (imported t buffer .answer) .values) 0 0))
 unfolding importCall importOffset
-import-reports t room = (refl, (refl, length-reports (imported t room .answer)))
+import-reports t buffer = (refl, (refl, length-reports (imported t buffer .answer)))
 
 -- no answer of export has an offset: its refusals are at 0
-module _ (x room : List ℕ) where
+module _ (x buffer : List ℕ) where
   abbrev AtZero : Outcome → Type 0
   AtZero o = 0 ≡ writtenReport (o .answer) .offset
 
-  export-at : AtZero (exported x room)
+  export-at : AtZero (exported x buffer)
   unfolding exported intoBuffer writtenReport
   export-at =
       by-eq AtZero _ _ (length x) 0
       (λ h. refl)
       (λ h. by-lt AtZero _ _ 65_535 (length x) (λ k. refl)
-      (λ k. by-lt AtZero _ _ (length room) (length (wrap x)) (λ i. refl) (λ i. refl)))
+      (λ k. by-lt AtZero _ _ (length buffer) (length (wrap x)) (λ i. refl) (λ i. refl)))
 
-  pub export-reports : (exportCall x room .number ≡ writtenReport (exported x room .answer) .number)
-      × ((0 ≡ writtenReport (exported x room .answer) .offset)
-      × (exportCall x room .value ≡ getD (writtenReport (exported x room .answer) .values) 0 0))
+  pub export-reports : (exportCall x buffer .number ≡ writtenReport (exported x buffer .answer) .number)
+      × ((0 ≡ writtenReport (exported x buffer .answer) .offset)
+      × (exportCall x buffer .value ≡ getD (writtenReport (exported x buffer .answer) .values) 0 0))
   unfolding exportCall
-  export-reports = (refl, (export-at, length-reports (exported x room .answer)))
+  export-reports = (refl, (export-at, length-reports (exported x buffer .answer)))

@@ -10,5 +10,5 @@ fn main() {
     let mut buffer = [0u8; source::READ_BYTES];
     let mut unwrapped = io::large_buffer();
     let n = stdio::read_all(&mut buffer);
-    pairs(source::opened(&buffer[..n], &mut unwrapped));
+    pairs(source::file(&buffer[..n], &mut unwrapped));
 }

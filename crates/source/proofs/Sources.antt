@@ -12,18 +12,18 @@ use Rattle.buffer.specs.declared.Written.{Written}
 use Rattle.buffer.specs.declared.Written.the-variants.{Length}
 use Rattle.text.proofs.Short.{Short, word, number, _and_}
 use Rattle.pem.specs.Calls.{imported}
-use Rattle.source.specs.Source.{openedAs, opened, unwrappedLine, soFar, answeredAs}
+use Rattle.source.specs.Source.{fileAs, fileIn, unwrappedLine, soFar, answeredAs}
 
 -- t was read, and import into the buffer b answered w
 module _ (t b : List ℕ) (w : Written) (p : w ≡ imported t b .answer) where
-  pub opened-text : (n : ℕ) (after r : List ℕ) → w ≡ Length n → after ≡ imported t b .buffer
-      → r ≡ slice 0 n after → r ≡ opened t b
-  unfolding openedAs
-  opened-text n after r e q s = rw (sym p ∙ e, sym q) s
+  pub file-text : (n : ℕ) (after r : List ℕ) → w ≡ Length n → after ≡ imported t b .buffer
+      → r ≡ slice 0 n after → r ≡ fileIn t b
+  unfolding fileAs
+  file-text n after r e q s = rw (sym p ∙ e, sym q) s
 
-  pub opened-bytes : (f : Fault) → w ≡ Written.Refused f → t ≡ opened t b
-  unfolding openedAs
-  opened-bytes f e = rw (sym p ∙ e) refl
+  pub file-bytes : (f : Fault) → w ≡ Written.Refused f → t ≡ fileIn t b
+  unfolding fileAs
+  file-bytes f e = rw (sym p ∙ e) refl
 
   pub answered-text : (n : ℕ) → w ≡ Length n → w ≡ answeredAs (imported t b .answer)
   unfolding answeredAs

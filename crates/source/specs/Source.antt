@@ -20,13 +20,13 @@ abbrev pub readBytes : ℕ
 readBytes = 88_791
 
 -- what import left at the front of the buffer; if it was refused, the bytes that were read
-unfoldable pub openedAs : Written → List ℕ → List ℕ → List ℕ
-openedAs (Length n) t buffer = take n buffer
-openedAs (Written.Refused f) t buffer = t
+unfoldable pub fileAs : Written → List ℕ → List ℕ → List ℕ
+fileAs (Length n) t buffer = take n buffer
+fileAs (Written.Refused f) t buffer = t
 
 -- the bytes of the file: those that a text wraps, or all that were read
-abbrev pub opened : List ℕ → List ℕ → List ℕ
-opened t buffer = openedAs (imported t buffer .answer) t (imported t buffer .buffer)
+abbrev pub fileIn : List ℕ → List ℕ → List ℕ
+fileIn t buffer = fileAs (imported t buffer .answer) t (imported t buffer .buffer)
 
 -- the line that says how many were unwrapped
 unfoldable pub unwrappedLine : ℕ → List ℕ

@@ -4,7 +4,7 @@ ghost use mathlib.Core.Path.{_≡_};
 ghost use lib.ListN.{length};
 ghost use Rattle.buffer.specs.Placed.{Placed};
 ghost use Rattle.buffer.specs.Report.{writtenReport};
-ghost use Rattle.source.specs.Source.{opened, unwrappedLine, soFar, importedSoFar};
+ghost use Rattle.source.specs.Source.{fileIn, unwrappedLine, soFar, importedSoFar};
 use buffer::Written;
 use buffer::write;
 use der::Fault;
@@ -31,8 +31,8 @@ fn say_unwrapped(n: usize) -> usize
 
 // The bytes of the file: those that a text wraps, at the front of the buffer, and standard error
 // says so; or all that were read, if these aren't a text that is imported.
-pub fn opened<'a>(read: &'a [u8], out: &'a mut [u8]) -> &'a [u8]
-    ensures { λ r. ⌜ now r ≡ opened (now (read .entry)) (now (out .entry)) ⌝ }
+pub fn file<'a>(read: &'a [u8], out: &'a mut [u8]) -> &'a [u8]
+    ensures { λ r. ⌜ now r ≡ fileIn (now (read .entry)) (now (out .entry)) ⌝ }
 {
     let written = pem::import(read, out);
     match written {

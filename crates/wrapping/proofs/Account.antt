@@ -28,7 +28,7 @@ pub record BeginsIn (L : Language) (u : List ℕ) : Type 0 where
 -- one more they don't, or there are no more and t is no word
 pub record Broken (L : Language) (t : List ℕ) (at p : ℕ) : Type 0 where
   pub k : ℕ
-  pub place : p ≡ at + k
+  pub offset : p ≡ at + k
   pub inside : k ≤ length t
   pub good : BeginsIn L (take k t)
   pub bad : k < length t → BeginsIn L (take (suc k) t) → ⊥
@@ -56,7 +56,7 @@ account-more L b t at (wraps m x) = wraps m x
 account-more L b t at (breaks p x) =
     breaks p record {
       k = suc (x .k);
-      place = omega (arith, x .place);
+      offset = omega (arith, x .offset);
       inside = omega (arith, x .inside);
       good = begins-as (behind b L) L _ _ (λ m w y. y) (x .good);
       bad = λ h g. x .bad (omega arith) (begins-as L (behind b L) _ _ (λ m w y. y) g);
@@ -69,7 +69,7 @@ pub account-wrong : (L : Language) (b : ℕ) (t : List ℕ) (at : ℕ) → Begin
 account-wrong L b t at g n =
     breaks at record {
       k = 0;
-      place = omega arith;
+      offset = omega arith;
       inside = omega arith;
       good = g;
       bad = λ h i. n (i .number) (i .rest) (i .word);
@@ -80,7 +80,7 @@ pub account-cut : (L : Language) (at : ℕ) → BeginsIn L [] → ((m : ℕ) →
 account-cut L at g n =
     breaks at record {
       k = 0;
-      place = omega arith;
+      offset = omega arith;
       inside = omega arith;
       good = g;
       bad = λ h. absurd (omega arith);
@@ -97,14 +97,14 @@ module _ (L M : Language) (E : List ℕ → Type 0) (head-only : (b : ℕ) (u v 
       → Account M t at j → Account L t at j
   account-front t at e g to from (wraps m x) = wraps m (from m t e x)
   account-front t at e g to from (breaks p x) =
-      breaks p (broken t e (x .k) (x .place) (x .inside) (x .good) (x .bad) (x .cut))
+      breaks p (broken t e (x .k) (x .offset) (x .inside) (x .good) (x .bad) (x .cut))
     where
       broken : (t : List ℕ) → E t → (k : ℕ) → p ≡ at + k → k ≤ length t → BeginsIn M (take k t)
           → (k < length t → BeginsIn M (take (suc k) t) → ⊥) → (k ≡ length t → (m : ℕ) → M m t → ⊥) → Broken L t at p
       broken [] e zero q h i b c =
           record {
             k = 0;
-            place = q;
+            offset = q;
             inside = h;
             good = g;
             bad = λ l. absurd (omega arith);
@@ -114,7 +114,7 @@ module _ (L M : Language) (E : List ℕ → Type 0) (head-only : (b : ℕ) (u v 
       broken (a ∷ t) e zero q h i b c =
           record {
             k = 0;
-            place = q;
+            offset = q;
             inside = h;
             good = g;
             bad = λ l z. b l (begins-as L M _ _ (λ m w. to m _ (head-only a t _ e)) z);
@@ -123,7 +123,7 @@ module _ (L M : Language) (E : List ℕ → Type 0) (head-only : (b : ℕ) (u v 
       broken (a ∷ t) e (suc k) q h i b c =
           record {
             k = suc k;
-            place = q;
+            offset = q;
             inside = h;
             good = begins-as M L _ _ (λ m w. from m _ (head-only a t _ e)) i;
             bad = λ l z. b l (begins-as L M _ _ (λ m w. to m _ (head-only a t _ e)) z);
@@ -138,7 +138,7 @@ account-same L M t at to from (wraps m x) = wraps m (from m t x)
 account-same L M t at to from (breaks p x) =
     breaks p record {
       k = x .k;
-      place = x .place;
+      offset = x .offset;
       inside = x .inside;
       good = begins-as M L _ _ (λ m w. from m _) (x .good);
       bad = λ l z. x .bad l (begins-as L M _ _ (λ m w. to m _) z);
@@ -163,7 +163,7 @@ broken-one L t at p q x y =
     (λ h. absurd (x .bad (omega (arith, y .inside)) (begins-less L _ _ t h (y .good))))
     (λ h. either (y .k) (x .k)
     (λ i. absurd (y .bad (omega (arith, x .inside)) (begins-less L _ _ t i (x .good))))
-    (λ i. omega (arith, x .place, y .place)))
+    (λ i. omega (arith, x .offset, y .offset)))
 
 pub broken-none : (L : Language) (t : List ℕ) (at p m : ℕ) → Broken L t at p → L m t → ⊥
 broken-none L t at p m x w =

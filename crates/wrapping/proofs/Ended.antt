@@ -33,9 +33,9 @@ data Closes (q v : ℕ) (cs : List ℕ) : Type 0 where
 closes-coded : (q v : ℕ) (cs : List ℕ) → Closes q v cs → Coded q v cs
 closes-coded q v cs (none h e) = rw e h
 closes-coded q v cs (two h u e) =
-    rw e (inr (inl (record { place = h; unused = u; first = refl; behind = refl })))
+    rw e (inr (inl (record { column = h; unused = u; first = refl; behind = refl })))
 closes-coded q v cs (one h u e) =
-    rw e (inr (inr (record { place = h; unused = u; first = refl; behind = refl })))
+    rw e (inr (inr (record { column = h; unused = u; first = refl; behind = refl })))
 
 closes-count : (q v : ℕ) (cs : List ℕ) → Closes q v cs → letterCount cs ≡ 0
 unfolding letterCount
@@ -70,8 +70,8 @@ rest-closes n k v m u h s r = go (r .chars) (r .coded) (r .is)
     go : (cs : List ℕ) → Coded (k % 4) v cs → u ≡ due k cs ++ end → Closes (k % 4) v cs
     go [] c e = none c refl
     go (x ∷ cs) (inl c) e = absurd (rest-letter k x cs u h s e (c .letter))
-    go (x ∷ cs) (inr (inl c)) e = two (c .place) (c .unused) (cc (c .first, c .behind))
-    go (x ∷ cs) (inr (inr c)) e = one (c .place) (c .unused) (cc (c .first, c .behind))
+    go (x ∷ cs) (inr (inl c)) e = two (c .column) (c .unused) (cc (c .first, c .behind))
+    go (x ∷ cs) (inr (inr c)) e = one (c .column) (c .unused) (cc (c .first, c .behind))
 
 -- a full line has to end
 rest-full : (n k v m : ℕ) (u : List ℕ) → k ≡ 64 → Stops k u → Rest n k v m u → ⊥

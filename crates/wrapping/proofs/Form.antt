@@ -2,7 +2,7 @@
 use mathlib.Core.Path.{_≡_, refl, sym, ap, _∙_}
 use mathlib.Core.Logic.{_↔_}
 use mathlib.Core.List.{List, [], _∷_, _++_, append-assoc}
-use Prim.Native.Nat.{ℕ, zero, suc, _-_, _%_, _≤_}
+use Prim.Native.Nat.{ℕ, zero, suc, _-_, _%_, _≤_, _<_}
 use native.Mathlib.Omega.{arith}
 use lib.ListN.{length, take, drop, length-append, length-drop, take-append-drop}
 use lib.Seq.{length-take-le}
@@ -135,6 +135,10 @@ form-iff t = (text-form t, form-text t)
 
 pub text-length : (t : List ℕ) (x : Text t) → length (x .bytes) ≤ 65_535 → length t ≤ 88_790
 text-length t x h = omega (arith, wrap-length (x .bytes), ap length (x .is))
+
+pub longer : (t : List ℕ) (x : Text t) → 88_790 < length t → 65_535 < length (x .bytes)
+longer t x h =
+    either 65_535 (length (x .bytes)) (λ k. k) (λ k. absurd (omega (arith, h, text-length t x k)))
 
 pub longest : (x : List ℕ) → length x ≡ 65_535 → length (wrap x) ≡ 88_790
 longest x e = omega (arith, wrap-length x)

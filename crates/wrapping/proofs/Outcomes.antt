@@ -138,12 +138,12 @@ module _ (t b : List ℕ) where
   too-long-iff p = (
     imported-by (λ o. o .answer ≡ Written.Refused (fault 9 p) → WrapsMore t p)
         (λ q r e. absurd (omega (arith, ap numberIn e)))
-        (λ x h e. record { text = x; long = h; place = sym (ap offsetIn e) })
+        (λ x h e. record { text = x; long = h; offset = sym (ap offsetIn e) })
         (λ x h k e. absurd (omega (arith, ap numberIn e)))
         (λ x h k e. absurd (omega (arith, ap numberIn e))),
     λ m.
         ap (λ (w : Outcome). w .answer) (text-long (m .text) (m .long))
-        ∙ ap (λ (q : ℕ). Written.Refused (fault 9 q)) (sym (m .place)),
+        ∙ ap (λ (q : ℕ). Written.Refused (fault 9 q)) (sym (m .offset)),
   )
 
   pub short-buffer-iff : (p : ℕ) → (imported t b .answer ≡ Written.Refused (fault 10 p)) ↔ LacksSpace t b p
@@ -151,11 +151,11 @@ module _ (t b : List ℕ) where
     imported-by (λ o. o .answer ≡ Written.Refused (fault 10 p) → LacksSpace t b p)
         (λ q r e. absurd (omega (arith, ap numberIn e)))
         (λ x h e. absurd (omega (arith, ap numberIn e)))
-        (λ x h k e. record { text = x; short = h; lacking = k; place = sym (ap offsetIn e) })
+        (λ x h k e. record { text = x; short = h; lacking = k; offset = sym (ap offsetIn e) })
         (λ x h k e. absurd (omega (arith, ap numberIn e))),
     λ m.
         ap (λ (w : Outcome). w .answer) (text-into (m .text) (m .short) ∙ lacks (m .text .bytes) b (m .lacking))
-        ∙ ap (λ (q : ℕ). Written.Refused (fault 10 q)) (sym (m .place)),
+        ∙ ap (λ (q : ℕ). Written.Refused (fault 10 q)) (sym (m .offset)),
   )
 
   -- a refusal has one of these numbers, and the buffer is as before
@@ -240,11 +240,11 @@ module _ (x b : List ℕ) where
     exported-by (λ o. o .answer ≡ Written.Refused (fault 10 p) → LacksTextSpace x b p)
         (λ z e. absurd (omega (arith, ap numberIn e)))
         (λ h e. absurd (omega (arith, ap numberIn e)))
-        (λ s h k e. record { some = s; short = h; lacking = k; place = sym (ap offsetIn e) })
+        (λ s h k e. record { some = s; short = h; lacking = k; offset = sym (ap offsetIn e) })
         (λ s h k e. absurd (omega (arith, ap numberIn e))),
     λ m.
         ap (λ (w : Outcome). w .answer) (export-into (m .some) (m .short) ∙ lacks (wrap x) b (m .lacking))
-        ∙ ap (λ (q : ℕ). Written.Refused (fault 10 q)) (sym (m .place)),
+        ∙ ap (λ (q : ℕ). Written.Refused (fault 10 q)) (sym (m .offset)),
   )
 
   -- a refusal has one of these numbers, and the buffer is as before

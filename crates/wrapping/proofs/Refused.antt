@@ -66,7 +66,7 @@ broken-refused : (t : List ℕ) (p : ℕ) → Broken TextIn t 0 p → RefusedAt 
 broken-refused t p x = either p (length t) (λ h. inl (wrong h)) (λ h. inr (cut (omega (arith, z, x .inside))))
   where
     z : x .k ≡ p
-    z = omega (arith, x .place)
+    z = omega (arith, x .offset)
 
     wrong : p < length t → GoesWrong t p
     wrong h =
@@ -88,7 +88,7 @@ refused-broken : (t : List ℕ) (p : ℕ) → RefusedAt t p → Broken TextIn t 
 refused-broken t p (inl x) =
     record {
       k = p;
-      place = omega arith;
+      offset = omega arith;
       inside = omega (arith, x .inside);
       good = begins-in (take p t) (x .good);
       bad = λ h b. x .bad (in-begins (take (suc p) t) b);
@@ -97,7 +97,7 @@ refused-broken t p (inl x) =
 refused-broken t p (inr x) =
     record {
       k = p;
-      place = omega arith;
+      offset = omega arith;
       inside = omega (arith, x .whole);
       good = rw (x .whole, take-length t) (begins-in t (x .good));
       bad = λ h. absurd (omega (arith, x .whole));

@@ -11,7 +11,7 @@ use borrow.Author.Tests.{eq-eqb, ne-eqb}
 use Rattle.der.specs.Choice.{if_then_else_}
 use Rattle.der.proofs.Choices.{either}
 use Rattle.buffer.specs.Text.{ascii}
-use Rattle.base64.specs.Alphabet.{alphabet, placeOf, valueOf}
+use Rattle.base64.specs.Alphabet.{alphabet, indexOf, valueOf}
 use Rattle.base64.specs.Encoded.{pad}
 use Rattle.base64.proofs.Alphabet.{newline-none, pad-none, dash-none}
 use Rattle.base64.specs.Coded.{Going, Coded}
@@ -79,7 +79,7 @@ pub some-more : (c : ℕ) (cs : List ℕ) → c ∷ cs ≡ [] → ⊥
 some-more c cs e = omega (arith, ap length e)
 
 letter-A : valueOf 0x41 ≡ 0
-unfolding valueOf placeOf alphabet ascii
+unfolding valueOf indexOf alphabet ascii
 letter-A = refl
 
 A-goes : {N Z : Type 0} → N → Going N 0x41 ⊎ Z
@@ -155,8 +155,8 @@ letter-back n k v m b u h l r =
 coded-any : (v w : ℕ) (cs : List ℕ) → Coded 0 v cs → Coded 0 w cs
 coded-any v w [] c = c
 coded-any v w (x ∷ cs) (inl c) = inl c
-coded-any v w (x ∷ cs) (inr (inl c)) = absurd (omega (arith, c .place))
-coded-any v w (x ∷ cs) (inr (inr c)) = absurd (omega (arith, c .place))
+coded-any v w (x ∷ cs) (inr (inl c)) = absurd (omega (arith, c .column))
+coded-any v w (x ∷ cs) (inr (inr c)) = absurd (omega (arith, c .column))
 
 pub line-on : (n v m : ℕ) (u : List ℕ) → Rest n 64 v m (newline ∷ u) → Rest n 0 0 m u
 unfolding due

@@ -40,6 +40,10 @@ longest-text = form.longest
 pub text-length : (t : List ℕ) (x : Text t) → length (x .bytes) ≤ 65_535 → length t ≤ 88_790
 text-length = form.text-length
 
+-- So a text that is longer wraps more than 65,535 bytes: no program has to read further.
+pub longer-text : (t : List ℕ) (x : Text t) → 88_790 < length t → 65_535 < length (x .bytes)
+longer-text = form.longer
+
 -- ---- import (Rules 11.6, 11.7)
 
 -- It returns n exactly for the texts of n bytes, 1 to 65,535, if the buffer has space for them,

@@ -25,14 +25,14 @@ pub record Imports (t buffer : List ℕ) (n : ℕ) : Type 0 where
 pub record WrapsMore (t : List ℕ) (p : ℕ) : Type 0 where
   pub text : Text t
   pub long : 65_535 < length (text .bytes)
-  pub place : p ≡ 0
+  pub offset : p ≡ 0
 
 -- 10: t is the text of 1 to 65,535 bytes, and the buffer is shorter than they are
 pub record LacksSpace (t buffer : List ℕ) (p : ℕ) : Type 0 where
   pub text : Text t
   pub short : length (text .bytes) ≤ 65_535
   pub lacking : length buffer < length (text .bytes)
-  pub place : p ≡ 0
+  pub offset : p ≡ 0
 
 -- ---- export (Rule 11.8)
 
@@ -48,4 +48,4 @@ pub record LacksTextSpace (x buffer : List ℕ) (p : ℕ) : Type 0 where
   pub some : 1 ≤ length x
   pub short : length x ≤ 65_535
   pub lacking : length buffer < length (wrap x)
-  pub place : p ≡ 0
+  pub offset : p ≡ 0

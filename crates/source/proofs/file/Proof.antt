@@ -1,8 +1,8 @@
 -- By what import answered.
-use Rattle.source.proofs.Sources.{opened-text, opened-bytes}
+use Rattle.source.proofs.Sources.{file-text, file-bytes}
 use borrow.Author.Needs.{needs}
-use Rattle.source.proofs.opened.Statement.{statement}
-use Rattle.source.proofs.opened.Tie as tie
+use Rattle.source.proofs.file.Statement.{statement}
+use Rattle.source.proofs.file.Tie as tie
 
 import-requires : tie.Need-import-requires
 import-requires c κs = search needs
@@ -20,13 +20,13 @@ enum-told : tie.Need-enum-told
 enum-told c = search needs
 
 returns : tie.Need-returns
-returns c = search opened-text
+returns c = search file-text
 
 returns-2 : tie.Need-returns-2
-returns-2 c = search opened-bytes
+returns-2 c = search file-bytes
 
-pub opened-spec : {M : Type 1} → statement M
-opened-spec =
+pub file-spec : {M : Type 1} → statement M
+file-spec =
     tie.close
     (tie.spec
     import-requires
