@@ -56,28 +56,29 @@ static size_t read_walker(const uint8_t *file, size_t n)
 
 /* Whether a and c agree */
 
-static struct p12_range wide(struct range r)
+static struct p12_range same(struct range r)
 {
     return (struct p12_range){ r.start, r.end };
 }
 
 static struct p12_parts parts(struct range identifier, struct range parameters, struct range value)
 {
-    return (struct p12_parts){ wide(identifier), wide(parameters), wide(value) };
+    return (struct p12_parts){ same(identifier), same(parameters), same(value) };
 }
 
 /* The walker's table as the library has it. The rows past the walker's counts are 0. */
 static void as_library(const struct table *t, struct p12_table *out)
 {
     memset(out, 0, sizeof *out);
-    out->elements = t->elements;
+    out->elements = (uint16_t)t->elements;
     out->safe_count = t->safe_count;
     out->bag_count = t->bag_count;
     out->attribute_count = t->attribute_count;
-    out->mac_input = wide(t->mac_input);
+    out->mac_input = same(t->mac_input);
     out->mac = parts(t->mac_algorithm, t->mac_parameters, t->mac_digest);
-    out->mac_salt = wide(t->mac_salt);
-    out->mac_iterations = t->mac_iterations;
+    out->mac_salt = same(t->mac_salt);
+    out->mac_iterations_low = (uint16_t)t->mac_iterations;
+    out->mac_iterations_high = (uint16_t)(t->mac_iterations >> 16);
     for (int i = 0; i < P12_SAFE_ROWS; i++) {
         const struct safe_row *row = &t->safes[i];
 
@@ -91,7 +92,7 @@ static void as_library(const struct table *t, struct p12_table *out)
     for (int i = 0; i < P12_ATTRIBUTE_ROWS; i++) {
         const struct attribute_row *row = &t->attributes[i];
 
-        out->attributes[i] = (struct p12_attribute){ row->bag, wide(row->type), wide(row->values) };
+        out->attributes[i] = (struct p12_attribute){ row->bag, same(row->type), same(row->values) };
     }
 }
 
@@ -103,7 +104,7 @@ static int agree(const uint8_t *file, size_t n)
     uint8_t number;
 
     memset(&table, 0xEE, sizeof table); /* p12_read writes every word: 0 for a refused file, as the walker does */
-    number = p12_read(file, n, p12_words(&table), P12_TABLE_WORDS, &offset);
+    number = p12_read(file, n, p12_words(&table), P12_TABLE_LENGTH, &offset);
     walk(file, n, &walked, &fault);
     as_library(&walked, &other);
     return number == fault.number && offset == fault.offset && memcmp(&table, &other, sizeof table) == 0;

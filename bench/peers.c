@@ -48,14 +48,14 @@ size_t call_read(const uint8_t *file, size_t n)
 {
     size_t offset;
 
-    return p12_read(file, n, p12_words(&table), P12_TABLE_WORDS, &offset) == P12_OK ? table.elements : 0;
+    return p12_read(file, n, p12_words(&table), P12_TABLE_LENGTH, &offset) == P12_OK ? table.elements : 0;
 }
 
 size_t call_write(const uint8_t *file, size_t n)
 {
     size_t length;
 
-    p12_write(p12_words(&table), P12_TABLE_WORDS, file, n, written, sizeof written, &length);
+    p12_write(p12_words(&table), P12_TABLE_LENGTH, file, n, written, sizeof written, &length);
     return length;
 }
 
@@ -87,14 +87,14 @@ static uint8_t attribute(const uint8_t *file, size_t n, size_t bag, size_t i)
 {
     struct p12_attribute row;
 
-    return p12_attribute(p12_words(&table), P12_TABLE_WORDS, file, n, bag, i, (uint32_t *)&row, P12_ATTRIBUTE_WORDS);
+    return p12_attribute(p12_words(&table), P12_TABLE_LENGTH, file, n, bag, i, (uint16_t *)&row, P12_ATTRIBUTE_WORDS);
 }
 
 static uint8_t certificate_for(const uint8_t *file, size_t n, size_t key)
 {
     size_t bag;
 
-    return p12_certificate_for(p12_words(&table), P12_TABLE_WORDS, file, n, key, &bag);
+    return p12_certificate_for(p12_words(&table), P12_TABLE_LENGTH, file, n, key, &bag);
 }
 
 size_t call_attribute(const uint8_t *file, size_t n)

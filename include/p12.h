@@ -2,12 +2,12 @@
  * files as text, and the check of an upload while it arrives. Link libp12.a (`rt staticlib p12`).
  *
  * Every call returns, whatever it is handed; none allocates, keeps anything between calls or stops
- * the program. Each returns a number, P12_OK or that of the refusal; only p12_element returns a
- * count and no number. What each call returns and stores is proved.
+ * the program. Each returns a number, P12_OK or that of the refusal; only p12_element and
+ * p12_table_length return a count and no number. What each call returns and stores is proved.
  *
  * What a call changes. Results behind plain pointers (`size_t *`) are always written. Beside them:
  *
- *   p12_read        the first P12_TABLE_WORDS words of `table`, for every file: the table of an
+ *   p12_read        the first P12_TABLE_LENGTH words of `table`, for every file: the table of an
  *                   accepted file, and 0 in every word for a refused one, so that no row of an
  *                   earlier file is left. Only 10 leaves the memory as it was
  *   p12_write       the first *written bytes of `out`; a refusal leaves `out` as it was
@@ -21,22 +21,23 @@
  *                   the first P12_UPLOAD_LENGTH cells of `state`, also for a fault; too few cells
  *                   stay as they were
  *
- * p12_mac_input, p12_element, p12_certificate_for, p12_upload_status and p12_upload_end change
- * nothing else. Memory behind what is
- * written stays as it was, and no call changes a file, the bytes or a table that it only reads.
+ * p12_mac_input, p12_element, p12_certificate_for, p12_table_length, p12_upload_status and
+ * p12_upload_end change nothing else. Memory behind what is written stays as it was, and no call
+ * changes a file, the bytes or a table that it only reads.
  *
  * What a call takes on trust: a pointer and its length belong together, and the pointer isn't NULL
  * unless the length is 0; pointers to single results are never NULL; every pointer is aligned as
- * its type requires, so the words of a table or a row to 4 bytes (struct p12_table is), and the
- * cells of an upload to 2; what is written shares no byte with anything else that is handed over;
- * and there is enough stack.
+ * its type requires, so the words of a table or a row and the cells of an upload to 2 bytes
+ * (struct p12_table is); what is written shares no byte with anything else that is handed over;
+ * and there is enough stack. The library can't see which header a program was built with: compare
+ * P12_TABLE_LENGTH with p12_table_length() once.
  *
  * The stack that one call takes on x86-64, in bytes, measured and not proved:
  *
- *   p12_read         109,900       p12_certificate_for    77,300
- *   p12_mac_input    107,200       p12_write              74,000
+ *   p12_read         110,200       p12_certificate_for    77,300
+ *   p12_mac_input    107,200       p12_write              71,100
  *   p12_list         107,200       p12_attribute          70,500
- *   p12_pairs        114,500       p12_element               100
+ *   p12_pairs        114,600       p12_element               100
  *
  * and 500 for the calls on uploads, whatever arrives, and 400 for p12_import and p12_export,
  * whatever the text or the bytes.
@@ -107,7 +108,7 @@ enum p12_number {
  *   - a bagId is well formed and is none of the six of enum p12_bag_kind.
  *
  * 10: memory that a call writes to is too short. It leaves that memory as it was.
- *   - p12_read: `table`, for fewer than P12_TABLE_WORDS words, before the file is looked at;
+ *   - p12_read: `table`, for fewer than P12_TABLE_LENGTH words, before the file is looked at;
  *   - p12_write: `out`, for fewer bytes than the file has, after 11 and 9;
  *   - p12_attribute: `row`, for fewer than P12_ATTRIBUTE_WORDS words, if the attribute exists;
  *   - p12_list, p12_pairs: `out`, for fewer bytes than the text has;
@@ -115,21 +116,20 @@ enum p12_number {
  *   - p12_export: `out`, for fewer bytes than the text has, after 16 and 9;
  *   - p12_upload_begin: `state`, for fewer than P12_UPLOAD_LENGTH cells.
  *
- * 11: also for a table of fewer than P12_TABLE_WORDS words, and for a state that holds no upload. */
+ * 11: also for a table of fewer than P12_TABLE_LENGTH words, and for a state that holds no
+ * upload. */
 
-/* A table is P12_TABLE_WORDS words. The struct names them; its members are all words, so it has
- * no padding: p12_words(&table) is the same memory. Rows past the counts are 0. A range start..end
- * has the bytes start up to end - 1 of the file; what a kind doesn't have is 0..0.
- *
- * Ranges and row numbers have 16 bits, in words of 32. A range with a word above 65,535 is taken
- * for one that lies in no bytes: where a row's kind uses it the table isn't sound (11), and
- * p12_element counts 0 elements in it. A row number above 65,535 names no row: the table isn't
- * sound. Of bytes that are longer, ranges name the first 65,535. */
+/* A table is P12_TABLE_LENGTH words of 16 bits, 2,816 bytes. The struct names them; its members
+ * are all words, so it has no padding: p12_words(&table) is the same memory. Rows past the counts
+ * are 0. A range start..end has the bytes start up to end - 1 of the file; what a kind doesn't
+ * have is 0..0. Of bytes that are longer, ranges name the first 65,535. Only a MAC's iterations
+ * need more than 16 bits: they are two words, the low half first; p12_iterations joins them. */
 struct p12_range {
-    uint32_t start, end;
+    uint16_t start, end;
 };
 
-/* An algorithm's identifier and parameters (absent: an empty range), or the identifier of a type; and a ciphertext, a digest, a key, or the value. */
+/* An algorithm's identifier and parameters (absent: an empty range), or the identifier of a type;
+ * and a ciphertext, a digest, a key, or the value. */
 struct p12_parts {
     struct p12_range identifier, parameters, value;
 };
@@ -139,20 +139,21 @@ enum p12_safe_kind { P12_PLAIN = 1, P12_ENCRYPTED = 2 };
 enum p12_bag_kind { P12_KEY = 1, P12_SHROUDED_KEY = 2, P12_CERTIFICATE = 3, P12_CRL = 4, P12_SECRET = 5, P12_NESTED = 6 };
 
 struct p12_safe {
-    uint32_t kind;        /* enum p12_safe_kind; 0 in an empty row */
+    uint16_t kind;        /* enum p12_safe_kind; 0 in an empty row */
     struct p12_parts parts;
 };
 
 struct p12_bag {
-    uint32_t kind;        /* enum p12_bag_kind; 0 in an empty row */
-    uint32_t safe;        /* the row of its safe */
-    uint32_t enclosing;   /* 0 for none, else the row of the enclosing bag and 1 */
+    uint16_t kind;        /* enum p12_bag_kind; 0 in an empty row */
+    uint16_t safe;        /* the row of its safe */
+    uint16_t enclosing;   /* 0 for none, else the row of the enclosing bag and 1 */
     struct p12_parts parts;
-    uint32_t has_set;     /* whether the bag has a set of attributes: 0 if not; reading returns 1 if so, and writing takes anything else for it */
+    uint16_t has_set;     /* whether the bag has a set of attributes: 0 if not; reading returns 1
+                             if so, and writing takes anything else for it */
 };
 
 struct p12_attribute {
-    uint32_t bag;         /* the row of its bag */
+    uint16_t bag;         /* the row of its bag */
     struct p12_range identifier;
     struct p12_range values;      /* the body of the SET */
 };
@@ -161,6 +162,7 @@ struct p12_attribute {
 #define P12_SAFE_ROWS 16        /* Safe rows in a table. */
 #define P12_BAG_ROWS 64         /* Bag rows in a table. */
 #define P12_ATTRIBUTE_ROWS 128  /* Attribute rows in a table. */
+#define P12_TABLE_LENGTH 1408   /* Words of a table, of 16 bits each. */
 #define P12_FILE_BYTES 65535    /* Bytes of the longest file. */
 #define P12_LEVELS 8            /* Levels of safe contents; those of a plain safe are level 1. */
 #define P12_OPAQUE_LEVELS 16    /* Levels of an opaque element; the element itself is level 1. */
@@ -172,54 +174,75 @@ struct p12_attribute {
 /* generated up to here */
 
 struct p12_table {
-    uint32_t elements;    /* the number of elements in the file */
-    uint32_t safe_count, bag_count, attribute_count;
+    uint16_t elements;    /* the number of elements in the file */
+    uint16_t safe_count, bag_count, attribute_count;
     struct p12_range mac_input;   /* what the MAC is computed over */
     struct p12_parts mac;         /* the digest's algorithm, and the digest */
     struct p12_range mac_salt;
-    uint32_t mac_iterations;      /* 1 where none are written */
+    uint16_t mac_iterations_low;  /* the remainder by 65,536; together 1 where none are written */
+    uint16_t mac_iterations_high; /* the quotient by 65,536; at most 32,767 in a sound table */
     struct p12_safe safes[P12_SAFE_ROWS];
     struct p12_bag bags[P12_BAG_ROWS];
     struct p12_attribute attributes[P12_ATTRIBUTE_ROWS];
 };
 
-#define P12_TABLE_WORDS (sizeof(struct p12_table) / sizeof(uint32_t))         /* 1407 */
-#define P12_ATTRIBUTE_WORDS (sizeof(struct p12_attribute) / sizeof(uint32_t)) /* 5 */
+#define P12_ATTRIBUTE_WORDS (sizeof(struct p12_attribute) / sizeof(uint16_t)) /* 5 */
 
-static inline uint32_t *p12_words(struct p12_table *table) { return (uint32_t *)table; }
+/* Doesn't compile unless the struct is P12_TABLE_LENGTH words. */
+typedef char p12_table_has_no_padding[
+    sizeof(struct p12_table) == P12_TABLE_LENGTH * sizeof(uint16_t) ? 1 : -1];
 
-/* Reads a file into a table of at least P12_TABLE_WORDS words; words behind them stay as they
+static inline uint16_t *p12_words(struct p12_table *table) { return (uint16_t *)table; }
+
+/* The MAC's iterations. */
+static inline uint32_t p12_iterations(const struct p12_table *table)
+{
+    return (uint32_t)table->mac_iterations_high << 16 | table->mac_iterations_low;
+}
+
+/* How many words the library takes a table for. If that isn't P12_TABLE_LENGTH, the program was
+ * built with the header of another version, and what it hands over isn't what the library takes. */
+size_t p12_table_length(void);
+
+/* Reads a file into a table of at least P12_TABLE_LENGTH words; words behind them stay as they
  * were. 10 for fewer words, before the file is looked at. 1 to 9 or 15 for a file that is refused,
  * with the offset of the fault in *offset; the table is then empty: every word of it is 0. In
  * every other case *offset is 0. */
-uint8_t p12_read(const uint8_t *file, size_t length, uint32_t *table, size_t words, size_t *offset);
+uint8_t p12_read(
+    const uint8_t *file, size_t length, uint16_t *table, size_t words, size_t *offset);
 
 /* The range of the MAC input in a file: the body of the outer OCTET STRING, without its header.
  * 1 to 9 or 15 for a file that is refused, with the range 0..0. */
 uint8_t p12_mac_input(const uint8_t *file, size_t length, size_t *start, size_t *end);
 
 /* Writes the file of a table into a buffer, and its length into *written. 11 if the table has
- * fewer than P12_TABLE_WORDS words or isn't sound over the bytes that its ranges point into, then
- * 9 for a file that would be too long, then 10 for a buffer that is too short; *written is 0 then.
- * Rows past the counts, `elements`, `mac_input` and what a row's kind doesn't use are ignored, and
- * so are words behind P12_TABLE_WORDS. The same tables are taken by every call that takes one. */
-uint8_t p12_write(const uint32_t *table, size_t words, const uint8_t *bytes, size_t length, uint8_t *out, size_t capacity, size_t *written);
+ * fewer than P12_TABLE_LENGTH words or isn't sound over the bytes that its ranges point into,
+ * then 9 for a file that would be too long, then 10 for a buffer that is too short; *written is 0
+ * then. Rows past the counts, `elements`, `mac_input` and what a row's kind doesn't use are
+ * ignored, and so are words behind P12_TABLE_LENGTH. The same tables are taken by every call that
+ * takes one. */
+uint8_t p12_write(const uint16_t *table, size_t words, const uint8_t *bytes, size_t length,
+    uint8_t *out, size_t capacity, size_t *written);
 
 /* Attribute i of a bag, counted from 0, into a row of at least P12_ATTRIBUTE_WORDS words (struct
  * p12_attribute). P12_DONE behind the last one. 11 as for p12_write, then 12 if the table has no
  * such bag, then, for an attribute that is there, 10 for fewer words of the row. */
-uint8_t p12_attribute(const uint32_t *table, size_t words, const uint8_t *bytes, size_t length, size_t bag, size_t i, uint32_t *row, size_t row_words);
+uint8_t p12_attribute(const uint16_t *table, size_t words, const uint8_t *bytes, size_t length,
+    size_t bag, size_t i, uint16_t *row, size_t row_words);
 
 /* Element i of an attribute's values, counted from 0, as the range of the whole element: *start
  * and *end, both 0 where there is none. Returns how many elements there are; it has no refusals.
- * `from` and `to` are the start and end of the values; a range that ends before it starts or past
- * the bytes, or with a word above 65,535, has none. */
-size_t p12_element(const uint8_t *bytes, size_t length, uint32_t from, uint32_t to, size_t i, size_t *start, size_t *end);
+ * `from` and `to` are the start and end of the values, of 32 bits, so that no caller's numbers are
+ * cut; a range that ends before it starts or past the bytes, or with a number above 65,535, has
+ * none. */
+size_t p12_element(const uint8_t *bytes, size_t length, uint32_t from, uint32_t to, size_t i,
+    size_t *start, size_t *end);
 
 /* The certificate bag for the key bag `key`: the only one with an equal localKeyID; its row is
  * *bag. 11 as for p12_write, 12 if that row is no key's, 13 if no certificate fits or the key has
  * no localKeyID, 14 if more than one fits; *bag is 0 then. */
-uint8_t p12_certificate_for(const uint32_t *table, size_t words, const uint8_t *bytes, size_t length, size_t key, size_t *bag);
+uint8_t p12_certificate_for(const uint16_t *table, size_t words, const uint8_t *bytes,
+    size_t length, size_t key, size_t *bag);
 
 /* The listing of a file as text, without a final 0, and its length in *written. A refused file
  * lists as the one line `refused N at P`, and the call returns P12_OK. 10 for a buffer that is too

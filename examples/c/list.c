@@ -2,7 +2,8 @@
 
        list [FILE]      standard input without FILE
 
-   Exit status 0 for a file that is accepted, 1 for one that is refused, 2 where it can't be read. */
+   Exit status 0 for a file that is accepted, 1 for one that is refused, 2 where it can't be read
+   or the library isn't that of the header. */
 #include "p12.h"
 
 #include <stdio.h>
@@ -33,10 +34,14 @@ int main(int argc, char **argv)
         fprintf(stderr, "usage: list [FILE], a file that can be read\n");
         return 2;
     }
+    if (p12_table_length() != P12_TABLE_LENGTH) {
+        fprintf(stderr, "list: built with the header of another version\n");
+        return 2;
+    }
     length = fread(file, 1, sizeof file, in);
     if (ferror(in) || !show(p12_list, length))
         return 2;
-    number = p12_read(file, length, p12_words(&table), P12_TABLE_WORDS, &offset);
+    number = p12_read(file, length, p12_words(&table), P12_TABLE_LENGTH, &offset);
     if (number != P12_OK)
         return 1;
     return show(p12_pairs, length) ? 0 : 2;

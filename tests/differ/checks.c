@@ -2,9 +2,9 @@
 #include "checks.h"
 #include "exact.h"
 
-typedef char no_padding[P12_TABLE_WORDS == 1407 && P12_ATTRIBUTE_WORDS == 5 ? 1 : -1];
+typedef char no_padding[sizeof(struct p12_table) == 2816 && P12_TABLE_LENGTH == 1408 && P12_ATTRIBUTE_WORDS == 5 ? 1 : -1];
 
-enum { WORD = sizeof(uint32_t), MORE = 3 };
+enum { WORD = sizeof(uint16_t), MORE = 3 };
 
 void check(int kept, const char *what)
 {
@@ -14,12 +14,13 @@ void check(int kept, const char *what)
 
 void check_nothing(void)
 {
-    uint32_t *words = painted(sizeof(struct p12_table));
+    uint16_t *words = painted(sizeof(struct p12_table));
     size_t a = 1, b = 1;
 
+    check(p12_table_length() == P12_TABLE_LENGTH, "the words of a table: the library's number isn't the header's");
     check(p12_read(NULL, 0, NULL, 0, &a) == P12_SHORT_BUFFER && a == 0, "no file and no words: read");
     a = 1;
-    check(p12_read(NULL, 0, words, P12_TABLE_WORDS, &a) == P12_MISSING && a == 0, "no file: read");
+    check(p12_read(NULL, 0, words, P12_TABLE_LENGTH, &a) == P12_MISSING && a == 0, "no file: read");
     release(words, sizeof(struct p12_table));
     check(p12_list(NULL, 0, NULL, 0, &a) == P12_SHORT_BUFFER && a == 0, "no file: list");
     a = 1;
@@ -38,7 +39,7 @@ void check_nothing(void)
 /* 10, whatever the file. */
 static void check_fewer_words(const struct lent *lent, size_t count)
 {
-    uint32_t *fewer = painted(count * WORD);
+    uint16_t *fewer = painted(count * WORD);
     size_t at = 1;
 
     check(p12_read(lent->file, lent->length, fewer, count, &at) == P12_SHORT_BUFFER && at == 0,
@@ -50,11 +51,11 @@ static void check_fewer_words(const struct lent *lent, size_t count)
 void check_other_words(const struct lent *lent, unsigned number, size_t offset)
 {
     size_t size = sizeof(struct p12_table), at = 1;
-    uint32_t *more = painted(size + MORE * WORD);
+    uint16_t *more = painted(size + MORE * WORD);
 
     check_fewer_words(lent, 0);
-    check_fewer_words(lent, P12_TABLE_WORDS - 1);
-    check(p12_read(lent->file, lent->length, more, P12_TABLE_WORDS + MORE, &at) == number && at == offset,
+    check_fewer_words(lent, P12_TABLE_LENGTH - 1);
+    check(p12_read(lent->file, lent->length, more, P12_TABLE_LENGTH + MORE, &at) == number && at == offset,
         "read into more words: number or offset");
     check(memcmp(more, lent->words, size) == 0, "read into more words: another table");
     check(as_before(more, size, size + MORE * WORD), "read into more words: those behind changed");
@@ -92,13 +93,13 @@ void check_text(text_call *call, const uint8_t *file, size_t length, const uint8
 void check_attribute(const struct lent *lent, size_t bag, size_t i, unsigned number)
 {
     size_t size = sizeof(struct p12_attribute);
-    uint32_t *fewer = painted(size - WORD), *more = painted(size + MORE * WORD);
+    uint16_t *fewer = painted(size - WORD), *more = painted(size + MORE * WORD);
     unsigned due = number == P12_OK ? P12_SHORT_BUFFER : number;
 
-    check(p12_attribute(lent->words, P12_TABLE_WORDS, lent->file, lent->length, bag, i, fewer, P12_ATTRIBUTE_WORDS - 1) == due,
+    check(p12_attribute(lent->words, P12_TABLE_LENGTH, lent->file, lent->length, bag, i, fewer, P12_ATTRIBUTE_WORDS - 1) == due,
         "attribute into fewer words: number");
     check(as_before(fewer, 0, size - WORD), "attribute into fewer words: they changed");
-    check(p12_attribute(lent->words, P12_TABLE_WORDS, lent->file, lent->length, bag, i, more, P12_ATTRIBUTE_WORDS + MORE) == number,
+    check(p12_attribute(lent->words, P12_TABLE_LENGTH, lent->file, lent->length, bag, i, more, P12_ATTRIBUTE_WORDS + MORE) == number,
         "attribute into more words: number");
     check(as_before(more, number == P12_OK ? size : 0, size + MORE * WORD), "attribute into more words: those behind changed");
     release(fewer, size - WORD);

@@ -5,16 +5,16 @@
 
 #include "p12.h"
 
-/* A file, and its table as p12_read gave it, of P12_TABLE_WORDS words. */
+/* A file, and its table as p12_read gave it, of P12_TABLE_LENGTH words. */
 struct lent {
     const uint8_t *file;
     size_t length;
-    const uint32_t *words;
+    const uint16_t *words;
 };
 
 void check(int kept, const char *what);
 
-/* Calls with no byte and no word, by NULL pointers. */
+/* Calls with no byte and no word, by NULL pointers; and whether the library is that of the header. */
 void check_nothing(void);
 
 /* Reading into fewer words and into more, after a reading that gave this number, offset and these words. */
@@ -33,7 +33,7 @@ void check_attribute(const struct lent *lent, size_t bag, size_t i, unsigned num
 void check_no_element(const struct lent *lent, struct p12_range values, size_t count);
 
 /* Each call that takes a table, on words over the bytes of `lent` that are no sound table. */
-void check_unsound(const struct lent *lent, const uint32_t *words, size_t count);
+void check_unsound(const struct lent *lent, const uint16_t *words, size_t count);
 
 /* Writing the table, and tables made of it that mean the same or aren't sound. Whether the file was written and read again. */
 int check_table(const struct lent *lent, const struct p12_table *table);

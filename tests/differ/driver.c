@@ -19,7 +19,7 @@
 
 enum { SHOWN = 32 };
 
-static void show_words(const uint32_t *words, size_t count)
+static void show_words(const uint16_t *words, size_t count)
 {
     printf("words:");
     for (size_t i = 0, same; i < count; i += same) {
@@ -76,8 +76,8 @@ static void show_elements(const struct lent *lent, struct p12_range values)
 /* One attribute, and its elements; the call's number. */
 static unsigned show_attribute(const struct lent *lent, size_t bag, size_t i)
 {
-    uint32_t *words = painted(sizeof(struct p12_attribute));
-    unsigned number = p12_attribute(lent->words, P12_TABLE_WORDS, lent->file, lent->length, bag, i, words, P12_ATTRIBUTE_WORDS);
+    uint16_t *words = painted(sizeof(struct p12_attribute));
+    unsigned number = p12_attribute(lent->words, P12_TABLE_LENGTH, lent->file, lent->length, bag, i, words, P12_ATTRIBUTE_WORDS);
 
     printf("bag %zu attribute %zu: %u", bag, i, number);
     if (number == P12_OK) {
@@ -88,7 +88,7 @@ static unsigned show_attribute(const struct lent *lent, size_t bag, size_t i)
         show_elements(lent, row.values);
     } else {
         if (number == P12_DONE)
-            printf(", again %u", p12_attribute(lent->words, P12_TABLE_WORDS, lent->file, lent->length, bag, i + 1, words, P12_ATTRIBUTE_WORDS));
+            printf(", again %u", p12_attribute(lent->words, P12_TABLE_LENGTH, lent->file, lent->length, bag, i + 1, words, P12_ATTRIBUTE_WORDS));
         putchar('\n');
         check(as_before(words, 0, sizeof(struct p12_attribute)), "no attribute: the row changed");
     }
@@ -104,7 +104,7 @@ static void show_bag(const struct lent *lent, size_t bag)
 
     for (size_t i = 0; number == P12_OK && i <= P12_ATTRIBUTE_ROWS; i++)
         number = show_attribute(lent, bag, i);
-    number = p12_certificate_for(lent->words, P12_TABLE_WORDS, lent->file, lent->length, bag, &certificate);
+    number = p12_certificate_for(lent->words, P12_TABLE_LENGTH, lent->file, lent->length, bag, &certificate);
     printf("bag %zu certificate: %u, bag %zu\n", bag, number, certificate);
 }
 
@@ -121,21 +121,21 @@ static void show_table(const struct lent *lent)
 
 static void show_file(const uint8_t *file, size_t length)
 {
-    uint32_t *words = painted(sizeof(struct p12_table));
+    uint16_t *words = painted(sizeof(struct p12_table));
     struct lent lent = { file, length, words };
     size_t offset = 1;
-    unsigned number = p12_read(file, length, words, P12_TABLE_WORDS, &offset);
+    unsigned number = p12_read(file, length, words, P12_TABLE_LENGTH, &offset);
 
     printf("read: %u at %zu\n", number, offset);
     show_mac_input(file, length);
     show_text("list", p12_list, P12_LISTING_BYTES, file, length);
     show_text("pairs", p12_pairs, P12_PAIRS_BYTES, file, length);
-    show_words(words, P12_TABLE_WORDS);
+    show_words(words, P12_TABLE_LENGTH);
     check_other_words(&lent, number, offset);
     if (number == P12_OK)
         show_table(&lent);
     else
-        check_unsound(&lent, words, P12_TABLE_WORDS);
+        check_unsound(&lent, words, P12_TABLE_LENGTH);
     release(words, sizeof(struct p12_table));
 }
 

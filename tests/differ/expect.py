@@ -7,11 +7,11 @@ record(number, data) gives the text and the reader's result.
 from itertools import groupby
 
 from models import pairs, reader, writer
-from models.numbers import ATTRIBUTE_ROWS, BAG_ROWS, DONE, NO_ROW, OK, SAFE_ROWS
+from models.numbers import ATTRIBUTE_ROWS, BAG_ROWS, DONE, NO_ROW, OK, SAFE_ROWS, TABLE_LENGTH
 from models.writer import BAG_KINDS, SAFE_KINDS
 
 SHOWN = 32      # of many elements the first and the last so many
-TABLE_WORDS = 1407
+HALF = 65536    # the iterations are two words: their remainder by this, and their quotient
 WRITTEN = "written and read again\n"
 
 
@@ -25,16 +25,16 @@ def padded(rows, size, count):
 
 
 def words(result):
-    """Every word of the table, in the order of struct p12_table; for a refused file 1,407 zeros."""
+    """Every word of the table, in the order of struct p12_table; for a refused file 1,408 zeros."""
     if isinstance(result, reader.Refusal):
-        return [0] * TABLE_WORDS
+        return [0] * TABLE_LENGTH
     table = writer.of_reading(result)
     mac = table.mac
     safes = [[SAFE_KINDS.index(row.kind), *parts(row)] for row in table.safes]
     bags = [[BAG_KINDS.index(row.kind), row.safe, 0 if row.enclosing is None else row.enclosing + 1, *parts(row), int(row.has_set)]
             for row in table.bags]
     attributes = [[row.bag, *row.identifier, *row.values] for row in table.attributes]
-    return [result.opened, len(safes), len(bags), len(attributes), *result.mac_input, *parts(mac), *mac.salt, mac.iterations,
+    return [result.opened, len(safes), len(bags), len(attributes), *result.mac_input, *parts(mac), *mac.salt, mac.iterations % HALF, mac.iterations // HALF,
             *padded(safes, 7, SAFE_ROWS), *padded(bags, 10, BAG_ROWS), *padded(attributes, 5, ATTRIBUTE_ROWS)]
 
 

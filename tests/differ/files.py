@@ -1,6 +1,6 @@
 """The files of the differential tests.
 
-    stored()        (name, bytes): the test files (stored.TEST_FILES), the files of tests/files, M
+    stored()        (name, bytes): the test files (stored.TEST_FILES), the files of tests/files, M, M with iterations around 16 and 32 bits
     prefixes()      (name, bytes): every prefix of M and of each file of tests/files, shorter than the whole
     made(seed)      (name, bytes), without end: random files by generate.py, each with damaged copies by damage.py; damaged copies of stored files
     allowed(name)   the answers that a file of this name may get, by how it was made: refusal numbers, or 0 for an accepted one
@@ -20,7 +20,7 @@ import damage               # noqa: E402
 import generate             # noqa: E402
 import p12_parts            # noqa: E402
 from models import reader   # noqa: E402
-from models.numbers import MISSING, OK, OVERRUN, TOO_LONG, TOO_MANY   # noqa: E402
+from models.numbers import CONTENT, MISSING, OK, OVERRUN, TOO_LONG, TOO_MANY   # noqa: E402
 from stored import FILES, TEST_FILES   # noqa: E402
 
 SEED = 1
@@ -46,10 +46,17 @@ def samples():
         yield path.name, path.read_bytes()
 
 
+def with_iterations():
+    """M with iterations. Above 2,147,483,647 none are allowed."""
+    for number in (65535, 65536, 65537, 100000, 0x7FFF0000, 0x7FFFFFFF, 0x80000000, 0xFFFFFFFF):
+        yield "M, iterations %d" % number, p12_parts.pfx(mac_data=p12_parts.mac(number)).encode()
+
+
 def stored():
     held = (TEST_FILES / "stdin").read_bytes()
     yield from (("test file %d" % n, data) for n, data in enumerate(frames(held)))
     yield from samples()
+    yield from with_iterations()
 
 
 def prefixes():
@@ -111,6 +118,8 @@ def allowed(name):
     how = name.split(": ", 1)[-1]
     if how in ("made", "paired") or how.startswith("limit of "):
         return (OK,)
+    if name.startswith("M, iterations "):
+        return (OK,) if int(name.split()[-1]) <= 0x7FFFFFFF else (CONTENT,)
     if how.startswith("past the limit of "):
         return (TOO_LONG,) if how.endswith(" bytes") else (TOO_MANY,)
     refused = (*range(MISSING, TOO_LONG + 1), OVERRUN)

@@ -36,8 +36,8 @@ static void compare_attribute(struct comparison *c, uint32_t bag, X509_ATTRIBUTE
         struct p12_range range;
 
         p12_element(c->file, c->length, row->values.start, row->values.end, i, &start, &end);
-        range.start = (uint32_t)start;
-        range.end = (uint32_t)end;
+        range.start = (uint16_t)start;
+        range.end = (uint16_t)end;
         same_any(c, range, X509_ATTRIBUTE_get0_type(attribute, (int)i), "an element");
     }
 }
@@ -209,7 +209,7 @@ static void compare_mac(struct comparison *c, const PKCS12 *p12)
     same_algorithm(c, t->mac, algorithm, "the MAC's algorithm");
     same_octets(c, t->mac.value, digest, "the digest");
     same_octets(c, t->mac_salt, salt, "the salt");
-    need(c, t->mac_iterations == (iterations ? ASN1_INTEGER_get(iterations) : 1), "the iterations");
+    need(c, p12_iterations(t) == (iterations ? ASN1_INTEGER_get(iterations) : 1), "the iterations");
 }
 
 static void compare_safes(struct comparison *c, const PKCS12 *p12)
@@ -259,11 +259,11 @@ static void show_difference(const struct comparison *c, size_t number)
 
 static void count_file(struct totals *totals, const uint8_t *file, size_t length)
 {
-    uint32_t *words = painted(sizeof(struct p12_table));
+    uint16_t *words = painted(sizeof(struct p12_table));
     struct p12_table table;
     size_t offset;
 
-    if (p12_read(file, length, words, P12_TABLE_WORDS, &offset) == P12_OK) {
+    if (p12_read(file, length, words, P12_TABLE_LENGTH, &offset) == P12_OK) {
         struct comparison c = { .file = file, .length = length, .table = &table };
 
         memcpy(&table, words, sizeof table);

@@ -22,7 +22,7 @@ void inexpressible(struct comparison *c, const char *call)
 
 static int is(const struct comparison *c, struct p12_range range, const void *bytes, size_t length)
 {
-    return range.end - range.start == length && (length == 0 || memcmp(c->file + range.start, bytes, length) == 0);
+    return (size_t)(range.end - range.start) == length && (length == 0 || memcmp(c->file + range.start, bytes, length) == 0);
 }
 
 void same_object(struct comparison *c, struct p12_range range, const ASN1_OBJECT *object, const char *fault)

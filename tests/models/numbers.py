@@ -24,6 +24,7 @@ DONE = 255  # No refusal: the bag has no more attributes.
 SAFE_ROWS = 16  # Safe rows in a table.
 BAG_ROWS = 64  # Bag rows in a table.
 ATTRIBUTE_ROWS = 128  # Attribute rows in a table.
+TABLE_LENGTH = 1408  # Words of a table, of 16 bits each.
 FILE_BYTES = 65535  # Bytes of the longest file.
 LEVELS = 8  # Levels of safe contents; those of a plain safe are level 1.
 OPAQUE_LEVELS = 16  # Levels of an opaque element; the element itself is level 1.

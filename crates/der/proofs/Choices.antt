@@ -10,7 +10,7 @@ use lib.Dec.{leb, ltb, eqb}
 use borrow.Author.Tests.{not-true, not-false, lt-ltb, le-ltb, le-leb, lt-leb, eq-eqb, ne-eqb}
 use borrow.Author.Tests.{ltb-true, ltb-false, leb-true, leb-false, eqb-true, eqb-false}
 use Rattle.der.specs.Choice.{if_then_else_}
-use Rattle.der.specs.Element.{onExtent, onElement}
+use Rattle.der.specs.Element.{Extent, Body, onExtent, onElement}
 use Rattle.der.specs.Content.{onInteger}
 use Rattle.der.specs.Opaque.{onChecked}
 use Rattle.der.specs.declared.Fault.{Fault}
@@ -21,8 +21,6 @@ use Rattle.der.specs.declared.Checked.{Checked}
 use Rattle.der.specs.declared.Checked.the-variants.{Passed}
 use Rattle.der.specs.declared.Integer.{Integer}
 use Rattle.der.specs.declared.Integer.the-variants.{Value}
-use Rattle.der.specs.declared.Extent.{Extent}
-use Rattle.der.specs.declared.Extent.the-variants.{Body}
 
 -- a bool is not both
 pub never : {A : Type 0} → false ≡ true → A

@@ -19,6 +19,7 @@ use Rattle.der.proofs.Choices.{never}
 use Rattle.der.specs.Content.{breaks, parts, identifierBody, bytesOf, integerBody}
 use Rattle.der.specs.Content.{andDigit, integerValue, IntegerAt}
 use Rattle.der.specs.Octets.{number, numberFrom, IntegerRule, IdentifierRule}
+use Rattle.der.specs.Scan.{beginsAt}
 use Rattle.der.specs.declared.Cursor.{Cursor}
 
 -- What a choice with a constant arm implies of its test and of its other arm.
@@ -217,32 +218,76 @@ integer-at s b u p q h =
     let r = held-of s b (sym p ∙ q) in
     record { inside = h; some = r .some; first = r .positive }
 
--- the loop over an identifier's bytes: no byte, and the first byte
-module _ (s : List ℕ) (to : ℕ) where
-  pub parts-empty : (from : ℕ) → to ≤ from → false ≡ identifierBody (slice from to s)
-  unfolding identifierBody
-  parts-empty from h = rw (slice-past s from to h)
+-- whether a byte breaks an identifier, as the code tests it: first the byte, then where it is
+pub breaks-there : (begins u : Bool) (b : ℕ) → b ≡ 128 → u ≡ begins → u ≡ breaks begins b
+breaks-there true u b e p = p ∙ sym (eq-eqb b 128 e)
+breaks-there false u b e p = p
 
-  pub parts-start : (from : ℕ) → from < to → to ≤ length s
-      → identifierBody (slice from to s) ≡ parts true (slice from to s)
+pub breaks-nowhere : (begins : Bool) (b : ℕ) → (b ≡ 128 → ⊥) → false ≡ breaks begins b
+breaks-nowhere true b h = sym (ne-eqb b 128 h)
+breaks-nowhere false b h = refl
+
+-- a part begins at the first byte; behind another byte, if that is below 128
+begins-first : (s : List ℕ) (from : ℕ) → beginsAt s from from ≡ true
+unfolding beginsAt
+begins-first s from = rw (le-leb from from (omega arith)) refl
+
+begins-behind : (s : List ℕ) (from i : ℕ) → from ≤ i → beginsAt s from (i + 1) ≡ ltb (getD s i 0) 128
+unfolding beginsAt
+begins-behind s from i h =
+    let e : i + 1 - 1 ≡ i = omega arith in
+    rw (lt-leb (i + 1) from (omega arith), e) refl
+
+-- the loop over an identifier's bytes: no byte, a last byte that ends no part, and the first byte
+module _ (s : List ℕ) (from to : ℕ) where
+  pub parts-empty : to ≤ from → false ≡ identifierBody (slice from to s)
   unfolding identifierBody
-  parts-start from h k = rw (slice-cons from to s 0 h k)
+  parts-empty h = rw (slice-past s from to h)
+
+  last-byte : from < to → to ≤ length s
+      → getD (slice from to s) (length (slice from to s) - 1) 0 ≡ getD s (to - 1) 0
+  last-byte h k =
+      let n : from + (to - from - 1) ≡ to - 1 = omega arith in
+      rw (length-slice from to s k, getD-slice s from to (to - from - 1) (omega arith), n) refl
+
+  pub parts-open : from < to → to ≤ length s → 128 ≤ getD s (to - 1) 0 → false ≡ identifierBody (slice from to s)
+  parts-open h k l = go (identifierBody (slice from to s)) refl
+    where
+      go : (u : Bool) → identifierBody (slice from to s) ≡ u → false ≡ identifierBody (slice from to s)
+      go false e = sym e
+      go true e =
+          let r = identifier-rule (slice from to s) e in
+          absurd (omega (arith, rw (last-byte h k) at (r .last)))
+
+  pub parts-start : from < to → to ≤ length s
+      → identifierBody (slice from to s) ≡ parts (beginsAt s from from) (slice from to s)
+  unfolding identifierBody
+  parts-start h k = rw (slice-cons from to s 0 h k, begins-first s from)
 
 -- its two ways out and its turn; `whole` is the answer that is due
-module _ (s : List ℕ) (to : ℕ) (whole : Bool) where
-  pub parts-break : (i : ℕ) (begins u : Bool) → i < to → to ≤ length s → whole ≡ parts begins (slice i to s)
-      → u ≡ breaks begins (getD s i 0) → u ≡ true → false ≡ whole
+module _ (s : List ℕ) (from to i : ℕ) (whole : Bool) (e : whole ≡ parts (beginsAt s from i) (slice i to s)) where
+  pub parts-break : (u : Bool) → i < to - 1 → to ≤ length s → u ≡ breaks (beginsAt s from i) (getD s i 0) → u ≡ true
+      → false ≡ whole
   unfolding parts
-  parts-break i begins u h k e p q = sym (e ∙ rw (slice-cons i to s 0 h k, sym p ∙ q))
+  parts-break u h k p q = sym (e ∙ rw (slice-cons i to s 0 (omega arith) k, sym p ∙ q))
 
-  pub parts-more : (i : ℕ) (begins u : Bool) → i < to → to ≤ length s → whole ≡ parts begins (slice i to s)
-      → u ≡ breaks begins (getD s i 0) → u ≡ false → whole ≡ parts (ltb (getD s i 0) 128) (slice (i + 1) to s)
+  pub parts-more : (u : Bool) → from ≤ i → i < to - 1 → to ≤ length s → u ≡ breaks (beginsAt s from i) (getD s i 0)
+      → u ≡ false → whole ≡ parts (beginsAt s from (i + 1)) (slice (i + 1) to s)
   unfolding parts
-  parts-more i begins u h k e p q = e ∙ rw (slice-cons i to s 0 h k, sym p ∙ q, add-one)
+  parts-more u l h k p q = e ∙ rw (begins-behind s from i l, slice-cons i to s 0 (omega arith) k, sym p ∙ q, add-one)
 
-  pub parts-end : (i : ℕ) (begins : Bool) → to ≤ i → whole ≡ parts begins (slice i to s) → begins ≡ whole
+  pub parts-end : from < to → to ≤ length s → i ≤ to - 1 → to - 1 ≤ i → getD s (to - 1) 0 < 128 → true ≡ whole
   unfolding parts
-  parts-end i begins h e = sym (rw (slice-past s i to h) at e)
+  parts-end f k l m b =
+      let n : i ≡ to - 1 = omega arith in
+      let d : getD s i 0 < 128 = rw n b in
+      let p = breaks-nowhere (beginsAt s from i) (getD s i 0) (λ z. omega arith) in
+      sym (e ∙ rw (
+        slice-cons i to s 0 (omega arith) k,
+        sym p,
+        lt-ltb (getD s i 0) 128 d,
+        slice-past s (suc i) to (omega arith),
+      ) refl)
 
 -- all the bytes, as the code names them
 pub whole-body : (r : Bool) (s : List ℕ) → r ≡ identifierBody (slice 0 (length s) s) → r ≡ identifierBody s

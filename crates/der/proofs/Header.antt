@@ -12,7 +12,7 @@ use lib.ListN.{length, getD, drop}
 use lib.Seq.{length-slice}
 use borrow.Author.Tests.{lt-ltb, le-ltb, le-leb, lt-leb, ne-eqb, eqb-false}
 use Rattle.der.specs.Element.{cursor, fault, tagAt, finishAt, within, oneOctet, twoOctets, extentAt, elementAt}
-use Rattle.der.specs.Element.{onExtent}
+use Rattle.der.specs.Element.{Extent, Body, onExtent}
 use Rattle.der.specs.Numbers.{leftOver, overrun, noTag, lengthBound}
 use Rattle.der.specs.Content.{bytesOf}
 use Rattle.der.specs.Octets.{lengthOctets, tlv, TagForm}
@@ -24,8 +24,6 @@ use Rattle.der.specs.declared.Element.{Element}
 use Rattle.der.specs.declared.Element.the-variants.{Found}
 use Rattle.der.specs.declared.Checked.{Checked}
 use Rattle.der.specs.declared.Checked.the-variants.{Passed}
-use Rattle.der.specs.declared.Extent.{Extent}
-use Rattle.der.specs.declared.Extent.the-variants.{Body}
 use Rattle.der.proofs.Choices.{either}
 use Rattle.der.proofs.Octets.{octets-short, octets-one, octets-two}
 use Rattle.der.proofs.Placed.{found, element-of, left-is, left-none, none-is}

@@ -13,7 +13,7 @@ use lib.Seq.{drop-cons}
 use borrow.Author.Tests.{le-ltb, le-leb, lt-leb, eq-eqb, leb-false, eqb-false}
 use Rattle.der.specs.Numbers.{tagForm, lengthForm, overrun, lengthBound}
 use Rattle.der.specs.Element.{cursor, fault, noByteLeft, within, oneOctet, twoOctets, extentAt}
-use Rattle.der.specs.Element.{elementAt, expectAt, onExtent, onElement}
+use Rattle.der.specs.Element.{Extent, Body, elementAt, expectAt, onExtent, onElement}
 use Rattle.der.specs.Octets.{lengthOctets}
 use Rattle.der.specs.Span.{Bytes}
 use Rattle.der.specs.Overrun.{ByteLeft, HeaderCut, no-length, after-81, after-82, BodyPast, RunsPast}
@@ -21,8 +21,6 @@ use Rattle.der.specs.declared.Fault.{Fault}
 use Rattle.der.specs.declared.Cursor.{Cursor}
 use Rattle.der.specs.declared.Element.{Element}
 use Rattle.der.specs.declared.Element.the-variants.{Found}
-use Rattle.der.specs.declared.Extent.{Extent}
-use Rattle.der.specs.declared.Extent.the-variants.{Body}
 use Rattle.der.proofs.Choices.{never, by-test, by-lt, by-le, by-eq}
 use Rattle.der.proofs.Octets.{octets-short, octets-one, octets-two}
 use Rattle.der.proofs.Spans.{span-of}
@@ -60,6 +58,9 @@ none-is s c h = go (noByteLeft s c) refl
 pub left-within : (s : List ℕ) (c : Cursor) (u : Bool) → u ≡ noByteLeft s c → u ≡ false
     → (c .at < c .end) × (c .end ≤ length s)
 left-within s c u p q = left-of s c (sym p ∙ q)
+
+pub left-inside : (s : List ℕ) (c : Cursor) (u : Bool) → u ≡ noByteLeft s c → u ≡ false → c .end ≤ length s
+left-inside s c u p q = left-within s c u p q .1
 
 -- the body b of the element at `at`, within a parent that ends at `end`
 pub record BodyOf (s : List ℕ) (at end : ℕ) (b : Cursor) : Type 0 where
@@ -195,7 +196,7 @@ OfElement s c (Element.Refused f) = Why s c f
 OfElement s c (Found t b n) = Placed s c t b n
 
 -- what holds of a refusal and of a body holds of what is made of an extent
-by-extent : {A : Type 0} (P : A → Type 0) (Q : Extent → Type 0) (bad : Fault → A) (good : Cursor → A)
+pub by-extent : {A : Type 0} (P : A → Type 0) (Q : Extent → Type 0) (bad : Fault → A) (good : Cursor → A)
     → ((f : Fault) → Q (Extent.Refused f) → P (bad f)) → ((b : Cursor) → Q (Body b) → P (good b))
     → (x : Extent) → Q x → P (onExtent x bad good)
 by-extent P Q bad good f g (Extent.Refused e) q = f e q

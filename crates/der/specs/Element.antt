@@ -11,8 +11,6 @@ use Rattle.der.specs.declared.Cursor.{Cursor}
 use Rattle.der.specs.declared.Element.{Element}
 use Rattle.der.specs.declared.Element.the-variants.{Found}
 use Rattle.der.specs.declared.Checked.{Checked}
-use Rattle.der.specs.declared.Extent.{Extent}
-use Rattle.der.specs.declared.Extent.the-variants.{Body}
 
 abbrev pub cursor : ℕ → ℕ → Cursor
 cursor a e = record { at = a; end = e }
@@ -37,6 +35,11 @@ tagAt s c = if noByteLeft s c then noTag else getD s (c .at) 0
 -- Rule 5.6: bytes are left in a parent after its last element (6)
 unfoldable pub finishAt : Cursor → Checked
 finishAt c = if ltb (c .at) (c .end) then Checked.Refused (fault leftOver (c .at)) else Checked.Passed 0 c
+
+-- the body that a header announces, or why there is none
+pub data Extent : Type 0 where
+  Body : Cursor → Extent
+  Refused : Fault → Extent
 
 -- Rule 2.4: the body ends within its parent, or the element is refused (15) at the offset of its tag
 unfoldable pub within : ℕ → ℕ → ℕ → ℕ → Extent

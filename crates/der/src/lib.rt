@@ -2,15 +2,17 @@
 // integers, and opaque elements, which are checked for their form to the bottom. Every public
 // function answers any cursor over any bytes.
 ghost use mathlib.Core.Path.{_≡_};
-ghost use Prim.Native.Nat.{_+_, _^_, _<_, _≤_};
-ghost use lib.ListN.{length};
+ghost use Prim.Native.Nat.{_+_, _^_, _%_, _<_, _≤_};
+ghost use lib.ListN.{length, getD};
 ghost use lib.Seq.{slice};
 ghost use Rattle.der.specs.Numbers.{octetStringTag};
-ghost use Rattle.der.specs.Element.{wholeOf, noByteLeft, tagAt, finishAt, within, oneOctet};
+ghost use Rattle.der.specs.Element.{cursor, wholeOf, noByteLeft, tagAt, finishAt, oneOctet};
 ghost use Rattle.der.specs.Element.{twoOctets, extentAt, elementAt, expectAt};
 ghost use Rattle.der.specs.Content.{breaks, identifierBody, identifierAt, integerBody};
 ghost use Rattle.der.specs.Content.{andDigit, integerValue, integerAt, IntegerAt};
 ghost use Rattle.der.specs.Opaque.{opaqueAt, elementsAt};
+ghost use Rattle.der.specs.Scan.{codes, codeOf, extentCode, endCode, startAt, faultOf, beginsAt};
+ghost use Rattle.der.specs.Scan.{GoodTag, follows, scanAt, weightOf, weighedAt};
 ghost use Rattle.der.specs.Report.{elementReport, checkedReport, integerReport};
 ghost use Rattle.der.specs.Span.{Bytes};
 
@@ -82,99 +84,86 @@ pub enum Integer {
     Refused(Fault),
 }
 
-// The body that a header announces.
-enum Extent {
-    Body(Cursor),
-    Refused(Fault),
-}
+// Between functions of this crate an element is one number, its code: below `CODES` the number of
+// its refusal, else the offset of its end and `CODES` more.
+const CODES: usize = 16;
 
-// The body of `size` bytes from `start`, in the element at `at`, within its parent.
-fn within(at: usize, start: usize, size: usize, end: usize) -> Extent
-    requires { ⌜ start + size < 2 ^ 64 ⌝ }
-    ensures { λ r. ⌜ r ≡ within at start size end ⌝ }
+// What is due is one number too: a tag, or this number and a tag where the body is to follow the
+// rule for that tag (an INTEGER's, an identifier's).
+const RULED: u16 = 0x100;
+
+const RULED_INTEGER: u16 = RULED + INTEGER as u16;
+
+const RULED_IDENTIFIER: u16 = RULED + OBJECT_IDENTIFIER as u16;
+
+// The code of an element that ends at `stop`, in a parent that ends at `end`.
+fn within(stop: usize, end: usize) -> usize
+    requires { ⌜ stop + codes < 2 ^ 64 ⌝ }
+    ensures { λ r. ⌜ r ≡ endCode stop end ⌝ }
 {
-    let stop = start + size;
     if end < stop {
-        return Extent::Refused(Fault {
-            number: OVERRUN,
-            offset: at,
-        });
+        return OVERRUN as usize;
     }
-    Extent::Body(Cursor {
-        at: start,
-        end: stop,
-    })
+    stop + CODES
 }
 
-// The extent where the length is 81 and one byte.
-fn one_octet(s: &[u8], at: usize, end: usize) -> Extent
+// The code where the length is 81 and one byte.
+fn one_octet(s: &[u8], at: usize, end: usize) -> usize
     requires { ⌜ (at < end) × (end ≤ length (now s)) ⌝ }
-    ensures { λ r. ⌜ r ≡ oneOctet (now (s .entry)) at end ⌝ }
+    ensures { λ r. ⌜ r ≡ extentCode (oneOctet (now (s .entry)) at end) ⌝ }
 {
     let third = at + 2;
     if end <= third {
-        return Extent::Refused(Fault {
-            number: OVERRUN,
-            offset: at,
-        });
+        return OVERRUN as usize;
     }
     let size = s[third];
     if size < 0x80 {
-        return Extent::Refused(Fault {
-            number: LENGTH_FORM,
-            offset: at,
-        });
+        return LENGTH_FORM as usize;
     }
     let start = at + 3;
     let wide = size as usize;
-    within(at, start, wide, end)
+    let stop = start + wide;
+    within(stop, end)
 }
 
-// The extent where the length is 82 and two bytes.
-fn two_octets(s: &[u8], at: usize, end: usize) -> Extent
+// The code where the length is 82 and two bytes.
+fn two_octets(s: &[u8], at: usize, end: usize) -> usize
     requires { ⌜ (at < end) × (end ≤ length (now s)) ⌝ }
-    ensures { λ r. ⌜ r ≡ twoOctets (now (s .entry)) at end ⌝ }
+    ensures { λ r. ⌜ r ≡ extentCode (twoOctets (now (s .entry)) at end) ⌝ }
 {
     let third = at + 2;
     let fourth = at + 3;
     if end <= fourth {
-        return Extent::Refused(Fault {
-            number: OVERRUN,
-            offset: at,
-        });
+        return OVERRUN as usize;
     }
     let high = s[third];
     if high == 0 {
-        return Extent::Refused(Fault {
-            number: LENGTH_FORM,
-            offset: at,
-        });
+        return LENGTH_FORM as usize;
     }
     let low = s[fourth];
     let start = at + 4;
     let wide_high = high as usize;
     let wide_low = low as usize;
     let size = wide_high * 256 + wide_low;
-    within(at, start, size, end)
+    let stop = start + size;
+    within(stop, end)
 }
 
-// The body of the element at `at`, by its length.
-fn body_of(s: &[u8], at: usize, end: usize) -> Extent
+// The code of the element at `at`, by its length.
+fn by_length(s: &[u8], at: usize, end: usize) -> usize
     requires { ⌜ (at < end) × (end ≤ length (now s)) ⌝ }
-    ensures { λ r. ⌜ r ≡ extentAt (now (s .entry)) at end ⌝ }
+    ensures { λ r. ⌜ r ≡ extentCode (extentAt (now (s .entry)) at end) ⌝ }
 {
     let second = at + 1;
     if end <= second {
-        return Extent::Refused(Fault {
-            number: OVERRUN,
-            offset: at,
-        });
+        return OVERRUN as usize;
     }
     let first = s[second];
     if first < 0x80 {
         let start = at + 2;
         let size = first as usize;
-        return within(at, start, size, end);
+        let stop = start + size;
+        return within(stop, end);
     }
     if first == 0x81 {
         return one_octet(s, at, end);
@@ -182,18 +171,95 @@ fn body_of(s: &[u8], at: usize, end: usize) -> Extent
     if first == 0x82 {
         return two_octets(s, at, end);
     }
-    Extent::Refused(Fault {
-        number: LENGTH_FORM,
-        offset: at,
-    })
+    LENGTH_FORM as usize
 }
 
-// Whether a byte breaks an identifier: a part may not begin with 80 hex.
-fn breaks(begins: bool, b: u8) -> bool
-    ensures { λ r. ⌜ r ≡ breaks begins b ⌝ }
+// Whether the parent has no byte left.
+fn no_byte_left(s: &[u8], c: Cursor) -> bool
+    ensures { λ r. ⌜ r ≡ noByteLeft (now (s .entry)) c ⌝ }
 {
-    if begins {
-        return b == 0x80;
+    let at = c.at;
+    let end = c.end;
+    if s.len() < end {
+        return true;
+    }
+    end <= at
+}
+
+// The code of the element at `at`, of any tag, where a byte is left.
+fn scan_left(s: &[u8], at: usize, end: usize) -> usize
+    requires { ⌜ (at < end) × (end ≤ length (now s)) ⌝ }
+    ensures { λ r. ⌜ r ≡ codeOf (elementAt (now (s .entry)) (cursor at end)) ⌝ }
+{
+    let tag = s[at];
+    if tag == 0 {
+        return TAG_FORM as usize;
+    }
+    if tag % 0x20 == 0x1F {
+        return TAG_FORM as usize;
+    }
+    by_length(s, at, end)
+}
+
+// The code of the element at `at`, of any tag.
+fn scan(s: &[u8], at: usize, end: usize) -> usize
+    ensures { λ r. ⌜ r ≡ codeOf (elementAt (now (s .entry)) (cursor at end)) ⌝ }
+{
+    let here = Cursor { at, end };
+    if no_byte_left(s, here) {
+        return MISSING as usize;
+    }
+    scan_left(s, at, end)
+}
+
+// The offset of the body of the element at `at`, whose header is good.
+fn start_of(s: &[u8], at: usize) -> usize
+    requires { ⌜ at + 1 < length (now s) ⌝ }
+    ensures { λ r. ⌜ r ≡ startAt (now (s .entry)) at ⌝ }
+{
+    let second = at + 1;
+    let first = s[second] as usize;
+    if first < 0x80 {
+        return at + 2;
+    }
+    let header = first - 0x7E;
+    at + header
+}
+
+// The fault with a code, of the element at `at` in a parent that ends at `end`.
+fn fault_of(code: usize, at: usize, end: usize) -> Fault
+    requires { ⌜ code < codes ⌝ }
+    ensures { λ r. ⌜ r ≡ faultOf code at end ⌝ }
+{
+    let number = code as u8;
+    if number == MISSING {
+        return Fault {
+            number,
+            offset: end,
+        };
+    }
+    Fault { number, offset: at }
+}
+
+// Whether a part of the identifier from `from` on begins at `i`.
+fn begins_at(s: &[u8], from: usize, i: usize) -> bool
+    requires { ⌜ i ≤ length (now s) ⌝ }
+    ensures { λ r. ⌜ r ≡ beginsAt (now (s .entry)) from i ⌝ }
+{
+    if i <= from {
+        return true;
+    }
+    let before = i - 1;
+    s[before] < 0x80
+}
+
+// Whether the byte at `i` breaks the identifier: a part may not begin with 80 hex.
+fn breaks_at(s: &[u8], from: usize, i: usize) -> bool
+    requires { ⌜ i < length (now s) ⌝ }
+    ensures { λ r. ⌜ r ≡ breaks (beginsAt (now (s .entry)) from i) (getD (now (s .entry)) i 0) ⌝ }
+{
+    if s[i] == 0x80 {
+        return begins_at(s, from, i);
     }
     false
 }
@@ -206,17 +272,18 @@ fn is_identifier(s: &[u8], from: usize, to: usize) -> bool
     if to <= from {
         return false;
     }
-    let mut begins = true;
+    let last = to - 1;
+    if 0x80 <= s[last] {
+        return false;
+    }
     let mut i = from;
-    while i < to {
-        let b = s[i];
-        if breaks(begins, b) {
+    while i < last {
+        if breaks_at(s, from, i) {
             return false;
         }
-        begins = b < 0x80;
         i += 1;
     }
-    begins
+    true
 }
 
 // Whether the bytes are an identifier's body.
@@ -282,16 +349,100 @@ fn integer_value(s: &[u8], body: Cursor) -> u32
     and_digit(s, end, fourth, v3)
 }
 
-// Whether the parent has no byte left.
-fn no_byte_left(s: &[u8], c: Cursor) -> bool
-    ensures { λ r. ⌜ r ≡ noByteLeft (now (s .entry)) c ⌝ }
+// Whether a body follows the rule for its tag: an identifier's, or else an INTEGER's.
+fn follows(s: &[u8], tag: u8, start: usize, stop: usize) -> bool
+    requires { ⌜ stop ≤ length (now s) ⌝ }
+    ensures { λ r. ⌜ r ≡ follows tag (now (s .entry)) (cursor start stop) ⌝ }
 {
-    let at = c.at;
-    let end = c.end;
-    if s.len() < end {
-        return true;
+    if tag == OBJECT_IDENTIFIER {
+        return is_identifier(s, start, stop);
     }
-    end <= at
+    let body = Cursor {
+        at: start,
+        end: stop,
+    };
+    is_integer(s, body)
+}
+
+// The code of the element at `at`, by what is due: a tag, or `RULED` and a tag where the body is to
+// follow the rule for it. The tag that is due has a good form.
+fn scan_due(s: &[u8], at: usize, end: usize, due: u16) -> usize
+    requires { ⌜ GoodTag (due % 0x100) ⌝ }
+    ensures { λ r. ⌜ r ≡ codeOf (scanAt due (now (s .entry)) (cursor at end)) ⌝ }
+{
+    let here = Cursor { at, end };
+    if no_byte_left(s, here) {
+        return MISSING as usize;
+    }
+    let tag = s[at];
+    let wide = tag as u16;
+    if wide == due {
+        return by_length(s, at, end);
+    }
+    let ruled = wide + RULED;
+    if ruled == due {
+        let code = by_length(s, at, end);
+        if code < CODES {
+            return code;
+        }
+        let start = start_of(s, at);
+        let stop = code - CODES;
+        if follows(s, tag, start, stop) {
+            return code;
+        }
+        return CONTENT as usize;
+    }
+    let code = scan_left(s, at, end);
+    if code < CODES {
+        return code;
+    }
+    OTHER_TAG as usize
+}
+
+// One more than the number of elements from `from` up to `end`, each checked to the bottom with
+// `level` levels left; 0 where one is refused.
+fn weight(s: &[u8], level: u8, from: usize, end: usize) -> usize
+    requires { ⌜ end ≤ length (now s) ⌝ }
+    ensures { λ r. ⌜ r ≡ weightOf (elementsAt level (now (s .entry)) (cursor from end)) ⌝ }
+{
+    let mut count: usize = 1;
+    let mut at = from;
+    while at < end {
+        let code = scan_left(s, at, end);
+        if code < CODES {
+            return 0;
+        }
+        if level == 0 {
+            return 0;
+        }
+        let stop = code - CODES;
+        if s[at] / 0x20 % 2 == 0 {
+            let one_more = count + 1;
+            count = one_more;
+        } else {
+            let below = level - 1;
+            let start = start_of(s, at);
+            let own = weight(&s[..], below, start, stop);
+            if own == 0 {
+                return 0;
+            }
+            let more = count + own;
+            count = more;
+        }
+        at = stop;
+    }
+    count
+}
+
+// The same where a byte is left, else 0.
+fn weigh(s: &[u8], level: u8, at: usize, end: usize) -> usize
+    ensures { λ r. ⌜ r ≡ weighedAt level (now (s .entry)) (cursor at end) ⌝ }
+{
+    let here = Cursor { at, end };
+    if no_byte_left(s, here) {
+        return 0;
+    }
+    weight(s, level, at, end)
 }
 
 impl Cursor {
@@ -343,45 +494,26 @@ impl Cursor {
     {
         let at = self.at;
         let end = self.end;
-        // two numbers, not `self`: then they stay in registers
-        let here = Cursor { at, end };
-        if no_byte_left(s, here) {
-            return Element::Refused(Fault {
-                number: MISSING,
-                offset: end,
-            });
+        let code = scan(s, at, end);
+        if code < CODES {
+            return Element::Refused(fault_of(code, at, end));
         }
         let tag = s[at];
-        if tag == 0 {
-            return Element::Refused(Fault {
-                number: TAG_FORM,
-                offset: at,
-            });
-        }
-        if tag % 0x20 == 0x1F {
-            return Element::Refused(Fault {
-                number: TAG_FORM,
-                offset: at,
-            });
-        }
-        match body_of(s, at, end) {
-            Extent::Refused(f) => Element::Refused(f),
-            Extent::Body(body) => {
-                let stop = body.end;
-                Element::Found {
-                    tag,
-                    body,
-                    next: Cursor { at: stop, end },
-                }
-            }
+        let start = start_of(s, at);
+        let stop = code - CODES;
+        Element::Found {
+            tag,
+            body: Cursor {
+                at: start,
+                end: stop,
+            },
+            next: Cursor { at: stop, end },
         }
     }
 
-    // The next element, with the tag that is due.
-    pub fn expect(self, s: &[u8], due: u8) -> Element
+    // What `expect` answers for a tag of a bad form, which no element has.
+    fn other(self, s: &[u8], due: u8) -> Element
         ensures { λ r. ⌜ r ≡ expectAt due (now (s .entry)) self ⌝ }
-        ensures { λ r. ⌜ elementReport r ≡ elementReport (expectAt due (now (s .entry)) self) ⌝ }
-        ensures { λ _. ⌜ Bytes (now (s .entry)) ⌝ }
     {
         let at = self.at;
         match self.element(s) {
@@ -395,6 +527,37 @@ impl Cursor {
                     offset: at,
                 })
             }
+        }
+    }
+
+    // The next element, with the tag that is due.
+    pub fn expect(self, s: &[u8], due: u8) -> Element
+        ensures { λ r. ⌜ r ≡ expectAt due (now (s .entry)) self ⌝ }
+        ensures { λ r. ⌜ elementReport r ≡ elementReport (expectAt due (now (s .entry)) self) ⌝ }
+        ensures { λ _. ⌜ Bytes (now (s .entry)) ⌝ }
+    {
+        if due == 0 {
+            return self.other(s, due);
+        }
+        if due % 0x20 == 0x1F {
+            return self.other(s, due);
+        }
+        let at = self.at;
+        let end = self.end;
+        let wide = due as u16;
+        let code = scan_due(&s[..], at, end, wide);
+        if code < CODES {
+            return Element::Refused(fault_of(code, at, end));
+        }
+        let start = start_of(s, at);
+        let stop = code - CODES;
+        Element::Found {
+            tag: due,
+            body: Cursor {
+                at: start,
+                end: stop,
+            },
+            next: Cursor { at: stop, end },
         }
     }
 
@@ -414,19 +577,20 @@ impl Cursor {
         ensures { λ _. ⌜ Bytes (now (s .entry)) ⌝ }
     {
         let at = self.at;
-        match self.expect(s, OBJECT_IDENTIFIER) {
-            Element::Refused(f) => Element::Refused(f),
-            Element::Found { tag, body, next } => {
-                let from = body.at;
-                let to = body.end;
-                if is_identifier(s, from, to) {
-                    return Element::Found { tag, body, next };
-                }
-                Element::Refused(Fault {
-                    number: CONTENT,
-                    offset: at,
-                })
-            }
+        let end = self.end;
+        let code = scan_due(&s[..], at, end, RULED_IDENTIFIER);
+        if code < CODES {
+            return Element::Refused(fault_of(code, at, end));
+        }
+        let start = start_of(s, at);
+        let stop = code - CODES;
+        Element::Found {
+            tag: OBJECT_IDENTIFIER,
+            body: Cursor {
+                at: start,
+                end: stop,
+            },
+            next: Cursor { at: stop, end },
         }
     }
 
@@ -437,28 +601,27 @@ impl Cursor {
         ensures { λ _. ⌜ Bytes (now (s .entry)) ⌝ }
     {
         let at = self.at;
-        match self.expect(s, INTEGER) {
-            Element::Refused(f) => Integer::Refused(f),
-            Element::Found { tag: _, body, next } => {
-                if is_integer(s, body) {
-                    return Integer::Value {
-                        value: integer_value(s, body),
-                        next,
-                    };
-                }
-                Integer::Refused(Fault {
-                    number: CONTENT,
-                    offset: at,
-                })
-            }
+        let end = self.end;
+        let code = scan_due(&s[..], at, end, RULED_INTEGER);
+        if code < CODES {
+            return Integer::Refused(fault_of(code, at, end));
+        }
+        let start = start_of(s, at);
+        let stop = code - CODES;
+        let body = Cursor {
+            at: start,
+            end: stop,
+        };
+        Integer::Value {
+            value: integer_value(s, body),
+            next: Cursor { at: stop, end },
         }
     }
 
-    // The next element, checked to the bottom, with `level` levels left.
-    pub fn opaque(self, s: &[u8], level: u8) -> Checked
+    // The next element, checked to the bottom, with `level` levels left: slower than `opaque`, and
+    // names the first fault.
+    fn named(self, s: &[u8], level: u8) -> Checked
         ensures { λ r. ⌜ r ≡ opaqueAt level (now (s .entry)) self ⌝ }
-        ensures { λ r. ⌜ checkedReport r ≡ checkedReport (opaqueAt level (now (s .entry)) self) ⌝ }
-        ensures { λ _. ⌜ Bytes (now (s .entry)) ⌝ }
     {
         let at = self.at;
         match self.element(s) {
@@ -473,8 +636,8 @@ impl Cursor {
                 if tag / 0x20 % 2 == 0 {
                     return Checked::Passed { count: 1, next };
                 }
-                let below = level - 1;
-                match body.elements(s, below) {
+                let lower = level - 1;
+                match body.all_named(s, lower) {
                     Checked::Refused(f) => Checked::Refused(f),
                     Checked::Passed { count, next: _ } => {
                         let more = count + 1;
@@ -485,18 +648,16 @@ impl Cursor {
         }
     }
 
-    // Zero or more elements up to the cursor's end, each checked to the bottom.
-    pub fn elements(self, s: &[u8], level: u8) -> Checked
+    // Zero or more elements up to the cursor's end, each checked so.
+    fn all_named(self, s: &[u8], level: u8) -> Checked
         ensures { λ r. ⌜ r ≡ elementsAt level (now (s .entry)) self ⌝ }
-        ensures { λ r. ⌜ checkedReport r ≡ checkedReport (elementsAt level (now (s .entry)) self) ⌝ }
-        ensures { λ _. ⌜ Bytes (now (s .entry)) ⌝ }
     {
         let end = self.end;
         let mut at = self.at;
         let mut count: usize = 0;
         while at < end {
             let here = Cursor { at, end };
-            match here.opaque(s, level) {
+            match here.named(s, level) {
                 Checked::Refused(f) => {
                     return Checked::Refused(f);
                 }
@@ -510,6 +671,59 @@ impl Cursor {
         Checked::Passed {
             count,
             next: Cursor { at, end },
+        }
+    }
+
+    // The next element, checked to the bottom, with `level` levels left.
+    pub fn opaque(self, s: &[u8], level: u8) -> Checked
+        ensures { λ r. ⌜ r ≡ opaqueAt level (now (s .entry)) self ⌝ }
+        ensures { λ r. ⌜ checkedReport r ≡ checkedReport (opaqueAt level (now (s .entry)) self) ⌝ }
+        ensures { λ _. ⌜ Bytes (now (s .entry)) ⌝ }
+    {
+        let at = self.at;
+        let end = self.end;
+        let code = scan(s, at, end);
+        if code < CODES {
+            return Checked::Refused(fault_of(code, at, end));
+        }
+        if level == 0 {
+            return Checked::Refused(Fault {
+                number: TOO_MANY,
+                offset: at,
+            });
+        }
+        let stop = code - CODES;
+        let next = Cursor { at: stop, end };
+        if s[at] / 0x20 % 2 == 0 {
+            return Checked::Passed { count: 1, next };
+        }
+        let below = level - 1;
+        let start = start_of(s, at);
+        let count = weight(&s[..], below, start, stop);
+        if count == 0 {
+            let here = Cursor { at, end };
+            return here.named(&s[..], level);
+        }
+        Checked::Passed { count, next }
+    }
+
+    // Zero or more elements up to the cursor's end, each checked to the bottom.
+    pub fn elements(self, s: &[u8], level: u8) -> Checked
+        ensures { λ r. ⌜ r ≡ elementsAt level (now (s .entry)) self ⌝ }
+        ensures { λ r. ⌜ checkedReport r ≡ checkedReport (elementsAt level (now (s .entry)) self) ⌝ }
+        ensures { λ _. ⌜ Bytes (now (s .entry)) ⌝ }
+    {
+        let at = self.at;
+        let end = self.end;
+        let more = weigh(&s[..], level, at, end);
+        if more == 0 {
+            let here = Cursor { at, end };
+            return here.all_named(&s[..], level);
+        }
+        let count = more - 1;
+        Checked::Passed {
+            count,
+            next: Cursor { at: end, end },
         }
     }
 }

@@ -2,12 +2,12 @@
 use mathlib.Core.Path.{_≡_, refl, sym, ap, _∙_}
 use mathlib.Core.Bool.{Bool, true, false}
 use mathlib.Core.List.{List, [], _∷_, _++_, append-assoc}
-use Prim.Native.Nat.{ℕ, zero, suc, _+_, _-_, _*_, _≤_, _<_, min}
+use Prim.Native.Nat.{ℕ, zero, suc, _+_, _-_, _*_, _/_, _%_, _≤_, _<_, min}
 use native.Mathlib.Nat.{add-zero}
 use native.Mathlib.Omega.{arith}
-use borrow.Author.Tests.{le-ltb, ne-eqb}
+use borrow.Author.Tests.{ne-eqb}
 use lib.ListN.{length, getD, take, drop, length-take}
-use lib.Seq.{getD-drop, drop-drop, drop-append-seam, take-suc, getD-take}
+use lib.Seq.{getD-drop, drop-drop, drop-append-seam, take-suc}
 use Rattle.der.proofs.Choices.{either}
 use Rattle.der.specs.Named.{Each}
 use Rattle.pkcs12.specs.Table.{padded}
@@ -23,51 +23,41 @@ use Rattle.pkcs12.specs.declared.row.SafeRow.{SafeRow}
 use Rattle.pkcs12.specs.declared.row.BagRow.{BagRow}
 use Rattle.pkcs12.specs.declared.row.AttributeRow.{AttributeRow}
 use Rattle.pkcs12.specs.declared.row.Mac.{Mac}
-use Rattle.words.specs.Layout.{greatestNumber}
+use Rattle.words.specs.Layout.{halfSize}
 use Rattle.buffer.specs.Placed.{each}
 use Rattle.words.specs.Stored.{safeNumber, bagNumber, enclosingNumber, setNumber, rangeWords, partsWords}
 use Rattle.words.specs.Stored.{safeWords, bagWords, attributeWords, macWords, rowsWords}
-use Rattle.range.specs.Range.{wordRange}
-use Rattle.load.specs.Loaded.{wordAt, numberOf, enclosingOf, safeKindOf, bagKindOf, setOf}
+use Rattle.load.specs.Loaded.{wordAt, enclosingOf, safeKindOf, bagKindOf, setOf}
 use Rattle.load.specs.Loaded.{rangeLoaded}
 use Rattle.load.specs.Loaded.{partsLoaded, safeLoaded, bagLoaded, attributeLoaded, macLoaded, rowsFrom}
-use Rattle.load.specs.Wordable.{RangeFits, PartsFits, EnclosingFits, SafeFits, BagFits, AttributeFits, MacFits}
+use Rattle.load.specs.Wordable.{EnclosingFits, BagFits}
+use Rattle.load.specs.Holds.{WordsAt}
 use Rattle.words.proofs.Rows.{each-length}
 
 -- ---- words that are at an offset
 
-pub record Stands (ws : List ℕ) (at : ℕ) (x : List ℕ) : Type 0 where
-  pub rest : List ℕ
-  pub words : drop at ws ≡ x ++ rest
-
 module _ (ws : List ℕ) (at : ℕ) where
-  pub stands-front : (x y : List ℕ) → Stands ws at (x ++ y) → Stands ws at x
-  stands-front x y s = record { rest = y ++ s .rest; words = s .words ∙ append-assoc x y (s .rest) }
+  pub words-front : (x y : List ℕ) → WordsAt ws at (x ++ y) → WordsAt ws at x
+  words-front x y s = record { rest = y ++ s .rest; words = s .words ∙ append-assoc x y (s .rest) }
 
-  pub stands-back : (x y : List ℕ) → Stands ws at (x ++ y) → Stands ws (at + length x) y
-  stands-back x y s =
+  pub words-back : (x y : List ℕ) → WordsAt ws at (x ++ y) → WordsAt ws (at + length x) y
+  words-back x y s =
       record {
         rest = s .rest;
         words = sym (drop-drop (length x) at ws) ∙ ap (drop (length x)) (s .words ∙ append-assoc x y (s .rest)) ∙ drop-append-seam x (y ++ s .rest);
       }
 
-  pub stands-word : (w : ℕ) (x : List ℕ) → Stands ws at (w ∷ x) → wordAt ws at ≡ w
-  stands-word w x s = ap (wordAt ws) (sym (add-zero at)) ∙ sym (getD-drop at ws 0 0) ∙ ap (λ (l : List ℕ). getD l 0 0) (s .words)
+  pub words-first : (w : ℕ) (x : List ℕ) → WordsAt ws at (w ∷ x) → wordAt ws at ≡ w
+  words-first w x s =
+      ap (wordAt ws) (sym (add-zero at)) ∙ sym (getD-drop at ws 0 0) ∙ ap (λ (l : List ℕ). getD l 0 0) (s .words)
 
 -- ---- what a word means
-
-range-same : (r : Range) → RangeFits r → wordRange (r .start) (r .end) ≡ r
-unfolding wordRange
-range-same r f = rw (le-ltb greatestNumber (r .start) (f .start), le-ltb greatestNumber (r .end) (f .end))
-
-number-same : (n : ℕ) → n ≤ greatestNumber → numberOf n ≡ n
-number-same n h = omega arith
 
 enclosing-same : (e : Enclosing) → EnclosingFits e → enclosingOf (enclosingNumber e) ≡ e
 unfolding enclosingOf
 enclosing-same Enclosing.None f = refl
 enclosing-same (Bag n) f =
-    let z : min (enclosingNumber (Bag n) - 1) greatestNumber ≡ n = omega (arith, f) in
+    let z : enclosingNumber (Bag n) - 1 ≡ n = omega (arith, f) in
     rw (ne-eqb (enclosingNumber (Bag n)) 0 (λ e. omega (arith, e)), z)
 
 safe-kind-same : (k : SafeKind) → safeKindOf (safeNumber k) ≡ k
@@ -94,34 +84,38 @@ set-same true = refl
 -- ---- what is at an offset
 
 module _ (ws : List ℕ) where
-  pub range-back : (at : ℕ) (r : Range) → RangeFits r → Stands ws at (rangeWords r) → rangeLoaded ws at ≡ r
+  pub range-back : (at : ℕ) (r : Range) → WordsAt ws at (rangeWords r) → rangeLoaded ws at ≡ r
   unfolding rangeLoaded
-  range-back at r f s =
+  range-back at r s =
       rw (
-        stands-word ws at (r .start) (r .end ∷ []) s,
-        stands-word ws (at + 1) (r .end) [] (stands-back ws at (r .start ∷ []) (r .end ∷ []) s),
-      ) (range-same r f)
+        words-first ws at (r .start) (r .end ∷ []) s,
+        words-first ws (at + 1) (r .end) [] (words-back ws at (r .start ∷ []) (r .end ∷ []) s),
+      )
 
-  pub parts-back : (at : ℕ) (p : Parts) → PartsFits p → Stands ws at (partsWords p) → partsLoaded ws at ≡ p
+  pub parts-back : (at : ℕ) (p : Parts) → WordsAt ws at (partsWords p) → partsLoaded ws at ≡ p
   unfolding partsLoaded
-  parts-back at p f s =
+  parts-back at p s =
       let x : List ℕ = rangeWords (p .identifier) in
       let y : List ℕ = rangeWords (p .parameters) in
       let z : List ℕ = rangeWords (p .value) in
       rw (
-        range-back at (p .identifier) (f .identifier) (stands-front ws at x (y ++ z) s),
-        range-back (at + 2) (p .parameters) (f .parameters) (stands-front ws (at + 2) y z (stands-back ws at x (y ++ z) s)),
-        range-back (at + 4) (p .value) (f .value) (stands-back ws at (x ++ y) z s),
+        range-back at (p .identifier) (words-front ws at x (y ++ z) s),
+        range-back (at + 2) (p .parameters) (words-front ws (at + 2) y z (words-back ws at x (y ++ z) s)),
+        range-back (at + 4) (p .value) (words-back ws at (x ++ y) z s),
       )
 
-  pub safe-back : (at : ℕ) (r : SafeRow) → SafeFits r → Stands ws at (safeWords r) → safeLoaded ws at ≡ r
+  pub safe-back : (at : ℕ) (r : SafeRow) → WordsAt ws at (safeWords r) → safeLoaded ws at ≡ r
   unfolding safeLoaded
-  safe-back at r f s =
+  safe-back at r s =
       let n : ℕ = safeNumber (r .kind) in
       let x : List ℕ = partsWords (r .parts) in
-      rw (stands-word ws at n x s, safe-kind-same (r .kind), parts-back (at + 1) (r .parts) f (stands-back ws at (n ∷ []) x s))
+      rw (
+        words-first ws at n x s,
+        safe-kind-same (r .kind),
+        parts-back (at + 1) (r .parts) (words-back ws at (n ∷ []) x s),
+      )
 
-  pub bag-back : (at : ℕ) (r : BagRow) → BagFits r → Stands ws at (bagWords r) → bagLoaded ws at ≡ r
+  pub bag-back : (at : ℕ) (r : BagRow) → BagFits r → WordsAt ws at (bagWords r) → bagLoaded ws at ≡ r
   unfolding bagLoaded
   bag-back at r f s =
       let n : ℕ = bagNumber (r .kind) in
@@ -129,52 +123,60 @@ module _ (ws : List ℕ) where
       let h : ℕ = setNumber (r .«has_set») in
       let x : List ℕ = partsWords (r .parts) in
       rw (
-        stands-word ws at n (r .safe ∷ e ∷ (x ++ (h ∷ []))) s,
-        stands-word ws (at + 1) (r .safe) (e ∷ (x ++ (h ∷ []))) (stands-back ws at (n ∷ []) (r .safe ∷ e ∷ (x ++ (h ∷ []))) s),
-        stands-word ws (at + 2) e (x ++ (h ∷ [])) (stands-back ws at (n ∷ r .safe ∷ []) (e ∷ (x ++ (h ∷ []))) s),
-        parts-back (at + 3) (r .parts) (f .parts) (stands-front ws (at + 3) x (h ∷ []) (stands-back ws at (n ∷ r .safe ∷ e ∷ []) (x ++ (h ∷ [])) s)),
-        stands-word ws (at + 9) h [] (stands-back ws at (n ∷ r .safe ∷ e ∷ x) (h ∷ []) s),
+        words-first ws at n (r .safe ∷ e ∷ (x ++ (h ∷ []))) s,
+        words-first ws (at + 1) (r .safe) (e ∷ (x ++ (h ∷ [])))
+            (words-back ws at (n ∷ []) (r .safe ∷ e ∷ (x ++ (h ∷ []))) s),
+        words-first ws (at + 2) e (x ++ (h ∷ [])) (words-back ws at (n ∷ r .safe ∷ []) (e ∷ (x ++ (h ∷ []))) s),
+        parts-back (at + 3) (r .parts)
+            (words-front ws (at + 3) x (h ∷ []) (words-back ws at (n ∷ r .safe ∷ e ∷ []) (x ++ (h ∷ [])) s)),
+        words-first ws (at + 9) h [] (words-back ws at (n ∷ r .safe ∷ e ∷ x) (h ∷ []) s),
         bag-kind-same (r .kind),
-        number-same (r .safe) (f .safe),
-        enclosing-same (r .enclosing) (f .enclosing),
+        enclosing-same (r .enclosing) f,
         set-same (r .«has_set»),
       )
 
-  pub attribute-back : (at : ℕ) (r : AttributeRow) → AttributeFits r → Stands ws at (attributeWords r) → attributeLoaded ws at ≡ r
+  pub attribute-back : (at : ℕ) (r : AttributeRow) → WordsAt ws at (attributeWords r) → attributeLoaded ws at ≡ r
   unfolding attributeLoaded
-  attribute-back at r f s =
+  attribute-back at r s =
       let x : List ℕ = rangeWords (r .identifier) in
       let y : List ℕ = rangeWords (r .values) in
       rw (
-        stands-word ws at (r .bag) (x ++ y) s,
-        number-same (r .bag) (f .bag),
-        range-back (at + 1) (r .identifier) (f .identifier) (stands-front ws (at + 1) x y (stands-back ws at (r .bag ∷ []) (x ++ y) s)),
-        range-back (at + 3) (r .values) (f .values) (stands-back ws at (r .bag ∷ x) y s),
+        words-first ws at (r .bag) (x ++ y) s,
+        range-back (at + 1) (r .identifier) (words-front ws (at + 1) x y (words-back ws at (r .bag ∷ []) (x ++ y) s)),
+        range-back (at + 3) (r .values) (words-back ws at (r .bag ∷ x) y s),
       )
 
-  pub mac-back : (at : ℕ) (m : Mac) → MacFits m → Stands ws at (macWords m) → macLoaded ws at ≡ m
+  pub mac-back : (at : ℕ) (m : Mac) → WordsAt ws at (macWords m) → macLoaded ws at ≡ m
   unfolding macLoaded
-  mac-back at m f s =
+  mac-back at m s =
       let x : List ℕ = partsWords (m .parts) in
       let y : List ℕ = rangeWords (m .salt) in
+      let l : ℕ = m .iterations % halfSize in
+      let h : ℕ = m .iterations / halfSize in
+      let both : l + halfSize * h ≡ m .iterations = omega arith in
       rw (
-        parts-back at (m .parts) (f .parts) (stands-front ws at x (y ++ (m .iterations ∷ [])) s),
-        range-back (at + 6) (m .salt) (f .salt) (stands-front ws (at + 6) y (m .iterations ∷ []) (stands-back ws at x (y ++ (m .iterations ∷ [])) s)),
-        stands-word ws (at + 8) (m .iterations) [] (stands-back ws at (x ++ y) (m .iterations ∷ []) s),
+        parts-back at (m .parts) (words-front ws at x (y ++ (l ∷ h ∷ [])) s),
+        range-back (at + 6) (m .salt)
+            (words-front ws (at + 6) y (l ∷ h ∷ []) (words-back ws at x (y ++ (l ∷ h ∷ [])) s)),
+        words-first ws (at + 8) l (h ∷ []) (words-back ws at (x ++ y) (l ∷ h ∷ []) s),
+        words-first ws (at + 9) h [] (words-back ws at (x ++ (y ++ (l ∷ []))) (h ∷ []) s),
+        both,
       )
 
   -- row i of rows of a width
-  pub each-stands : (f : ℕ → List ℕ) (w : ℕ) → ((i : ℕ) → length (f i) ≡ w) → (at n i : ℕ) → i < n → Stands ws at (each f n) → Stands ws (at + i * w) (f i)
+  pub each-words : (f : ℕ → List ℕ) (w : ℕ) → ((i : ℕ) → length (f i) ≡ w) → (at n i : ℕ) → i < n
+      → WordsAt ws at (each f n) → WordsAt ws (at + i * w) (f i)
   unfolding each
-  each-stands f w h at zero i l s = absurd (omega arith)
-  each-stands f w h at (suc n) i l s =
+  each-words f w h at zero i l s = absurd (omega arith)
+  each-words f w h at (suc n) i l s =
       either i n
-      (λ k. each-stands f w h at n i k (stands-front ws at (each f n) (f n) s))
-      (λ k. let e : n ≡ i = omega arith in rw (← e) (rw (each-length f w h n) at (stands-back ws at (each f n) (f n) s)))
+      (λ k. each-words f w h at n i k (words-front ws at (each f n) (f n) s))
+      (λ k. let e : n ≡ i = omega arith in rw (← e) (rw (each-length f w h n) at (words-back ws at (each f n) (f n) s)))
 
 -- ---- rows
 
-each-at : {A : Type 0} (P : A → Type 0) (xs : List A) (d : A) → Each P xs → (i : ℕ) → i < length xs → P (getD xs i d)
+pub each-at : {A : Type 0} (P : A → Type 0) (xs : List A) (d : A) → Each P xs → (i : ℕ)
+    → i < length xs → P (getD xs i d)
 unfolding Each
 each-at P [] d e i h = absurd (omega arith)
 each-at P (x ∷ xs) d e zero h = e .0
@@ -187,22 +189,22 @@ each-take g xs d zero h e = refl
 each-take g xs d (suc n) h e = rw (each-take g xs d n (omega arith) (λ i l. e i (omega arith)), e n (omega arith)) (sym (take-suc xs n d (omega arith)))
 
 -- rows of any kind that are at an offset, loaded from there
-pub rows-back : {A : Type 0} (P : A → Type 0) (words : A → List ℕ) (read : ℕ → A) (width rows count : ℕ) (none : A) (xs : List A) (ws : List ℕ) (at : ℕ)
-    → ((x : A) → length (words x) ≡ width) → ((p : ℕ) (x : A) → P x → Stands ws p (words x) → read p ≡ x)
-    → count ≤ rows → count ≡ length (take count xs) → xs ≡ padded rows none (take count xs) → Each P (take count xs)
-    → Stands ws at (rowsWords words none width rows xs count)
+pub rows-back : {A : Type 0} (words : A → List ℕ) (read : ℕ → A) (width rows count : ℕ) (none : A)
+    (xs : List A) (ws : List ℕ) (at : ℕ) → ((x : A) → length (words x) ≡ width)
+    → ((i : ℕ) → i < length (take count xs) → (p : ℕ) → WordsAt ws p (words (getD xs i none)) → read p ≡ getD xs i none)
+    → count ≤ rows → count ≡ length (take count xs) → xs ≡ padded rows none (take count xs)
+    → WordsAt ws at (rowsWords words none width rows xs count)
     → rowsFrom (λ i. read (at + i * width)) none rows count ≡ xs
 unfolding rowsWords rowsFrom
-rows-back P words read width rows count none xs ws at long back few all past fits s =
+rows-back words read width rows count none xs ws at long back few all past s =
     let m : min count rows ≡ count = omega (arith, few) in
     let n : count ≤ length xs = omega (arith, all, length-take count xs) in
-    let stands : Stands ws at (each (λ i. words (getD xs i none)) count) =
-    rw m at (stands-front ws at (each (λ i. words (getD xs i none)) (min count rows)) _ s) in
+    let stored : WordsAt ws at (each (λ i. words (getD xs i none)) count) =
+    rw m at (words-front ws at (each (λ i. words (getD xs i none)) (min count rows)) _ s) in
     rw (
       m,
       each-take (λ i. read (at + i * width)) xs none count n
           (λ i h.
-          back (at + i * width) (getD xs i none)
-          (rw (getD-take count xs i none h) at (each-at P (take count xs) none fits i (omega (arith, h, all))))
-          (each-stands ws (λ j. words (getD xs j none)) width (λ j. long (getD xs j none)) at count i h stands)),
+          back i (omega (arith, h, all)) (at + i * width)
+          (each-words ws (λ j. words (getD xs j none)) width (λ j. long (getD xs j none)) at count i h stored)),
     ) (sym past)

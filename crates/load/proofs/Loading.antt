@@ -2,9 +2,10 @@
 -- behind them.
 use mathlib.Core.Path.{_≡_, refl, ap, _∙_}
 use mathlib.Core.List.{List, [], _∷_, _++_}
-use Prim.Native.Nat.{ℕ, _+_, _≤_}
+use Prim.Native.Nat.{ℕ, _+_, _≤_, _<_}
 use native.Mathlib.Omega.{arith}
-use lib.ListN.{length, take}
+use lib.ListN.{length, getD, take}
+use lib.Seq.{getD-take}
 use Rattle.pkcs12.specs.Numbers.{safeRows, bagRows, attributeRows}
 use Rattle.pkcs12.specs.Table.{noSafe, noBag, noAttribute, padded, table, tableOf, rowsIn}
 use Rattle.pkcs12.specs.declared.table.Table.{Table}
@@ -16,10 +17,11 @@ use Rattle.words.specs.Stored.{headWords, safesWords, bagsWords, attributesWord
 use Rattle.load.specs.Loaded.{wordAt, rangeLoaded, safeLoaded, bagLoaded, attributeLoaded, macLoaded, safeFrom}
 use Rattle.load.specs.Loaded.{bagFrom}
 use Rattle.load.specs.Loaded.{attributeFrom, rowsFrom, tableIn}
-use Rattle.load.specs.Wordable.{SafeFits, BagFits, AttributeFits, Wordable}
+use Rattle.load.specs.Wordable.{BagFits, Wordable}
+use Rattle.load.specs.Holds.{WordsAt}
 use Rattle.words.proofs.Whole.{safes-length, bags-length}
-use Rattle.load.proofs.Back.{Stands, stands-front, stands-back, stands-word, range-back, safe-back, bag-back}
-use Rattle.load.proofs.Back.{attribute-back, mac-back, rows-back}
+use Rattle.load.proofs.Back.{words-front, words-back, words-first, range-back, safe-back, bag-back}
+use Rattle.load.proofs.Back.{attribute-back, mac-back, each-at, rows-back}
 
 -- each part is what the words have at its offset
 module _ (ws : List ℕ) (t : Table) where
@@ -39,7 +41,7 @@ module _ (ws : List ℕ) (t : Table) where
 count-same : (n : ℕ) → n ≤ greatestWord → countWord n ≡ n
 count-same n h = omega arith
 
-module _ (t : Table) (w : Wordable t) (ws : List ℕ) (s : Stands ws 0 (wordsOf t)) where
+module _ (t : Table) (w : Wordable t) (ws : List ℕ) (s : WordsAt ws 0 (wordsOf t)) where
   abbrev safes : List ℕ
   safes = safesWords (t .safes) (t .«safe_count»)
 
@@ -51,36 +53,44 @@ module _ (t : Table) (w : Wordable t) (ws : List ℕ) (s : Stands ws 0 (wordsOf 
 
   -- ---- where the parts are
 
-  head-stands : Stands ws 0 (headWords t)
+  head-there : WordsAt ws 0 (headWords t)
   unfolding wordsOf
-  head-stands = stands-front ws 0 (headWords t) _ s
+  head-there = words-front ws 0 (headWords t) _ s
 
-  rows-stand : Stands ws safesAt (safes ++ (bags ++ attributes))
+  rows-there : WordsAt ws safesAt (safes ++ (bags ++ attributes))
   unfolding wordsOf
-  rows-stand = stands-back ws 0 (headWords t) _ s
+  rows-there = words-back ws 0 (headWords t) _ s
 
-  past-safes : Stands ws bagsAt (bags ++ attributes)
-  past-safes = rw (safes-length (t .safes) (t .«safe_count»)) at (stands-back ws safesAt safes (bags ++ attributes) rows-stand)
+  past-safes : WordsAt ws bagsAt (bags ++ attributes)
+  past-safes =
+      rw (safes-length (t .safes) (t .«safe_count»))
+      at (words-back ws safesAt safes (bags ++ attributes) rows-there)
 
-  past-bags : Stands ws attributesAt attributes
-  past-bags = rw (bags-length (t .bags) (t .«bag_count»)) at (stands-back ws bagsAt bags attributes past-safes)
+  past-bags : WordsAt ws attributesAt attributes
+  past-bags = rw (bags-length (t .bags) (t .«bag_count»)) at (words-back ws bagsAt bags attributes past-safes)
 
   -- ---- the head
 
-  fields-stand : Stands ws macInputAt (rangeWords (t .«mac_input») ++ macWords (t .mac))
-  fields-stand =
-      stands-back ws 0 (countWords (t .elements) (t .«safe_count») (t .«bag_count») (t .«attribute_count»))
-      (rangeWords (t .«mac_input») ++ macWords (t .mac)) head-stands
+  fields-there : WordsAt ws macInputAt (rangeWords (t .«mac_input») ++ macWords (t .mac))
+  fields-there =
+      words-back ws 0 (countWords (t .elements) (t .«safe_count») (t .«bag_count») (t .«attribute_count»))
+      (rangeWords (t .«mac_input») ++ macWords (t .mac)) head-there
 
   input-back : rangeLoaded ws macInputAt ≡ t .«mac_input»
-  input-back = range-back ws macInputAt (t .«mac_input») (w .input) (stands-front ws macInputAt (rangeWords (t .«mac_input»)) (macWords (t .mac)) fields-stand)
+  input-back =
+      range-back ws macInputAt (t .«mac_input»)
+      (words-front ws macInputAt (rangeWords (t .«mac_input»)) (macWords (t .mac)) fields-there)
 
   fields-back : macLoaded ws macFieldsAt ≡ t .mac
-  fields-back = mac-back ws macFieldsAt (t .mac) (w .mac) (stands-back ws macInputAt (rangeWords (t .«mac_input»)) (macWords (t .mac)) fields-stand)
+  fields-back =
+      mac-back ws macFieldsAt (t .mac)
+      (words-back ws macInputAt (rangeWords (t .«mac_input»)) (macWords (t .mac)) fields-there)
 
   -- a count at its offset among the words
   count-back : (x : List ℕ) (n : ℕ) (y : List ℕ) → headWords t ≡ x ++ (countWord n ∷ y) → n ≤ greatestWord → wordAt ws (0 + length x) ≡ n
-  count-back x n y e h = stands-word ws (0 + length x) (countWord n) y (stands-back ws 0 x (countWord n ∷ y) (rw e at head-stands)) ∙ count-same n h
+  count-back x n y e h =
+      words-first ws (0 + length x) (countWord n) y
+      (words-back ws 0 x (countWord n ∷ y) (rw e at head-there)) ∙ count-same n h
 
   -- ---- the rows
 
@@ -109,25 +119,29 @@ module _ (t : Table) (w : Wordable t) (ws : List ℕ) (s : Stands ws 0 (wordsOf 
   attribute-number = ap (λ (u : Table). u .«attribute_count») (w .empty-past)
 
   safes-back : rowsFrom (safeFrom ws) noSafe safeRows (t .«safe_count») ≡ t .safes
-  unfolding rowsIn
   safes-back =
-      rows-back SafeFits safeWords (safeLoaded ws) safeWidth safeRows (t .«safe_count») noSafe (t .safes) ws safesAt
-      (λ x. refl) (safe-back ws) (w .safe-count) safe-number safe-rows
-      (w .safes) (stands-front ws safesAt safes (bags ++ attributes) rows-stand)
+      rows-back safeWords (safeLoaded ws) safeWidth safeRows (t .«safe_count») noSafe (t .safes) ws safesAt
+      (λ x. refl) (λ i h p. safe-back ws p (getD (t .safes) i noSafe)) (w .safe-count) safe-number safe-rows
+      (words-front ws safesAt safes (bags ++ attributes) rows-there)
+
+  bag-fits : (i : ℕ) → i < length (take (t .«bag_count») (t .bags)) → BagFits (getD (t .bags) i noBag)
+  unfolding rowsIn
+  bag-fits i h =
+      rw (getD-take (t .«bag_count») (t .bags) i noBag (omega (arith, h, bag-number)))
+      at (each-at BagFits (take (t .«bag_count») (t .bags)) noBag (w .bags) i h)
 
   bags-back : rowsFrom (bagFrom ws) noBag bagRows (t .«bag_count») ≡ t .bags
-  unfolding rowsIn
   bags-back =
-      rows-back BagFits bagWords (bagLoaded ws) bagWidth bagRows (t .«bag_count») noBag (t .bags) ws bagsAt
-      (λ x. refl) (bag-back ws) (w .bag-count) bag-number bag-rows (w .bags)
-      (stands-front ws bagsAt bags attributes past-safes)
+      rows-back bagWords (bagLoaded ws) bagWidth bagRows (t .«bag_count») noBag (t .bags) ws bagsAt
+      (λ x. refl) (λ i h p. bag-back ws p (getD (t .bags) i noBag) (bag-fits i h)) (w .bag-count) bag-number bag-rows
+      (words-front ws bagsAt bags attributes past-safes)
 
   attributes-back : rowsFrom (attributeFrom ws) noAttribute attributeRows (t .«attribute_count») ≡ t .attributes
-  unfolding rowsIn
   attributes-back =
-      rows-back AttributeFits attributeWords (attributeLoaded ws) attributeWidth attributeRows
+      rows-back attributeWords (attributeLoaded ws) attributeWidth attributeRows
       (t .«attribute_count») noAttribute (t .attributes) ws attributesAt (λ x. refl)
-      (attribute-back ws) (w .attribute-count) attribute-number attribute-rows (w .attributes) past-bags
+      (λ i h p. attribute-back ws p (getD (t .attributes) i noAttribute)) (w .attribute-count)
+      attribute-number attribute-rows past-bags
 
   -- ---- all of it
 

@@ -2,11 +2,11 @@
 use mathlib.Core.Bool.{Bool, true, false}
 use mathlib.Core.List.{List, [], _∷_}
 use Prim.Native.Nat.{ℕ, _+_, _-_, _*_, min}
-use lib.Dec.{eqb}
+use lib.Dec.{eqb, leb}
 use lib.ListN.{getD}
 use Rattle.der.specs.Choice.{if_then_else_}
 use Rattle.pkcs12.specs.Numbers.{safeRows, bagRows, attributeRows}
-use Rattle.range.specs.Range.{wordRange}
+use Rattle.range.specs.Range.{range}
 use Rattle.pkcs12.specs.Table.{parts, safeRow, noSafe, bagRow, noBag, attributeRow, noAttribute, macFields, padded}
 use Rattle.pkcs12.specs.Table.{table}
 use Rattle.buffer.specs.Placed.{each}
@@ -25,19 +25,15 @@ use Rattle.pkcs12.specs.declared.row.Mac.{Mac}
 use Rattle.pkcs12.specs.declared.table.Table.{Table}
 use Rattle.words.specs.Layout.{rangeWidth, partsWidth, safeWidth, bagWidth, attributeWidth, elementsAt}
 use Rattle.words.specs.Layout.{safeCountAt, bagCountAt, attributeCountAt, macInputAt, macFieldsAt, safesAt}
-use Rattle.words.specs.Layout.{bagsAt, attributesAt, greatestNumber}
+use Rattle.words.specs.Layout.{bagsAt, attributesAt, halfSize}
 
 abbrev pub wordAt : List ℕ → ℕ → ℕ
 wordAt ws i = getD ws i 0
 
 -- ---- what a word means
 
--- a row's number; there is no row with the greatest one
-abbrev pub numberOf : ℕ → ℕ
-numberOf w = min w greatestNumber
-
 unfoldable pub enclosingOf : ℕ → Enclosing
-enclosingOf w = if eqb w 0 then Enclosing.None else Bag (numberOf (w - 1))
+enclosingOf w = if eqb w 0 then Enclosing.None else Bag (w - 1)
 
 -- a number that is no kind's is `None`
 unfoldable pub safeKindOf : ℕ → SafeKind
@@ -59,7 +55,7 @@ setOf w = if eqb w 0 then false else true
 -- ---- what is at an offset
 
 unfoldable pub rangeLoaded : List ℕ → ℕ → Range
-rangeLoaded ws at = wordRange (wordAt ws at) (wordAt ws (at + 1))
+rangeLoaded ws at = range (wordAt ws at) (wordAt ws (at + 1))
 
 unfoldable pub partsLoaded : List ℕ → ℕ → Parts
 partsLoaded ws at = parts (rangeLoaded ws at) (rangeLoaded ws (at + rangeWidth)) (rangeLoaded ws (at + 2 * rangeWidth))
@@ -69,14 +65,16 @@ safeLoaded ws at = safeRow (safeKindOf (wordAt ws at)) (partsLoaded ws (at + 1))
 
 unfoldable pub bagLoaded : List ℕ → ℕ → BagRow
 bagLoaded ws at =
-    bagRow (bagKindOf (wordAt ws at)) (numberOf (wordAt ws (at + 1))) (enclosingOf (wordAt ws (at + 2))) (partsLoaded ws (at + 3))
+    bagRow (bagKindOf (wordAt ws at)) (wordAt ws (at + 1)) (enclosingOf (wordAt ws (at + 2))) (partsLoaded ws (at + 3))
     (setOf (wordAt ws (at + (3 + partsWidth))))
 
 unfoldable pub attributeLoaded : List ℕ → ℕ → AttributeRow
-attributeLoaded ws at = attributeRow (numberOf (wordAt ws at)) (rangeLoaded ws (at + 1)) (rangeLoaded ws (at + (1 + rangeWidth)))
+attributeLoaded ws at = attributeRow (wordAt ws at) (rangeLoaded ws (at + 1)) (rangeLoaded ws (at + (1 + rangeWidth)))
 
 unfoldable pub macLoaded : List ℕ → ℕ → Mac
-macLoaded ws at = macFields (partsLoaded ws at) (rangeLoaded ws (at + partsWidth)) (wordAt ws (at + (partsWidth + rangeWidth)))
+macLoaded ws at =
+    macFields (partsLoaded ws at) (rangeLoaded ws (at + partsWidth))
+    (wordAt ws (at + (partsWidth + rangeWidth)) + halfSize * wordAt ws (at + (partsWidth + rangeWidth + 1)))
 
 -- ---- all of it
 
@@ -89,6 +87,16 @@ bagFrom ws i = bagLoaded ws (bagsAt + i * bagWidth)
 
 abbrev pub attributeFrom : List ℕ → ℕ → AttributeRow
 attributeFrom ws i = attributeLoaded ws (attributesAt + i * attributeWidth)
+
+-- the same by the row's number; there is no row past the size of the table
+unfoldable pub safeFetched : List ℕ → ℕ → SafeRow
+safeFetched ws n = if leb safeRows n then noSafe else safeFrom ws n
+
+unfoldable pub bagFetched : List ℕ → ℕ → BagRow
+bagFetched ws n = if leb bagRows n then noBag else bagFrom ws n
+
+unfoldable pub attributeFetched : List ℕ → ℕ → AttributeRow
+attributeFetched ws n = if leb attributeRows n then noAttribute else attributeFrom ws n
 
 -- the rows of one kind: those that are counted and that there are, and empty ones in place of the
 -- others

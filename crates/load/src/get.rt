@@ -5,7 +5,7 @@ ghost use Rattle.pkcs12.specs.Numbers.{safeRows, bagRows, attributeRows};
 ghost use Rattle.pkcs12.specs.Table.{noSafe, noBag, noAttribute};
 ghost use Rattle.words.specs.Layout.{rangeWidth, partsWidth, safeWidth, bagWidth, attributeWidth, macWidth};
 ghost use Rattle.words.specs.Layout.{tableWords};
-ghost use Rattle.load.specs.Loaded.{wordAt, numberOf, enclosingOf, safeKindOf, bagKindOf, setOf, rangeLoaded};
+ghost use Rattle.load.specs.Loaded.{wordAt, enclosingOf, safeKindOf, bagKindOf, setOf, rangeLoaded};
 ghost use Rattle.load.specs.Loaded.{partsLoaded, safeLoaded, bagLoaded, attributeLoaded, macLoaded, safeFrom};
 ghost use Rattle.load.specs.Loaded.{bagFrom};
 ghost use Rattle.load.specs.Loaded.{attributeFrom, rowsFrom};
@@ -19,7 +19,7 @@ use pkcs12::SafeKind;
 use pkcs12::SafeRow;
 use range::Range;
 
-pub(crate) fn word(words: &[u32], i: usize) -> u32
+pub(crate) fn word(words: &[u16], i: usize) -> u16
     ensures { λ r. ⌜ r ≡ wordAt (now (words .entry)) i ⌝ }
 {
     if i < words.len() {
@@ -28,27 +28,16 @@ pub(crate) fn word(words: &[u32], i: usize) -> u32
     0
 }
 
-// A row's number.
-fn number_of(w: u32) -> u16
-    ensures { λ r. ⌜ r ≡ numberOf w ⌝ }
-{
-    if w <= words::GREATEST_NUMBER {
-        return w as u16;
-    }
-    words::GREATEST_NUMBER as u16
-}
-
-fn enclosing_of(w: u32) -> Enclosing
+fn enclosing_of(w: u16) -> Enclosing
     ensures { λ r. ⌜ r ≡ enclosingOf w ⌝ }
 {
     if w == 0 {
         return Enclosing::None;
     }
-    let number = number_of(w - 1);
-    Enclosing::Bag(number)
+    Enclosing::Bag(w - 1)
 }
 
-fn safe_kind_of(w: u32) -> SafeKind
+fn safe_kind_of(w: u16) -> SafeKind
     ensures { λ r. ⌜ r ≡ safeKindOf w ⌝ }
 {
     if w == 1 {
@@ -60,7 +49,7 @@ fn safe_kind_of(w: u32) -> SafeKind
     SafeKind::None
 }
 
-fn bag_kind_of(w: u32) -> BagKind
+fn bag_kind_of(w: u16) -> BagKind
     ensures { λ r. ⌜ r ≡ bagKindOf w ⌝ }
 {
     if w == 1 {
@@ -84,7 +73,7 @@ fn bag_kind_of(w: u32) -> BagKind
     BagKind::None
 }
 
-fn set_of(w: u32) -> bool
+fn set_of(w: u16) -> bool
     ensures { λ r. ⌜ r ≡ setOf w ⌝ }
 {
     if w == 0 {
@@ -93,16 +82,16 @@ fn set_of(w: u32) -> bool
     true
 }
 
-pub(crate) fn range(words: &[u32], at: usize) -> Range
+pub(crate) fn range(words: &[u16], at: usize) -> Range
     requires { ⌜ at + rangeWidth ≤ tableWords ⌝ }
     ensures { λ r. ⌜ r ≡ rangeLoaded (now (words .entry)) at ⌝ }
 {
     let start = word(words, at);
     let end = word(words, at + 1);
-    Range::of_words(start, end)
+    Range { start, end }
 }
 
-fn parts(words: &[u32], at: usize) -> Parts
+fn parts(words: &[u16], at: usize) -> Parts
     requires { ⌜ at + partsWidth ≤ tableWords ⌝ }
     ensures { λ r. ⌜ r ≡ partsLoaded (now (words .entry)) at ⌝ }
 {
@@ -116,7 +105,7 @@ fn parts(words: &[u32], at: usize) -> Parts
     }
 }
 
-fn safe(words: &[u32], at: usize) -> SafeRow
+pub(crate) fn safe(words: &[u16], at: usize) -> SafeRow
     requires { ⌜ at + safeWidth ≤ tableWords ⌝ }
     ensures { λ r. ⌜ r ≡ safeLoaded (now (words .entry)) at ⌝ }
 {
@@ -125,12 +114,12 @@ fn safe(words: &[u32], at: usize) -> SafeRow
     SafeRow { kind, parts }
 }
 
-fn bag(words: &[u32], at: usize) -> BagRow
+pub(crate) fn bag(words: &[u16], at: usize) -> BagRow
     requires { ⌜ at + bagWidth ≤ tableWords ⌝ }
     ensures { λ r. ⌜ r ≡ bagLoaded (now (words .entry)) at ⌝ }
 {
     let kind = bag_kind_of(word(words, at));
-    let safe = number_of(word(words, at + 1));
+    let safe = word(words, at + 1);
     let enclosing = enclosing_of(word(words, at + 2));
     let parts = parts(words, at + 3);
     let has_set = set_of(word(words, at + (3 + words::PARTS_WIDTH)));
@@ -143,11 +132,11 @@ fn bag(words: &[u32], at: usize) -> BagRow
     }
 }
 
-fn attribute(words: &[u32], at: usize) -> AttributeRow
+pub(crate) fn attribute(words: &[u16], at: usize) -> AttributeRow
     requires { ⌜ at + attributeWidth ≤ tableWords ⌝ }
     ensures { λ r. ⌜ r ≡ attributeLoaded (now (words .entry)) at ⌝ }
 {
-    let bag = number_of(word(words, at));
+    let bag = word(words, at);
     let identifier = range(words, at + 1);
     let values = range(words, at + (1 + words::RANGE_WIDTH));
     AttributeRow {
@@ -157,13 +146,15 @@ fn attribute(words: &[u32], at: usize) -> AttributeRow
     }
 }
 
-pub(crate) fn mac(words: &[u32], at: usize) -> Mac
+pub(crate) fn mac(words: &[u16], at: usize) -> Mac
     requires { ⌜ at + macWidth ≤ tableWords ⌝ }
     ensures { λ r. ⌜ r ≡ macLoaded (now (words .entry)) at ⌝ }
 {
     let parts = parts(words, at);
     let salt = range(words, at + words::PARTS_WIDTH);
-    let iterations = word(words, at + (words::PARTS_WIDTH + words::RANGE_WIDTH));
+    let low = word(words, at + (words::PARTS_WIDTH + words::RANGE_WIDTH)) as u32;
+    let high = word(words, at + (words::PARTS_WIDTH + words::RANGE_WIDTH + 1)) as u32;
+    let iterations = low + words::HALF_SIZE * high;
     Mac {
         parts,
         salt,
@@ -172,7 +163,7 @@ pub(crate) fn mac(words: &[u32], at: usize) -> Mac
 }
 
 // The rows of each kind, by the number that is counted.
-pub(crate) fn safes(words: &[u32], count: usize) -> [SafeRow; pkcs12::SAFE_ROWS]
+pub(crate) fn safes(words: &[u16], count: usize) -> [SafeRow; pkcs12::SAFE_ROWS]
     ensures { λ r. ⌜ r ≡ rowsFrom (safeFrom (now (words .entry))) noSafe safeRows count ⌝ }
 {
     let end = range::fewer(count, pkcs12::SAFE_ROWS);
@@ -186,7 +177,7 @@ pub(crate) fn safes(words: &[u32], count: usize) -> [SafeRow; pkcs12::SAFE_ROWS]
     rows
 }
 
-pub(crate) fn bags(words: &[u32], count: usize) -> [BagRow; pkcs12::BAG_ROWS]
+pub(crate) fn bags(words: &[u16], count: usize) -> [BagRow; pkcs12::BAG_ROWS]
     ensures { λ r. ⌜ r ≡ rowsFrom (bagFrom (now (words .entry))) noBag bagRows count ⌝ }
 {
     let end = range::fewer(count, pkcs12::BAG_ROWS);
@@ -200,7 +191,7 @@ pub(crate) fn bags(words: &[u32], count: usize) -> [BagRow; pkcs12::BAG_ROWS]
     rows
 }
 
-pub(crate) fn attributes(words: &[u32], count: usize) -> [AttributeRow; pkcs12::ATTRIBUTE_ROWS]
+pub(crate) fn attributes(words: &[u16], count: usize) -> [AttributeRow; pkcs12::ATTRIBUTE_ROWS]
     ensures { λ r. ⌜ r ≡ rowsFrom (attributeFrom (now (words .entry))) noAttribute attributeRows count ⌝ }
 {
     let end = range::fewer(count, pkcs12::ATTRIBUTE_ROWS);

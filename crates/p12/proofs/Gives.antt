@@ -2,14 +2,13 @@
 -- stores.
 use mathlib.Core.Path.{_≡_, refl, sym, ap, _∙_}
 use mathlib.Core.Bool.{Bool, true, false}
-use mathlib.Core.List.{List, _++_}
+use mathlib.Core.List.{List}
 use Prim.Native.Nat.{ℕ}
-use borrow.Author.Tests.{ltb-false}
 use lib.Dec.{ltb}
-use lib.ListN.{length, drop}
+use lib.ListN.{length}
 use Rattle.der.specs.declared.Fault.{Fault}
 use Rattle.der.proofs.Choices.{told-true, told-false}
-use Rattle.buffer.specs.Numbers.{shortBuffer, notSound}
+use Rattle.buffer.specs.Numbers.{notSound}
 use Rattle.pkcs12.specs.Walk.{readFile}
 use Rattle.buffer.specs.Written.{Outcome, lengthOf}
 use Rattle.pkcs12.specs.Written.{writeFile}
@@ -27,11 +26,12 @@ use Rattle.pairing.specs.Pairs.{refusedBy}
 use Rattle.pairing.specs.declared.Paired.{Paired}
 use Rattle.identities.specs.Identities.{certificateFor}
 use Rattle.words.specs.Layout.{tableWords}
-use Rattle.words.specs.Stored.{wordsOf, stored, storedRow}
+use Rattle.words.specs.Stored.{storedRow}
 use Rattle.load.specs.Loaded.{tableIn}
-use Rattle.words.proofs.Whole.{words-length, stored-whole}
 use Rattle.listing.specs.Listed.{listed}
 use Rattle.pair_lines.specs.Listed.{pairsListed}
+use Rattle.pkcs12.specs.declared.answers.Answer.{Answer}
+use Rattle.reader.specs.Memory.{readInto}
 use Rattle.p12.specs.Calls.{done, readNumber, readOffset, writtenNumber, Called, called, wrote, put, readCall}
 use Rattle.p12.specs.Calls.{onTable, writeCall, itemAs, attributeCall, certificateCall, listCall, pairsCall}
 
@@ -62,29 +62,11 @@ module _ (o : Outcome) (w : Written) (z : List ℕ) (p : w ≡ o .answer) (q : z
 
 -- ---- reading
 
--- u: whether the memory is too short for a table, as it was tested
-module _ (f room : List ℕ) (u : Bool) (h : u ≡ ltb (length room) tableWords) where
-  pub read-short : u ≡ true → Gives (readCall f room) shortBuffer room 0
-  unfolding readCall
-  read-short q = gives-all _ shortBuffer room 0 (told-true _ u _ _ _ h q refl)
-
-  module _ (q : u ≡ false) where
-    -- the memory with a table at its front
-    front-is : (t : Table) → stored t room .buffer ≡ wordsOf t ++ drop tableWords room
-    front-is t =
-        ap (λ (o : Outcome). o .buffer) (stored-whole t room (ltb-false _ _ (sym h ∙ q)))
-        ∙ ap (λ (n : ℕ). wordsOf t ++ drop n room) (words-length t)
-
-    -- what reading returned, and its table that was stored
-    pub read-stored : (rd : Reading) → rd ≡ readFile f → (n : ℕ) → n ≡ readNumber (rd .answer)
-        → (z : List ℕ) → z ≡ stored (rd .table) room .buffer → (k : ℕ) → k ≡ readOffset (rd .answer)
-        → Gives (readCall f room) n z k
-    unfolding readCall
-    read-stored rd e n r z p k l =
-        gives-all _ n z k (told-false _ u _ _ _ h q (rw (r, p, front-is (rd .table), l) (ap told e)))
-      where
-        told : Reading → Called
-        told x = called (readNumber (x .answer)) (wordsOf (x .table) ++ drop tableWords room) (readOffset (x .answer))
+-- what reading into memory returned
+pub read-given : (f room : List ℕ) (a : Answer) → a ≡ readInto f room .answer → (n : ℕ) → n ≡ readNumber a
+    → (z : List ℕ) → z ≡ readInto f room .memory → (k : ℕ) → k ≡ readOffset a → Gives (readCall f room) n z k
+unfolding readCall
+read-given f room a e n r z p k l = (r ∙ ap readNumber e, (p, l ∙ ap readOffset e))
 
 -- ---- texts: the listing, the pairs
 

@@ -6,7 +6,7 @@ use native.Mathlib.Omega.{arith}
 use lib.ListN.{length, drop, replicate, length-append}
 use Rattle.der.specs.Span.{Bytes}
 use Rattle.der.specs.declared.Fault.{Fault}
-use Rattle.der.proofs.Choices.{at-lt, at-not-lt}
+use Rattle.der.proofs.Choices.{at-not-lt}
 use Rattle.buffer.specs.Numbers.{shortBuffer}
 use Rattle.pkcs12.specs.Accepted.{IsAccepted, tableFrom}
 use Rattle.pkcs12.specs.Report.{answerReport}
@@ -22,12 +22,18 @@ use Rattle.words.specs.Stored.{wordsOf}
 use Rattle.load.specs.Loaded.{tableIn}
 use Rattle.load.specs.Wordable.{Wordable}
 use Rattle.load.proofs.Theorems.{words-count, stored-is-loaded, accepted-wordable, empty-wordable, empty-is-zeros}
+use Rattle.reader.specs.Memory.{Into}
+use Rattle.reader.proofs.Filled.{into-short, into-whole}
 use Rattle.p12.specs.Calls.{ok, readNumber, readOffset, Called, called, wrote, readCall, writeCall, Is11}
 use Rattle.p12.proofs.Unsound.{empty-is-11}
 
+-- what `p12_read` makes of an answer and the memory
+abbrev asCall : Into → Called
+asCall x = called (readNumber (x .answer)) (x .memory) (readOffset (x .answer))
+
 pub short-is-10 : (f words : List ℕ) → length words < tableWords → readCall f words ≡ called shortBuffer words 0
-unfolding readCall
-short-is-10 f words h = sym (at-lt _ _ _ _ _ h refl)
+unfolding readCall answerReport
+short-is-10 f words h = ap asCall (into-short f words h)
 
 module _ (f words : List ℕ) (h : tableWords ≤ length words) where
   -- the number, the words of a table with what is behind them, and the offset
@@ -36,7 +42,7 @@ module _ (f words : List ℕ) (h : tableWords ≤ length words) where
 
   told-is : readCall f words ≡ told (readFile f .answer) (tableFrom f)
   unfolding readCall
-  told-is = sym (at-not-lt _ _ _ _ _ h refl)
+  told-is = ap asCall (into-whole f words h)
 
   still-long : tableWords ≤ length (readCall f words .memory)
   still-long =

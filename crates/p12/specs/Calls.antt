@@ -1,12 +1,12 @@
 -- What the calls for C return and store, in terms of the definitions of the crates below. A call's
 -- number is 0, that of the refusal, or `done`.
 use mathlib.Core.Path.{_≡_}
-use mathlib.Core.List.{List, _++_}
+use mathlib.Core.List.{List}
 use Prim.Native.Nat.{ℕ}
 use lib.Dec.{ltb}
-use lib.ListN.{length, getD, drop}
+use lib.ListN.{length, getD}
 use Rattle.der.specs.Choice.{if_then_else_}
-use Rattle.buffer.specs.Numbers.{shortBuffer, notSound}
+use Rattle.buffer.specs.Numbers.{notSound}
 use Rattle.pkcs12.specs.Report.{answerReport}
 use Rattle.buffer.specs.Report.{writtenReport}
 use Rattle.pkcs12.specs.Walk.{readFile}
@@ -23,8 +23,9 @@ use Rattle.pairing.specs.Report.{pairedReport}
 use Rattle.pairing.specs.declared.Paired.{Paired}
 use Rattle.identities.specs.Identities.{certificateFor}
 use Rattle.words.specs.Layout.{tableWords}
-use Rattle.words.specs.Stored.{wordsOf, storedRow}
+use Rattle.words.specs.Stored.{storedRow}
 use Rattle.load.specs.Loaded.{tableIn}
+use Rattle.reader.specs.Memory.{readInto}
 use Rattle.listing.specs.Listed.{listed}
 use Rattle.pair_lines.specs.Listed.{pairsListed}
 use Rattle.pem.specs.Calls.{imported, exported}
@@ -76,14 +77,10 @@ wrote o = called (writtenNumber (o .answer)) (o .buffer) (lengthOf (o .answer))
 abbrev pub put : Outcome → Called
 put o = called (writtenNumber (o .answer)) (o .buffer) 0
 
--- `p12_read`: 10 where the memory has fewer words than a table, whatever the file. Else the memory
--- begins with the words of the reading's table, and those behind them are as before; so for every
--- file, since a refused one has the empty table (Rule 5.38).
+-- `p12_read`: what reading into memory returns, and the memory afterwards
 unfoldable pub readCall : List ℕ → List ℕ → Called
 readCall f memory =
-    if ltb (length memory) tableWords then called shortBuffer memory 0 else
-    called (readNumber (readFile f .answer)) (wordsOf (readFile f .table) ++ drop tableWords memory)
-    (readOffset (readFile f .answer))
+    called (readNumber (readInto f memory .answer)) (readInto f memory .memory) (readOffset (readInto f memory .answer))
 
 -- what is due of the table that is loaded from words; memory with fewer words than a table holds
 -- none

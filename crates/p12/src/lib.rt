@@ -7,7 +7,6 @@ ghost use Rattle.pkcs12.specs.Walk.{readFile};
 ghost use Rattle.buffer.specs.Written.{lengthOf};
 ghost use Rattle.elements.specs.Elements.{elementRanges, countedOf};
 ghost use Rattle.words.specs.Layout.{tableWords};
-ghost use Rattle.words.specs.Stored.{stored};
 ghost use Rattle.range.specs.Range.{wordRange};
 ghost use Rattle.p12.specs.Calls.{readNumber, readOffset, writtenNumber, writtenOffset};
 ghost use Rattle.p12.specs.Calls.{pairedNumber, pairedRow, readCall};
@@ -20,7 +19,6 @@ use attributes::Item;
 use buffer::Written;
 use pairing::Paired;
 use pkcs12::Answer;
-use pkcs12::Reading;
 use range::Range;
 
 // The number of an answer that is no refusal.
@@ -102,33 +100,25 @@ fn is_short(size: usize) -> bool
     size < words::TABLE_WORDS
 }
 
-// Stores the table of a reading, the empty one of a refused file too, and returns the reading's
-// number.
-fn store_reading(reading: Reading, table: &mut [u32]) -> u8
-    ensures { λ r. ⌜ r ≡ readNumber (reading .answer) ⌝ }
-    ensures { λ _. ⌜ now (table .exit) ≡ stored (reading .table) (now (table .entry)) .buffer ⌝ }
+// How many words a table takes.
+#[no_mangle]
+pub extern "C" fn p12_table_length() -> usize
+    ensures { λ r. ⌜ r ≡ tableWords ⌝ }
 {
-    let answer = reading.answer;
-    let whole = words::store(reading.table, table);
-    read_number(answer)
+    words::TABLE_WORDS
 }
 
 // Reads a file into a table of words; of a refused file that is the empty table.
 #[no_mangle]
-pub extern "C" fn p12_read(file: &[u8], table: &mut [u32], offset: &mut usize) -> u8
+pub extern "C" fn p12_read(file: &[u8], table: &mut [u16], offset: &mut usize) -> u8
     ensures { λ r. ⌜ r ≡ readCall (now (file .entry)) (now (table .entry)) .number ⌝ }
     ensures { λ _. ⌜ now (table .exit) ≡ readCall (now (file .entry)) (now (table .entry)) .memory ⌝ }
     ensures { λ _. ⌜ now (offset .exit) ≡ readCall (now (file .entry)) (now (table .entry)) .value ⌝ }
     ensures { λ _. ⌜ Bytes (now (file .entry)) ⌝ }
 {
-    if is_short(table.len()) {
-        *offset = 0;
-        return buffer::SHORT_BUFFER;
-    }
-    let reading = reader::read(file);
-    let answer = reading.answer;
+    let answer = reader::read_into(file, table);
     *offset = read_offset(answer);
-    store_reading(reading, table)
+    read_number(answer)
 }
 
 // The range of the MAC input in a file.
@@ -150,7 +140,7 @@ pub extern "C" fn p12_mac_input(file: &[u8], start: &mut usize, end: &mut usize)
 
 // Writes the file of a table into a buffer.
 #[no_mangle]
-pub extern "C" fn p12_write(table: &[u32], bytes: &[u8], out: &mut [u8], written: &mut usize) -> u8
+pub extern "C" fn p12_write(table: &[u16], bytes: &[u8], out: &mut [u8], written: &mut usize) -> u8
     ensures { λ r. ⌜ r ≡ writeCall (now (table .entry)) (now (bytes .entry)) (now (out .entry)) .number ⌝ }
     ensures { λ _. ⌜ now (out .exit) ≡ writeCall (now (table .entry)) (now (bytes .entry)) (now (out .entry)) .memory ⌝ }
     ensures { λ _. ⌜ now (written .exit) ≡ writeCall (now (table .entry)) (now (bytes .entry)) (now (out .entry)) .value ⌝ }
@@ -168,11 +158,11 @@ pub extern "C" fn p12_write(table: &[u32], bytes: &[u8], out: &mut [u8], written
 // Attribute i of a bag, as a row of words.
 #[no_mangle]
 pub extern "C" fn p12_attribute(
-    table: &[u32],
+    table: &[u16],
     bytes: &[u8],
     bag: usize,
     i: usize,
-    row: &mut [u32],
+    row: &mut [u16],
 ) -> u8
     ensures { λ r. ⌜ r ≡ attributeCall (now (table .entry)) (now (bytes .entry)) bag i (now (row .entry)) .number ⌝ }
     ensures { λ _. ⌜ now (row .exit) ≡ attributeCall (now (table .entry)) (now (bytes .entry)) bag i (now (row .entry)) .memory ⌝ }
@@ -214,7 +204,7 @@ pub extern "C" fn p12_element(
 // The certificate bag for a key bag.
 #[no_mangle]
 pub extern "C" fn p12_certificate_for(
-    table: &[u32],
+    table: &[u16],
     bytes: &[u8],
     key: usize,
     bag: &mut usize,

@@ -1,6 +1,6 @@
 -- The loop over the attributes of a bag: each turn of the code is one of the walk, and each way out
 -- is the walk's.
-use mathlib.Core.Path.{_≡_, refl, sym, ap, _∙_}
+use mathlib.Core.Path.{_≡_, refl, sym, _∙_}
 use mathlib.Core.Bool.{Bool, true, false}
 use mathlib.Core.List.{List}
 use Prim.Native.Nat.{ℕ, _+_, _-_, _≤_, _<_}
@@ -22,22 +22,27 @@ use Rattle.der.proofs.Placed.{by-element, found, expected}
 use Rattle.der.proofs.Opaque.{by-checked}
 use Rattle.pkcs12.specs.Numbers.{attributeRows}
 use Rattle.der.specs.Numbers.{sequenceTag, setTag}
-use Rattle.pkcs12.specs.Table.{attributeRow, noMac, tableOf, rowsIn}
+use Rattle.pkcs12.specs.Table.{attributeRow, Rows}
 use Rattle.pkcs12.specs.Walk.{onParts, Walked, Refused, Went, onWalked, run, counting, addAttribute, attributeAt}
 use Rattle.pkcs12.specs.declared.row.Parts.{Parts}
 use Rattle.pkcs12.specs.declared.answers.PartsAt.{PartsAt}
 use Rattle.pkcs12.specs.declared.row.AttributeRow.{AttributeRow}
 use Rattle.pkcs12.specs.declared.answers.Answer.the-variants.{Accepted}
-use Rattle.pkcs12.specs.declared.table.Table.{Table}
-use Rattle.reader.specs.Steps.{attributeValuesAt, attributePartsAt, onSet, setHeadAt, bagEndAt, progress}
-use Rattle.reader.specs.Steps.{startCount, Ready}
+use Rattle.words.specs.InPlace.{attributeStored}
+use Rattle.words.specs.declared.Counts.{Counts}
+use Rattle.load.specs.Holds.{rowsAt}
+use Rattle.load.proofs.Held.{attribute-count, count-of}
+use Rattle.load.proofs.Counted.{withCount, rows-counted, held-counted, withAttribute, rows-with-attribute}
+use Rattle.load.proofs.Counted.{held-with-attribute, attribute-length}
+use Rattle.reader.specs.Steps.{attributeValuesAt, attributePartsAt, onSet, setHeadAt, setBodyAt, bagEndAt}
+use Rattle.reader.specs.Steps.{startCount}
+use Rattle.reader.specs.Memory.{Ready, refusedProgress, Shown}
 use Rattle.reader.specs.declared.bags.Set.{Set}
 use Rattle.reader.specs.declared.rows.Progress.{Progress}
 use Rattle.reader.proofs.Past.{attribute-past}
 use Rattle.parts.proofs.Past.{Past}
 use Rattle.reader.proofs.Bridge.{attribute-law, end-law}
-use Rattle.reader.proofs.Stores.{withCount, storedAttribute, attribute-count, stored-count, stored-attribute}
-use Rattle.reader.proofs.Stores.{rows-of, rows-again}
+use Rattle.reader.proofs.Shown.{shown-stop, shown-went}
 use Rattle.reader.proofs.Loops.{Rowing, rowing-start, rowing-end, rowing-refused, rowing-on}
 
 -- where the set of a bag is: its body, within the bytes
@@ -78,107 +83,139 @@ unfolding attributePartsAt
 room-of s true c = by-element (OfRoom true) (λ x. Unit {0}) _ _ (λ f. tt) (λ t b n u. tt) (expectAt sequenceTag s c) tt
 room-of s false c =
     by-element (OfRoom false) (λ x. Unit {0}) _ _ (λ f. tt)
-    (λ t b n u. by-element (OfRoom false) (λ x. Unit {0}) _ _ (λ f. tt) (λ t i m v. values-room s i m n) (identifierAt s b) tt)
+    (λ t b n u. by-element (OfRoom false) (λ x. Unit {0}) _ _ (λ f. tt) (λ t i m v. values-room s i m n)
+    (identifierAt s b) tt)
     (expectAt sequenceTag s c) tt
 
--- an attribute of the walk, by its parts in the table of the rows so far
-module _ (s : List ℕ) (number : ℕ) (t : Table) (rows : t ≡ tableOf (rowsIn t) noMac) (c : Cursor) (x : PartsAt)
-    (p : x ≡ attributePartsAt s (leb attributeRows (t .«attribute_count»)) c) where
-  attribute-is : attributeAt s number (rowsIn t) c
-      ≡ onParts x Refused (λ p k n. Went (addAttribute (rowsIn t) (attributeRow number (p .identifier) (p .value)) k) n)
-  attribute-is =
-      sym (attribute-law s number (rowsIn t) c)
-      ∙ rw (← attribute-count t rows, ← p)
+-- an attribute of the walk, by its parts, behind the rows that are counted
+module _ (s : List ℕ) (number : ℕ) (m : List ℕ) (k : Counts) (c : Cursor) (x : PartsAt)
+    (p : x ≡ attributePartsAt s (leb attributeRows (k .attributes)) c) where
+  attribute-is : attributeAt s number (rowsAt m k) c
+      ≡ onParts x Refused
+      (λ p j n. Went (addAttribute (rowsAt m k) (attributeRow number (p .identifier) (p .value)) j) n)
+  attribute-is = sym (attribute-law s number (rowsAt m k) c) ∙ rw (attribute-count m k, ← p)
 
-  pub attribute-refused : (f : Fault) → x ≡ PartsAt.Refused f → attributeAt s number (rowsIn t) c ≡ Refused f
+  pub attribute-refused : (f : Fault) → x ≡ PartsAt.Refused f → attributeAt s number (rowsAt m k) c ≡ Refused f
   attribute-refused f q = attribute-is ∙ rw q
 
-  pub attribute-found : (a : Parts) (k : ℕ) (n : Cursor) → x ≡ PartsAt.Found a k n
-      → attributeAt s number (rowsIn t) c ≡ Went (addAttribute (rowsIn t) (attributeRow number (a .identifier) (a .value)) k) n
-  attribute-found a k n q = attribute-is ∙ rw q
+  module _ (a : Parts) (j : ℕ) (n : Cursor) (q : x ≡ PartsAt.Found a j n) where
+    pub attribute-found : attributeAt s number (rowsAt m k) c
+        ≡ Went (addAttribute (rowsAt m k) (attributeRow number (a .identifier) (a .value)) j) n
+    attribute-found = attribute-is ∙ rw q
 
-  -- the facts of a turn: a row is left, and how far the turn goes
-  pub attribute-room : (a : Parts) (k : ℕ) (n : Cursor) → x ≡ PartsAt.Found a k n → t .«attribute_count» < attributeRows
-  attribute-room a k n q = leb-false attributeRows (t .«attribute_count») (rw (sym p ∙ q) at (room-of s (leb attributeRows (t .«attribute_count»)) c))
+    -- a row is left, and how far the turn goes
+    pub attribute-few : k .attributes < attributeRows
+    attribute-few =
+        leb-false attributeRows (k .attributes) (rw (sym p ∙ q) at (room-of s (leb attributeRows (k .attributes)) c))
 
-  pub attribute-goes : (a : Parts) (k : ℕ) (n : Cursor) → x ≡ PartsAt.Found a k n → Past s c (rowsIn t .count) (rowsIn t .count + k) n
-  attribute-goes a k n q = attribute-past s number (rowsIn t) c _ n (attribute-found a k n q)
+    pub attribute-goes : Past s c (rowsAt m k .count) (rowsAt m k .count + j) n
+    attribute-goes = attribute-past s number (rowsAt m k) c _ n attribute-found
 
--- the attributes of the bag with this number, in a table t₀ at the end of [0]
-module _ (s : List ℕ) (number : ℕ) (t₀ : Table) (e c n : Cursor) (ready : Ready s t₀ (c .at)) (w : Set) (p : w ≡ setHeadAt s e c) where
-  end-is : bagEndAt s number (rowsIn t₀) e c n
-      ≡ onSet w Refused (Went (rowsIn t₀) n)
-      (λ b m. onWalked (run (attributeAt s number) (counting (rowsIn t₀) 1) b) Refused (λ st′ f. onChecked (finishAt m) Refused (λ z g. Went st′ n)))
-  end-is = sym (end-law s number (rowsIn t₀) e c n) ∙ rw (← p)
+-- the attributes in the body b of a set, which e is past; n is past the bag
+module _ (s : List ℕ) (number : ℕ) (m₀ : List ℕ) (k₀ : Counts) (b e n : Cursor) where
+  abbrev stepOf : Rows → Cursor → Walked
+  stepOf = attributeAt s number
 
-  pub end-refused : (f : Fault) (r : Progress) → w ≡ Set.Refused f → r ≡ progress (Refused f) → r ≡ progress (bagEndAt s number (rowsIn t₀) e c n)
-  end-refused f r q h = rw (end-is, q) h
+  abbrev loopOf : Walked
+  loopOf = run stepOf (rowsAt m₀ k₀) b
 
-  pub end-none : w ≡ Set.None → record { answer = Accepted; table = t₀; next = n } ≡ progress (bagEndAt s number (rowsIn t₀) e c n)
-  end-none q = rw (end-is, q) (ap (λ (t : Table). record { answer = Accepted; table = t; next = n }) (ready .rows))
+  abbrev wholeBody : Walked
+  wholeBody = setBodyAt s number (rowsAt m₀ k₀) b e n
+
+  body-is : (y : Walked) → loopOf ≡ y
+      → wholeBody ≡ onWalked y Refused (λ st′ f. onChecked (finishAt e) Refused (λ z g. Went st′ n))
+  unfolding setBodyAt
+  body-is y h = rw h
+
+  pub body-start : Ready s m₀ k₀ (b .at) → Rowing s stepOf (b .end) loopOf (length m₀) m₀ k₀ (b .at)
+  body-start r = rowing-start s stepOf m₀ k₀ b r
+
+  module _ (m : List ℕ) (k : Counts) (at : ℕ) (g : Rowing s stepOf (b .end) loopOf (length m₀) m k at) where
+    abbrev here : Cursor
+    here = cursor at (b .end)
+
+    pub body-refused : (v : Checked) (f : Fault) (r : Progress) → b .end ≤ at → v ≡ finishAt e → v ≡ Checked.Refused f
+        → r ≡ refusedProgress f → Shown m r wholeBody
+    body-refused v f r h y z i =
+        shown-stop m r wholeBody f (body-is _ (rowing-end s stepOf _ _ _ m k at g h) ∙ rw (← y, z)) i
+
+    pub body-end : (v : Checked) (j : ℕ) (o : Cursor) → b .end ≤ at → v ≡ finishAt e → v ≡ Passed j o
+        → Shown m (record { answer = Accepted; counts = k; next = n }) wholeBody
+    body-end v j o h y z =
+        shown-went m _ wholeBody refl (g .ready .held) (body-is _ (rowing-end s stepOf _ _ _ m k at g h) ∙ rw (← y, z))
+
+    -- a turn
+    module _ (x : PartsAt) (y : x ≡ attributePartsAt s (leb attributeRows (k .attributes)) here) where
+      pub turn-refused : (f : Fault) (r : Progress) → at < b .end → x ≡ PartsAt.Refused f → r ≡ refusedProgress f
+          → Shown m r wholeBody
+      turn-refused f r h z i =
+          shown-stop m r wholeBody f
+          (body-is _ (rowing-refused s stepOf _ _ _ m k at g f h (attribute-refused s number m k here x y f z))) i
+
+      module _ (a : Parts) (j : ℕ) (o : Cursor) (z : x ≡ PartsAt.Found a j o) where
+        pub turn-few : k .attributes < attributeRows
+        turn-few = attribute-few s number m k here x y a j o z
+
+        pub turn-fits : Fits w64 (k .elements + j)
+        unfolding startCount
+        turn-fits =
+            let v = attribute-goes s number m k here x y a j o z in
+            let i = count-of m k in
+            omega (arith, i, g .ready .counted, g .ready .short, v .long, v .within, v .inside)
+
+        pub turn-less : at < b .end → b .end - o .at < b .end - at
+        turn-less h = let v = attribute-goes s number m k here x y a j o z in omega (arith, v .some)
+
+        -- the row is stored
+        pub turn-on : at < b .end → (row : AttributeRow) → row ≡ attributeRow number (a .identifier) (a .value)
+            → (m′ : List ℕ) → m′ ≡ attributeStored m (k .attributes) row
+            → Rowing s stepOf (b .end) loopOf (length m₀) m′ (withAttribute k j) (o .at)
+        turn-on h row u m′ t =
+            let held = g .ready .held in
+            let w : m′ ≡ attributeStored m (k .attributes) (attributeRow number (a .identifier) (a .value)) =
+            rw u at t in
+            rowing-on s stepOf _ _ _ m k at g _ o m′ (withAttribute k j) h
+            (attribute-found s number m k here x y a j o z) (attribute-goes s number m k here x y a j o z)
+            (attribute-length m k held m′ _ j turn-few w) (rows-with-attribute m k held m′ _ j turn-few w)
+            (held-with-attribute m k held m′ _ j turn-few w)
+
+-- the attributes of the bag with this number, at the end of [0]
+module _ (s : List ℕ) (number : ℕ) (m₀ : List ℕ) (k₀ : Counts) (e c n : Cursor) (ready : Ready s m₀ k₀ (c .at))
+    (w : Set)
+    (p : w ≡ setHeadAt s e c) where
+  abbrev wholeEnd : Walked
+  wholeEnd = bagEndAt s number (rowsAt m₀ k₀) e c n
+
+  end-is : wholeEnd
+      ≡ onSet w Refused (Went (rowsAt m₀ k₀) n)
+      (λ b m. onWalked (run (attributeAt s number) (counting (rowsAt m₀ k₀) 1) b) Refused
+      (λ st′ f. onChecked (finishAt m) Refused (λ z g. Went st′ n)))
+  end-is = sym (end-law s number (rowsAt m₀ k₀) e c n) ∙ rw (← p)
+
+  pub end-refused : (f : Fault) (r : Progress) → w ≡ Set.Refused f → r ≡ refusedProgress f → Shown m₀ r wholeEnd
+  end-refused f r q i = shown-stop m₀ r wholeEnd f (end-is ∙ rw q) i
+
+  pub end-none : w ≡ Set.None → Shown m₀ (record { answer = Accepted; counts = k₀; next = n }) wholeEnd
+  end-none q = shown-went m₀ _ wholeEnd refl (ready .held) (end-is ∙ rw q)
 
   module _ (b m : Cursor) (q : w ≡ Set.Found b m) where
     body-of : (c .at + 2 ≤ b .at) × (b .at ≤ b .end) × (b .end ≤ length s)
     body-of = rw (sym p ∙ q) at (set-of s e c)
 
-    pub end-fits : Fits w64 (t₀ .elements + 1)
+    pub end-fits : Fits w64 (k₀ .elements + 1)
     unfolding startCount
     end-fits = let o = body-of in omega (arith, ready .counted, ready .short, o .0, o .1, o .2)
 
-    first-rows : rowsIn (withCount t₀ 1) ≡ counting (rowsIn t₀) 1
-    first-rows = rows-of (withCount t₀ 1) _ (stored-count t₀ (ready .rows) 1)
-
-    pub end-start : Rowing s (attributeAt s number) (b .end) (run (attributeAt s number) (rowsIn (withCount t₀ 1)) b) (withCount t₀ 1) (b .at)
-    end-start =
+    pub end-ready : Ready s m₀ (withCount k₀ 1) (b .at)
+    end-ready =
         let o = body-of in
-        rowing-start s (attributeAt s number) (withCount t₀ 1) b
-        (record { short = ready .short; rows = rows-again (withCount t₀ 1) _ (stored-count t₀ (ready .rows) 1); counted = omega (arith, ready .counted, o .0) })
+        record {
+          short = ready .short;
+          held = held-counted m₀ k₀ (ready .held) 1;
+          counted = omega (arith, ready .counted, o .0);
+        }
 
-    whole-is : (x : Walked) → run (attributeAt s number) (rowsIn (withCount t₀ 1)) b ≡ x
-        → bagEndAt s number (rowsIn t₀) e c n ≡ onWalked x Refused (λ st′ f. onChecked (finishAt m) Refused (λ z g. Went st′ n))
-    whole-is x h = end-is ∙ rw (q, ← first-rows, h)
-
-    module _ (t : Table) (at : ℕ) (g : Rowing s (attributeAt s number) (b .end) (run (attributeAt s number) (rowsIn (withCount t₀ 1)) b) t at) where
-      pub turn-refused : (x : PartsAt) (f : Fault) (r : Progress) → at < b .end
-          → x ≡ attributePartsAt s (leb attributeRows (t .«attribute_count»)) (cursor at (b .end))
-          → x ≡ PartsAt.Refused f → r ≡ progress (Refused f) → r ≡ progress (bagEndAt s number (rowsIn t₀) e c n)
-      turn-refused x f r h y z i =
-          rw (whole-is (Refused f) (rowing-refused s (attributeAt s number) _ _ t at g f h (attribute-refused s number t (g .ready .rows) _ x y f z))) i
-
-      -- the row, which the code holds as `row`
-      pub turn-on : (x : PartsAt) (a : Parts) (k : ℕ) (o : Cursor) → at < b .end
-          → x ≡ attributePartsAt s (leb attributeRows (t .«attribute_count»)) (cursor at (b .end))
-          → x ≡ PartsAt.Found a k o
-          → (row : AttributeRow) → row ≡ attributeRow number (a .identifier) (a .value)
-          → Rowing s (attributeAt s number) (b .end) (run (attributeAt s number) (rowsIn (withCount t₀ 1)) b) (storedAttribute t row k) (o .at)
-      turn-on x a k o h y z row u =
-          let rows = g .ready .rows in
-          rw u
-          (rowing-on s (attributeAt s number) _ _ t at g _ o _ h (attribute-found s number t rows _ x y a k o z) (attribute-goes s number t rows _ x y a k o z)
-          (stored-attribute t rows _ k (attribute-room s number t rows _ x y a k o z)))
-
-      -- the numbers of a turn
-      module _ (x : PartsAt) (a : Parts) (k : ℕ) (o : Cursor)
-          (y : x ≡ attributePartsAt s (leb attributeRows (t .«attribute_count»)) (cursor at (b .end)))
-          (z : x ≡ PartsAt.Found a k o) where
-        pub turn-room : t .«attribute_count» < attributeRows
-        turn-room = attribute-room s number t (g .ready .rows) _ x y a k o z
-
-        pub turn-fits : Fits w64 (t .elements + k)
-        unfolding startCount
-        turn-fits =
-            let v = attribute-goes s number t (g .ready .rows) _ x y a k o z in
-            omega (arith, g .ready .counted, g .ready .short, v .long, v .within, v .inside)
-
-        pub turn-less : at < b .end → b .end - o .at < b .end - at
-        turn-less h = let v = attribute-goes s number t (g .ready .rows) _ x y a k o z in omega (arith, v .some)
-
-      pub ends-refused : (v : Checked) (f : Fault) (r : Progress) → b .end ≤ at → v ≡ finishAt m → v ≡ Checked.Refused f → r ≡ progress (Refused f)
-          → r ≡ progress (bagEndAt s number (rowsIn t₀) e c n)
-      ends-refused v f r h y z i = rw (whole-is _ (rowing-end s (attributeAt s number) _ _ t at g h), ← y, z) i
-
-      pub ends : (v : Checked) (k : ℕ) (o : Cursor) → b .end ≤ at → v ≡ finishAt m → v ≡ Passed k o
-          → record { answer = Accepted; table = t; next = n } ≡ progress (bagEndAt s number (rowsIn t₀) e c n)
-      ends v k o h y z =
-          rw (whole-is _ (rowing-end s (attributeAt s number) _ _ t at g h), ← y, z)
-          (ap (λ (t : Table). record { answer = Accepted; table = t; next = n }) (g .ready .rows))
+    pub end-returns : (m₁ : List ℕ) (r : Progress)
+        → Shown m₁ r (setBodyAt s number (rowsAt m₀ (withCount k₀ 1)) b m n) → Shown m₁ r wholeEnd
+    unfolding setBodyAt
+    end-returns m₁ r h = rw (end-is, q, ← rows-counted m₀ k₀ (ready .held) 1) h

@@ -56,16 +56,19 @@ afterOuter s file w =
 
 -- what it does with the answer of that ContentInfo's value; `mac` is past the ContentInfo
 abbrev afterValue : List ℕ → Cursor → Cursor → Walked → Reading
-afterValue s mac file w = afterOuter s file (onWalked w Refused (λ st e. onChecked (finishAt e) Refused (λ z g. Went st mac)))
+afterValue s mac file w =
+    afterOuter s file (onWalked w Refused (λ st e. onChecked (finishAt e) Refused (λ z g. Went st mac)))
 
 -- the MAC, and the ends of the PFX and of the file
-last-law : (s : List ℕ) (st : Rows) (mac file : Cursor) → onMac (lastAt s mac file) refused (accepted st) ≡ afterOuter s file (Went st mac)
+last-law : (s : List ℕ) (st : Rows) (mac file : Cursor)
+    → onMac (lastAt s mac file) refused (accepted st) ≡ afterOuter s file (Went st mac)
 unfolding lastAt bothAt
 last-law s st mac file =
     both-test F (alone file) (leb (mac .end) (mac .at)) _ _ _ _ refl
     (both-mac F (alone file) (macAt s mac) _ _ _ _ (λ f. refl)
     (λ x k n.
-    both-checked (λ y. F (onChecked y MacAt.Refused (λ z g. MacAt.Found x k n))) (alone file) (finishAt n) _ _ _ _ (λ f. refl)
+    both-checked (λ y. F (onChecked y MacAt.Refused (λ z g. MacAt.Found x k n))) (alone file) (finishAt n) _ _ _ _
+    (λ f. refl)
     (λ z g. through-checked F (finishAt file) _ _ _ _ (λ f. refl) (λ z g. refl))))
   where
     F : MacAt → Reading
@@ -74,7 +77,8 @@ last-law s st mac file =
 -- the ends of what the safes are in, then the MAC
 close-law : (s : List ℕ) (st : Rows) (safes string content mac file : Cursor)
     → onMac (closeAt s Accepted safes string content mac file) refused (accepted st)
-    ≡ afterValue s mac file (onChecked (finishAt safes) Refused (λ z h. onChecked (finishAt string) Refused (λ z i. Went st content)))
+    ≡ afterValue s mac file (onChecked (finishAt safes) Refused
+    (λ z h. onChecked (finishAt string) Refused (λ z i. Went st content)))
 unfolding closeAt closedAt bothAt
 close-law s st safes string content mac file =
     both-checked F (afterValue s mac file) (finishAt safes) _ _ _ _ (λ f. refl)
@@ -98,21 +102,25 @@ safes-law s c mac file =
     (λ t o f.
     both-element (λ y. onOpened y refused (afterOpened s)) (G f e) (expectAt sequenceTag s o) _ _ _ _ (λ f. refl)
     (λ t b n.
-    sym (through-walked (G f e) (run (safeAt s) (startRows o) b) _ _ _ _ (λ f. refl) (λ st z. sym (close-law s st n f e mac file))))))
+    sym (through-walked (G f e) (run (safeAt s) (startRows o) b) _ _ _ _ (λ f. refl)
+    (λ st z. sym (close-law s st n f e mac file))))))
   where
     F : Octets → Reading
     F y =
         onOpened
-        (onOctets y Opened.Refused (λ o f e. onElement (expectAt sequenceTag s o) Opened.Refused (λ t b n. Opened.Found o b n f e mac file)))
+        (onOctets y Opened.Refused (λ o f e. onElement (expectAt sequenceTag s o) Opened.Refused
+        (λ t b n. Opened.Found o b n f e mac file)))
         refused (afterOpened s)
 
     G : Cursor → Cursor → Walked → Reading
     G f e w =
         afterValue s mac file
-        (onWalked w Refused (λ st g. onChecked (finishAt g) Refused (λ z h. onChecked (finishAt f) Refused (λ z i. Went st e))))
+        (onWalked w Refused (λ st g. onChecked (finishAt g) Refused
+        (λ z h. onChecked (finishAt f) Refused (λ z i. Went st e))))
 
 -- the outer ContentInfo, by its type
-info-law : (s : List ℕ) (c file : Cursor) → onOpened (openedInfoAt s c file) refused (afterOpened s) ≡ alone file (bodyAt s c)
+info-law : (s : List ℕ) (c file : Cursor)
+    → onOpened (openedInfoAt s c file) refused (afterOpened s) ≡ alone file (bodyAt s c)
 unfolding openedInfoAt openedValueAt bodyAt outerAt outerValueAt
 info-law s c file =
     both-element F (afterOuter s file) (expectAt sequenceTag s c) _ _ _ _ (λ f. refl)

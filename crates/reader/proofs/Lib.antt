@@ -4,10 +4,11 @@ pub mod Heads
 pub mod Bridge
 pub mod BridgeRows
 pub mod BridgeFile
-pub mod Stores
+pub mod Shown
 pub mod Loops
 pub mod Attributes
 pub mod OneBag
 pub mod Nesting
 pub mod OneSafe
 pub mod Whole
+pub mod Filled

@@ -1,6 +1,6 @@
 -- A bag: what the code has learnt of it before its row, and each way on from there, as the walk
 -- goes.
-use mathlib.Core.Path.{_≡_, refl, sym, _∙_}
+use mathlib.Core.Path.{_≡_, refl, sym, ap, _∙_}
 use mathlib.Core.Bool.{Bool, true, false}
 use mathlib.Core.List.{List}
 use Prim.Native.Nat.{ℕ, _+_, _≤_, _<_}
@@ -10,6 +10,7 @@ use lib.ListN.{length}
 use borrow.Author.Tests.{leb-false}
 use mir.Val.{Fits}
 use mir.Syntax.{w64}
+use Rattle.der.specs.Choice.{if_then_else_}
 use Rattle.der.specs.Content.{bytesOf}
 use Rattle.der.specs.declared.Fault.{Fault}
 use Rattle.der.specs.declared.Cursor.{Cursor}
@@ -17,56 +18,82 @@ use Rattle.der.proofs.Choices.{by-test}
 use Rattle.pkcs12.specs.Numbers.{bagRows}
 use Rattle.der.specs.Numbers.{sequenceTag, contextTag}
 use Rattle.pkcs12.specs.Identifiers.{kindOf}
-use Rattle.pkcs12.specs.Table.{bagRow, noParts, noMac, tableOf, rowsIn}
-use Rattle.pkcs12.specs.Walk.{Walked, Refused, onWalked, addBag, owner, bagAt, safeContentsAt}
+use Rattle.pkcs12.specs.Table.{bagRow, Rows}
+use Rattle.pkcs12.specs.Walk.{Walked, Refused, Went, onWalked, addBag, owner, bagAt, safeContentsAt}
 use Rattle.pkcs12.specs.declared.row.Parts.{Parts}
 use Rattle.pkcs12.specs.declared.answers.PartsAt.{PartsAt}
 use Rattle.pkcs12.specs.declared.kind.BagKind.{BagKind}
 use Rattle.pkcs12.specs.declared.kind.BagKind.the-variants.{Key, ShroudedKey, Certificate, Crl, Secret, Nested}
 use Rattle.pkcs12.specs.declared.row.Enclosing.{Enclosing}
-use Rattle.pkcs12.specs.declared.row.Enclosing.the-variants.{Bag}
 use Rattle.pkcs12.specs.declared.row.BagRow.{BagRow}
 use Rattle.pkcs12.specs.declared.answers.Answer.{Answer}
 use Rattle.pkcs12.specs.declared.answers.Answer.the-variants.{Accepted}
-use Rattle.pkcs12.specs.declared.table.Table.{Table}
 use Rattle.pkcs12.proofs.Named.{by-kind}
-use Rattle.reader.specs.Steps.{onBag, leafOf, bagValueAt, bagOfAt, bagHeadAt, bagEndAt, progress, startCount}
-use Rattle.reader.specs.Steps.{Ready}
+use Rattle.words.specs.InPlace.{bagStored}
+use Rattle.words.specs.declared.Counts.{Counts}
+use Rattle.load.specs.Wordable.{EnclosingFits, BagFits}
+use Rattle.load.specs.Holds.{Holds, rowsAt}
+use Rattle.load.proofs.Held.{bag-count, count-of}
+use Rattle.load.proofs.Counted.{withBag, rows-with-bag, held-with-bag}
+use Rattle.reader.specs.Steps.{onBag, leafOf, bagValueAt, bagOfAt, bagHeadAt, bagEndAt, insideAt, isNested}
+use Rattle.reader.specs.Steps.{startCount}
+use Rattle.reader.specs.Memory.{Ready, Inside, refusedProgress, Shown}
 use Rattle.reader.specs.declared.bags.Bag.{Bag as Before}
 use Rattle.reader.specs.declared.rows.Progress.{Progress}
 use Rattle.parts.proofs.Past.{Past, by-expect, by-identifier, key-past, sealed-past, typed-past}
 use Rattle.reader.proofs.Past.{contents-past}
-use Rattle.reader.proofs.BridgeRows.{bag-law, progress-went, progress-refused, progress-rows}
-use Rattle.reader.proofs.Stores.{storedBag, bag-count, stored-bag, rows-of, rows-again}
-use Rattle.reader.proofs.Loops.{count-of}
+use Rattle.reader.proofs.BridgeRows.{bag-law}
+use Rattle.reader.proofs.Shown.{shown-stop, shown-refused, shown-went, walk-went, walk-refused}
+
+not-true : false ≡ true → ⊥
+not-true h = let z : _≡_ {A = ℕ} 0 1 = ap (λ (b : Bool). if b then 1 else 0) h in omega (arith, z)
 
 -- What is known of a bag before its row is stored: a row is left for it, its elements are no more
--- than the bytes before its attributes, and nested contents begin at least three bytes past its
--- start and end before its attributes.
+-- than the bytes before its attributes, and nested contents begin past those elements and end before
+-- its attributes.
+pub record Known (s : List ℕ) (c : Cursor) (kind : BagKind) (k : ℕ) (v e : Cursor) : Type 0 where
+  pub counted : c .at + k ≤ e .at
+  pub inside : e .at ≤ length s
+  pub nested : isNested kind ≡ true → (c .at + k ≤ v .at) × (v .end ≤ e .at)
+
 abbrev OfBag : List ℕ → Cursor → Bool → Before → Type 0
 OfBag s c full (Before.Refused f) = Unit {0}
-OfBag s c full (Before.Leaf kind p k f e n) = (full ≡ false) × (c .at + k ≤ e .at) × (e .at ≤ length s)
-OfBag s c full (Before.Nested v e n) = (full ≡ false) × (c .at + 3 ≤ v .at) × (v .at ≤ length s) × (v .end ≤ e .at)
+OfBag s c full (Before.Found kind p k v e n) = (full ≡ false) × Known s c kind k v e
 
 -- in [0] with body v, which ends where e begins
 module _ (s : List ℕ) (c : Cursor) (full : Bool) (free : full ≡ false) (v e n : Cursor) (head : c .at + 3 ≤ v .at)
     (order : v .at ≤ v .end) (stop : e .at ≡ v .end) (inside : e .at ≤ length s) where
-  leaf-of : (kind : BagKind) (x : PartsAt) → ((p : Parts) (k : ℕ) (f : Cursor) → x ≡ PartsAt.Found p k f → Past s v 0 k f) → OfBag s c full (leafOf kind x e n)
+  leaf-of : (kind : BagKind) → isNested kind ≡ false → (x : PartsAt)
+      → ((p : Parts) (k : ℕ) (f : Cursor) → x ≡ PartsAt.Found p k f → Past s v 0 k f)
+      → OfBag s c full (leafOf kind x e n)
   unfolding leafOf
-  leaf-of kind (PartsAt.Refused f) past = tt
-  leaf-of kind (PartsAt.Found p k f) past =
-      let o = past p k f refl in
-      (free, omega (arith, head, o .long, o .within, stop), inside)
+  leaf-of kind not (PartsAt.Refused f) past = tt
+  leaf-of kind not (PartsAt.Found p k f) past =
+      let o = past p k f refl in (
+        free,
+        record {
+          counted = omega (arith, head, o .long, o .within, stop);
+          inside = inside;
+          nested = λ h. absurd (not-true (sym not ∙ h));
+        },
+      )
 
   value-of : (kind : BagKind) → OfBag s c full (bagValueAt s kind v e n)
   unfolding bagValueAt
   value-of BagKind.None = tt
-  value-of Key = leaf-of Key _ (λ p k f q. key-past s v _ p k f refl q)
-  value-of ShroudedKey = leaf-of ShroudedKey _ (λ p k f q. sealed-past s v _ p k f refl q)
-  value-of Certificate = leaf-of Certificate _ (λ p k f q. typed-past true s v _ p k f refl q)
-  value-of Crl = leaf-of Crl _ (λ p k f q. typed-past false s v _ p k f refl q)
-  value-of Secret = leaf-of Secret _ (λ p k f q. typed-past false s v _ p k f refl q)
-  value-of Nested = (free, head, omega (arith, order, stop, inside), omega (arith, stop))
+  value-of Key = leaf-of Key refl _ (λ p k f q. key-past s v _ p k f refl q)
+  value-of ShroudedKey = leaf-of ShroudedKey refl _ (λ p k f q. sealed-past s v _ p k f refl q)
+  value-of Certificate = leaf-of Certificate refl _ (λ p k f q. typed-past true s v _ p k f refl q)
+  value-of Crl = leaf-of Crl refl _ (λ p k f q. typed-past false s v _ p k f refl q)
+  value-of Secret = leaf-of Secret refl _ (λ p k f q. typed-past false s v _ p k f refl q)
+  value-of Nested = (
+    free,
+    record {
+      counted = omega (arith, head, order, stop);
+      inside = inside;
+      nested = λ h. (head, omega (arith, stop));
+    },
+  )
 
 bag-of : (s : List ℕ) (full : Bool) (c : Cursor) → OfBag s c full (bagHeadAt s full c)
 unfolding bagHeadAt bagOfAt
@@ -81,100 +108,131 @@ bag-of s full c =
     (λ z.
     by-expect s (OfBag s c full) _ (λ f. tt) m contextTag _
     (λ t v e q.
-    value-of s c full y v e n (omega (arith, h, j, q)) (q .size) (q .stop) (omega (arith, h, j, q)) (kindOf (bytesOf s i)))))))
+    value-of s c full y v e n (omega (arith, h, j, q)) (q .size) (q .stop) (omega (arith, h, j, q))
+    (kindOf (bytesOf s i)))))))
 
--- the row of a bag, and a bag of a safe and its enclosing bag in the table t₀ at c
-module _ (s : List ℕ) (below safe : ℕ) (enclosing : Enclosing) (t₀ : Table) (c : Cursor) where
-  abbrev bagRowOf : BagKind → Parts → Cursor → BagRow
-  bagRowOf kind p e = bagRow kind safe enclosing p (ltb (e .at) (e .end))
+-- what is in a bag whose row is stored ends before its attributes: it counts no more elements than
+-- there are bytes
+module _ (below : ℕ) (s : List ℕ) (safe number : ℕ) (st : Rows) (c : Cursor) (k : ℕ) (v e : Cursor) (st′ : Rows)
+    (f : Cursor) (i : ℕ)
+    (b : st .count ≤ c .at + k + i) where
+  leaf-count : c .at + k ≤ e .at → Went st v ≡ Went st′ f → st′ .count ≤ e .at + i
+  leaf-count o h =
+      let z : st .count ≡ st′ .count = ap (λ (x : Walked). onWalked x (λ g. 0) (λ u g. u .count)) h in
+      omega (arith, z, b, o)
 
+  inside-count : (kind : BagKind) → Known s c kind k v e
+      → insideAt (safeContentsAt below s) kind safe number st v ≡ Went st′ f
+      → st′ .count ≤ e .at + i
+  unfolding insideAt
+  inside-count kind o h = go (isNested kind) refl h
+    where
+      go : (b : Bool) → isNested kind ≡ b
+          → (if b then safeContentsAt below s (owner safe (Enclosing.Bag number)) st v else Went st v) ≡ Went st′ f
+          → st′ .count ≤ e .at + i
+      go false n h = leaf-count (o .counted) h
+      go true n h =
+          let x = contents-past below s _ st v st′ f h in
+          let y = o .nested n in
+          omega (arith, b, x .long, x .within, y .0, y .1)
+
+-- in a bag whose row is stored
+module _ (below : ℕ) (s : List ℕ) (kind : BagKind) (safe number : ℕ) (m : List ℕ) (k : Counts) (c : Cursor)
+    (pre : Inside s m kind number k (c .at)) where
+  abbrev inBag : Walked
+  inBag = insideAt (safeContentsAt below s) kind safe number (rowsAt m k) c
+
+  module _ (b : Bool) (e : b ≡ isNested kind) where
+    pub inside-nested : b ≡ true → (m′ : List ℕ) (r : Progress)
+        → Shown m′ r (safeContentsAt below s (owner safe (Enclosing.Bag number)) (rowsAt m k) c) → Shown m′ r inBag
+    unfolding insideAt
+    inside-nested y m′ r h = rw (sym e ∙ y) h
+
+    pub inside-ready : b ≡ true → EnclosingFits (Enclosing.Bag number) × Ready s m k (c .at)
+    inside-ready y = (pre .fits, pre .ready (sym e ∙ y))
+
+    pub inside-leaf : b ≡ false → Shown m (record { answer = Accepted; counts = k; next = c }) inBag
+    unfolding insideAt
+    inside-leaf y = shown-went m _ inBag refl (pre .held) (rw (sym e ∙ y))
+
+-- a bag of a safe and its enclosing bag at c, where the memory m holds the rows before
+module _ (s : List ℕ) (below safe : ℕ) (enclosing : Enclosing) (m : List ℕ) (k : Counts) (c : Cursor) where
   abbrev wholeBag : Walked
-  wholeBag = bagAt (safeContentsAt below s) s (owner safe enclosing) (rowsIn t₀) c
+  wholeBag = bagAt (safeContentsAt below s) s (owner safe enclosing) (rowsAt m k) c
 
-  module _ (ready : Ready s t₀ (c .at)) (w : Before) (p : w ≡ bagHeadAt s (leb bagRows (t₀ .«bag_count»)) c) where
+  module _ (pre : EnclosingFits enclosing × Ready s m k (c .at)) (w : Before)
+      (p : w ≡ bagHeadAt s (leb bagRows (k .bags)) c) where
     bag-is : wholeBag
         ≡ onBag w Refused
-        (λ kind p k f e n. bagEndAt s (t₀ .«bag_count») (addBag (rowsIn t₀) (bagRowOf kind p e) k) f e n)
-        (λ v e n.
-        onWalked (safeContentsAt below s (owner safe (Bag (t₀ .«bag_count»))) (addBag (rowsIn t₀) (bagRowOf Nested noParts e) 3) v) Refused
-        (λ st′ f. bagEndAt s (t₀ .«bag_count») st′ f e n))
-    bag-is = sym (bag-law (safeContentsAt below s) s (owner safe enclosing) (rowsIn t₀) c) ∙ rw (← bag-count t₀ (ready .rows), ← p)
+        (λ kind p j v e n.
+        onWalked (insideAt (safeContentsAt below s) kind safe (k .bags)
+        (addBag (rowsAt m k) (bagRow kind safe enclosing p (ltb (e .at) (e .end))) j) v) Refused
+        (λ st′ f. bagEndAt s (k .bags) st′ f e n))
+    bag-is = sym (bag-law (safeContentsAt below s) s (owner safe enclosing) (rowsAt m k) c) ∙ rw (bag-count m k, ← p)
 
-    facts : OfBag s c (leb bagRows (t₀ .«bag_count»)) w
-    facts = rw (← p) at (bag-of s (leb bagRows (t₀ .«bag_count»)) c)
+    facts : OfBag s c (leb bagRows (k .bags)) w
+    facts = rw (← p) at (bag-of s (leb bagRows (k .bags)) c)
 
-    pub bag-refused : (f : Fault) (r : Progress) → w ≡ Before.Refused f → r ≡ progress (Refused f) → r ≡ progress wholeBag
-    bag-refused f r q h = rw (bag-is, q) h
+    pub bag-refused : (f : Fault) (r : Progress) → w ≡ Before.Refused f → r ≡ refusedProgress f → Shown m r wholeBag
+    bag-refused f r q i = shown-stop m r wholeBag f (bag-is ∙ rw q) i
 
-    -- a bag that holds no bags
-    module _ (kind : BagKind) (a : Parts) (k : ℕ) (f e n : Cursor) (q : w ≡ Before.Leaf kind a k f e n) where
-      leaf-facts : (leb bagRows (t₀ .«bag_count») ≡ false) × (c .at + k ≤ e .at) × (e .at ≤ length s)
-      leaf-facts = rw q at facts
+    module _ (kind : BagKind) (a : Parts) (j : ℕ) (v e n : Cursor) (q : w ≡ Before.Found kind a j v e n) where
+      found-facts : (leb bagRows (k .bags) ≡ false) × Known s c kind j v e
+      found-facts = rw q at facts
 
-      pub leaf-room : t₀ .«bag_count» < bagRows
-      leaf-room = leb-false bagRows (t₀ .«bag_count») (leaf-facts .0)
+      pub bag-few : k .bags < bagRows
+      bag-few = leb-false bagRows (k .bags) (found-facts .0)
 
-      pub leaf-fits : Fits w64 (t₀ .elements + k)
+      pub bag-fits : Fits w64 (k .elements + j)
       unfolding startCount
-      leaf-fits = let o = leaf-facts in omega (arith, ready .counted, ready .short, o .1, o .2)
+      bag-fits = let o = found-facts .1 in omega (arith, pre .1 .counted, pre .1 .short, o .counted, o .inside)
 
-      -- its row, which the code holds as `row`
-      module _ (row : BagRow) (u : row ≡ bagRowOf kind a e) where
-        leaf-stored : storedBag t₀ row k ≡ tableOf (addBag (rowsIn t₀) row k) noMac
-        leaf-stored = stored-bag t₀ (ready .rows) row k leaf-room
+      -- its row is stored
+      module _ (row : BagRow) (u : row ≡ bagRow kind safe enclosing a (ltb (e .at) (e .end))) (m′ : List ℕ)
+          (t : m′ ≡ bagStored m (k .bags) row) where
+        row-fits : BagFits row
+        row-fits = rw u (pre .0)
 
-        pub leaf-ready : Ready s (storedBag t₀ row k) (e .at)
-        leaf-ready = let o = leaf-facts in record { short = ready .short; rows = rows-again _ _ leaf-stored; counted = omega (arith, ready .counted, o .1) }
+        stored-rows : rowsAt m′ (withBag k j) ≡ addBag (rowsAt m k) row j
+        stored-rows = rows-with-bag m k (pre .1 .held) m′ row j row-fits bag-few t
 
-        pub leaf-returns : (r : Progress) → r ≡ progress (bagEndAt s (t₀ .«bag_count») (rowsIn (storedBag t₀ row k)) f e n) → r ≡ progress wholeBag
-        leaf-returns r h = rw (bag-is, q, ← u, ← rows-of _ _ leaf-stored) h
+        stored-held : Holds m′ (rowsAt m′ (withBag k j))
+        stored-held = held-with-bag m k (pre .1 .held) m′ row j row-fits bag-few t
 
-    -- a bag that holds bags
-    module _ (v e n : Cursor) (q : w ≡ Before.Nested v e n) where
-      nested-facts : (leb bagRows (t₀ .«bag_count») ≡ false) × (c .at + 3 ≤ v .at) × (v .at ≤ length s) × (v .end ≤ e .at)
-      nested-facts = rw q at facts
-
-      pub nested-room : t₀ .«bag_count» < bagRows
-      nested-room = leb-false bagRows (t₀ .«bag_count») (nested-facts .0)
-
-      pub nested-fits : Fits w64 (t₀ .elements + 3)
-      unfolding startCount
-      nested-fits = let o = nested-facts in omega (arith, ready .counted, ready .short, o .1, o .2)
-
-      -- its row, which the code holds as `row`
-      module _ (row : BagRow) (u : row ≡ bagRowOf Nested noParts e) where
-        nested-stored : storedBag t₀ row 3 ≡ tableOf (addBag (rowsIn t₀) row 3) noMac
-        nested-stored = stored-bag t₀ (ready .rows) row 3 nested-room
-
-        pub nested-ready : Ready s (storedBag t₀ row 3) (v .at)
-        nested-ready =
-            let o = nested-facts in
+        pub bag-inside : Inside s m′ kind (k .bags) (withBag k j) (v .at)
+        bag-inside =
             record {
-              short = ready .short;
-              rows = rows-again _ _ nested-stored;
-              counted = omega (arith, ready .counted, o .1);
+              held = stored-held;
+              fits = omega (arith, bag-few);
+              ready =
+                  λ h.
+                  let o = found-facts .1 .nested h in
+                  record {
+                    short = pre .1 .short;
+                    held = stored-held;
+                    counted = omega (arith, pre .1 .counted, o .0);
+                  };
             }
 
-        -- the contents in it, which the code holds as y
+        -- what is in it, which the code holds as y, in the memory m₁
         abbrev innerOf : Walked
-        innerOf = safeContentsAt below s (owner safe (Bag (t₀ .«bag_count»))) (rowsIn (storedBag t₀ row 3)) v
+        innerOf = insideAt (safeContentsAt below s) kind safe (k .bags) (rowsAt m′ (withBag k j)) v
 
-        nested-is : wholeBag ≡ onWalked innerOf Refused (λ st′ f. bagEndAt s (t₀ .«bag_count») st′ f e n)
-        nested-is = bag-is ∙ rw (q, ← u, ← rows-of _ _ nested-stored)
+        found-is : wholeBag ≡ onWalked innerOf Refused (λ st′ f. bagEndAt s (k .bags) st′ f e n)
+        found-is = bag-is ∙ rw (q, ← u, ← stored-rows)
 
-        module _ (y : Progress) (z : y ≡ progress innerOf) where
-          pub nested-refused : (f : Fault) → y .answer ≡ Answer.Refused f → y ≡ progress wholeBag
-          nested-refused f h = let x = progress-refused innerOf y f z h in rw (nested-is, x) (z ∙ rw x)
+        module _ (m₁ : List ℕ) (y : Progress) (z : Shown m₁ y innerOf) where
+          pub inner-refused : (f : Fault) → y .answer ≡ Answer.Refused f → Shown m₁ y wholeBag
+          inner-refused f h = shown-refused m₁ y wholeBag f (found-is ∙ rw (walk-refused m₁ y innerOf f z h)) h
 
-          pub nested-on : y .answer ≡ Accepted → Ready s (y .table) (e .at)
-          nested-on h =
-              let o = nested-facts in
-              let x = contents-past below s _ _ v _ (y .next) (progress-went innerOf y z h) in
-              let i : rowsIn (y .table) .count ≡ y .table .elements = count-of (y .table) in
-              let j : rowsIn (storedBag t₀ row 3) .count ≡ t₀ .elements + 3 = count-of (storedBag t₀ row 3) in
-              record { short = ready .short; rows = progress-rows innerOf y z; counted = omega (arith, ready .counted, o .1, o .3, x .long, x .within, i, j) }
+          pub inner-on : y .answer ≡ Accepted → Ready s m₁ (y .counts) (e .at)
+          inner-on h =
+              let i : rowsAt m₁ (y .counts) .count ≡ y .counts .elements = count-of m₁ (y .counts) in
+              let l : rowsAt m′ (withBag k j) .count ≡ k .elements + j = count-of m′ (withBag k j) in
+              let x = inside-count below s safe (k .bags) (rowsAt m′ (withBag k j)) c j v e _ (y .next) startCount
+              (omega (arith, l, pre .1 .counted)) kind (found-facts .1) (walk-went m₁ y innerOf z h) in
+              record { short = pre .1 .short; held = z .held h; counted = omega (arith, i, x) }
 
-          pub nested-returns : (r : Progress) → y .answer ≡ Accepted
-              → r ≡ progress (bagEndAt s (t₀ .«bag_count») (rowsIn (y .table)) (y .next) e n)
-              → r ≡ progress wholeBag
-          nested-returns r h i = rw (nested-is, progress-went innerOf y z h) i
+          pub bag-ends : (m₂ : List ℕ) (r : Progress) → y .answer ≡ Accepted
+              → Shown m₂ r (bagEndAt s (k .bags) (rowsAt m₁ (y .counts)) (y .next) e n) → Shown m₂ r wholeBag
+          bag-ends m₂ r h i = rw (found-is, walk-went m₁ y innerOf z h) i

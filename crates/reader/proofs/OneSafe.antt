@@ -23,7 +23,7 @@ use Rattle.buffer.specs.Numbers.{fileBytes}
 use Rattle.pkcs12.specs.Numbers.{safeRows, levels}
 use Rattle.range.specs.Bytes.{sameBytes}
 use Rattle.pkcs12.specs.Identifiers.{dataType, encryptedType, envelopedType}
-use Rattle.pkcs12.specs.Table.{Rows, safeRow, noParts, noMac, table, tableOf, emptyTable, rowsIn}
+use Rattle.pkcs12.specs.Table.{safeRow, noParts}
 use Rattle.pkcs12.specs.Walk.{rangeOf, onParts, encryptedAt, Walked, Refused, Went, onWalked, run, addSafe, owner}
 use Rattle.pkcs12.specs.Walk.{safeContentsAt, safeAt, startRows}
 use Rattle.range.specs.declared.Range.{Range}
@@ -33,18 +33,24 @@ use Rattle.pkcs12.specs.declared.kind.SafeKind.the-variants.{Plain, Encrypted}
 use Rattle.pkcs12.specs.declared.row.Enclosing.{Enclosing}
 use Rattle.pkcs12.specs.declared.answers.Answer.{Answer}
 use Rattle.pkcs12.specs.declared.answers.Answer.the-variants.{Accepted}
-use Rattle.pkcs12.specs.declared.table.Table.{Table}
-use Rattle.pkcs12.proofs.Corollaries.{rows-in-table}
+use Rattle.words.specs.Layout.{tableWords}
+use Rattle.words.specs.InPlace.{safeStored, inputStored}
+use Rattle.words.specs.declared.Counts.{Counts}
+use Rattle.load.specs.Holds.{Holds, rowsAt}
+use Rattle.load.proofs.Held.{safe-count, count-of}
+use Rattle.load.proofs.Counted.{withSafe, rows-with-safe, held-with-safe, rows-first, held-first}
 use Rattle.reader.specs.Steps.{onContents, onOctets, dataHeadAt, bothAt, plainHeadAt, encryptedHeadAt, safeOfAt}
-use Rattle.reader.specs.Steps.{safeHeadAt, closedAt, progress, startCount, Ready}
+use Rattle.reader.specs.Steps.{safeHeadAt, closedAt, plainSafeAt, startCount}
+use Rattle.pkcs12.specs.declared.row.SafeRow.{SafeRow}
+use Rattle.reader.specs.Memory.{Ready, ReadyForSafe, refusedProgress, shownIn, Shown}
 use Rattle.reader.specs.declared.safes.Octets.{Octets}
 use Rattle.reader.specs.declared.safes.Contents.{Contents}
 use Rattle.reader.specs.declared.rows.Progress.{Progress}
 use Rattle.reader.proofs.Past.{safe-past}
 use Rattle.parts.proofs.Past.{Past, by-expect, by-identifier}
-use Rattle.reader.proofs.BridgeRows.{safe-law, progress-rows}
-use Rattle.reader.proofs.Stores.{storedSafe, safe-count, stored-safe, rows-of, rows-again}
-use Rattle.reader.proofs.Loops.{Rowing, rowing-start, rowing-end, rowing-refused, rowing-on, count-of}
+use Rattle.reader.proofs.BridgeRows.{safe-law}
+use Rattle.reader.proofs.Shown.{shown-stop, shown-refused, shown-went, walk-went, walk-refused}
+use Rattle.reader.proofs.Loops.{Rowing, rowing-start, rowing-end, rowing-refused, rowing-on}
 
 -- What is known of a safe before its bags are read: a row is left for it, and plain contents begin
 -- at least four bytes past its start.
@@ -58,7 +64,8 @@ module _ (s : List ℕ) (c : Cursor) (full : Bool) (free : full ≡ false) (m n 
   unfolding plainHeadAt dataHeadAt
   plain-of =
       by-expect s Good _ (λ f. tt) m contextTag _
-      (λ t v e h. by-expect s Good _ (λ f. tt) v octetStringTag _ (λ t o f j. (free, omega (arith, head, h, j), omega (arith, h, j))))
+      (λ t v e h. by-expect s Good _ (λ f. tt) v octetStringTag _
+      (λ t o f j. (free, omega (arith, head, h, j), omega (arith, h, j))))
     where
       Good : Octets → Type 0
       Good x = OfSafe s c full (onOctets x Contents.Refused (λ o f e. Contents.Plain o f e n))
@@ -71,7 +78,8 @@ module _ (s : List ℕ) (c : Cursor) (full : Bool) (free : full ≡ false) (m n 
           → OfSafe s c full (onParts x Contents.Refused
           (λ p k f. onChecked (bothAt f e) Contents.Refused (λ z g. Contents.Encrypted p (k + 3) n)))
       go e (PartsAt.Refused f) = tt
-      go e (PartsAt.Found p k f) = by-checked (OfSafe s c full) (λ x. Unit {0}) _ _ (λ f. tt) (λ z g u. free) (bothAt f e) tt
+      go e (PartsAt.Found p k f) =
+          by-checked (OfSafe s c full) (λ x. Unit {0}) _ _ (λ f. tt) (λ z g u. free) (bothAt f e) tt
 
   value-of : (type : List ℕ) (at : ℕ) → OfSafe s c full (safeOfAt s type at m n)
   unfolding safeOfAt
@@ -98,130 +106,192 @@ closed-not g a b c = refl
 abbrev closing : Walked → Cursor → Cursor → Cursor → Walked
 closing x f e n = onWalked x Refused (λ st g. onChecked (closedAt Accepted g f e) Refused (λ z h. Went st n))
 
-refused-at : (x : Walked) (f e n : Cursor) (h : Fault) → Checked.Refused h ≡ closedAt (progress x .answer) (progress x .next) f e → closing x f e n ≡ Refused h
-refused-at (Refused g) f e n h q = let z = q ∙ closed-not g _ f e in cc
-refused-at (Went st g) f e n h q = rw (← q)
+-- contents that the code holds as y, in the memory m
+module _ (m : List ℕ) (y : Progress) (f e n : Cursor) where
+  refused-at : (a : Answer) → y .answer ≡ a → (h : Fault) → Checked.Refused h ≡ closedAt a (y .next) f e
+      → closing (shownIn m y) f e n ≡ Refused h
+  refused-at (Answer.Refused g) u h q = let z = q ∙ closed-not g _ f e in rw u cc
+  refused-at Accepted u h q = rw (u, ← q)
 
-passed-at : (x : Walked) (f e n : Cursor) (k : ℕ) (o : Cursor)
-    → Passed k o ≡ closedAt (progress x .answer) (progress x .next) f e
-    → closing x f e n ≡ Went (rowsIn (progress x .table)) n
-passed-at (Refused g) f e n k o q = let z = q ∙ closed-not g _ f e in cc
-passed-at (Went st g) f e n k o q = rw (← q, rows-in-table st noMac)
+  passed-at : (a : Answer) → y .answer ≡ a → (k : ℕ) (o : Cursor) → Passed k o ≡ closedAt a (y .next) f e
+      → (y .answer ≡ Accepted) × (closing (shownIn m y) f e n ≡ Went (rowsAt m (y .counts)) n)
+  passed-at (Answer.Refused g) u k o q =
+      let z : _≡_ {A = ℕ} 0 1 = ap (λ (c : Checked). onChecked c (λ d. 1) (λ j d. 0)) (q ∙ closed-not g _ f e) in
+      absurd (omega (arith, z))
+  passed-at Accepted u k o q = (u, rw (u, ← q))
 
-module _ (x : Walked) (f e n : Cursor) (y : Progress) (z : y ≡ progress x) (v : Checked) (u : v ≡ closedAt (y .answer) (y .next) f e) where
+module _ (x : Walked) (f e n : Cursor) (m : List ℕ) (y : Progress) (z : Shown m y x) (v : Checked)
+    (u : v ≡ closedAt (y .answer) (y .next) f e) where
   closing-refused : (h : Fault) → v ≡ Checked.Refused h → closing x f e n ≡ Refused h
-  closing-refused h q = refused-at x f e n h (sym q ∙ u ∙ rw z)
+  closing-refused h q = rw (z .walk) (refused-at m y f e n (y .answer) refl h (sym q ∙ u))
 
-  closing-passed : (k : ℕ) (o : Cursor) → v ≡ Passed k o → closing x f e n ≡ Went (rowsIn (y .table)) n
-  closing-passed k o q = rw z (passed-at x f e n k o (sym q ∙ u ∙ rw z))
+  closing-passed : (k : ℕ) (o : Cursor) → v ≡ Passed k o
+      → (y .answer ≡ Accepted) × (closing x f e n ≡ Went (rowsAt m (y .counts)) n)
+  closing-passed k o q = rw (z .walk) (passed-at m y f e n (y .answer) refl k o (sym q ∙ u))
 
--- the table at the first safe, from the empty one, with the MAC input m
-pub started : (t : Table) (i : Range) (m : Cursor) → t ≡ emptyTable → i ≡ rangeOf m
-    → table (t .safes) (t .«safe_count») (t .bags) (t .«bag_count») (t .attributes) (t .«attribute_count») (t .mac) i 7 ≡ tableOf (startRows m) noMac
-unfolding emptyTable tableOf
-started t i m e f = rw (e, f)
+-- the memory at the first safe: the MAC input is stored, and nothing is counted but what is before
+-- the first safe
+abbrev pub startCounts : Counts
+startCounts = record { safes = 0; bags = 0; attributes = 0; elements = 7 }
 
-pub safes-start : (s : List ℕ) (m b : Cursor) (t : Table) → length s ≤ fileBytes → t ≡ tableOf (startRows m) noMac
-    → Rowing s (safeAt s) (b .end) (run (safeAt s) (rowsIn t) b) t (b .at)
-unfolding startCount
-safes-start s m b t h e =
-    let k : t .elements ≡ 7 = sym (count-of t) ∙ rw (rows-of t (startRows m) e) in
-    rowing-start s (safeAt s) t b (record { short = h; rows = rows-again t _ e; counted = omega (arith, k) })
+module _ (s : List ℕ) (i b : Cursor) (m : List ℕ) (r : Range) (h : length s ≤ fileBytes) (l : tableWords ≤ length m)
+    (e : r ≡ rangeOf i) (m′ : List ℕ) (p : m′ ≡ inputStored m r) where
+  start-held : Holds m′ (rowsAt m′ startCounts)
+  start-held = rw p (held-first m r l 7)
 
--- the answer from that table is the walk's
-pub safes-from : (s : List ℕ) (m b : Cursor) (t : Table) (r : Progress) → t ≡ tableOf (startRows m) noMac → r ≡ progress (run (safeAt s) (rowsIn t) b)
-    → r ≡ progress (run (safeAt s) (startRows m) b)
-safes-from s m b t r e h = rw (← rows-of t (startRows m) e) h
+  start-rows : rowsAt m′ startCounts ≡ startRows i
+  start-rows = rw (p, ← e) (rows-first m r l 7)
 
--- the safes of a body b, from some rows on; then a turn in the table t at an offset
-module _ (s : List ℕ) (st₀ : Rows) (b : Cursor) where
+  pub safes-ready : Ready s m′ startCounts (b .at)
+  unfolding startCount
+  safes-ready = record { short = h; held = start-held; counted = omega arith }
+
+  -- the answer from there is the walk's
+  pub safes-from : (m₁ : List ℕ) (y : Progress) → Shown m₁ y (run (safeAt s) (rowsAt m′ startCounts) b)
+      → Shown m₁ y (run (safeAt s) (startRows i) b)
+  safes-from m₁ y z = rw (← start-rows) z
+
+-- ---- a plain safe whose contents are at o, behind the rows that are counted
+
+module _ (s : List ℕ) (m : List ℕ) (k : Counts) (o f e n : Cursor) (pre : ReadyForSafe s m k (o .at)) where
+  abbrev wholePlain : Walked
+  wholePlain = plainSafeAt s (rowsAt m k) o f e n
+
+  pub plain-fits : Fits w64 (k .elements + 4)
+  unfolding startCount
+  plain-fits = omega (arith, pre .counted, pre .short, pre .inside)
+
+  -- its row is stored
+  module _ (row : SafeRow) (r : row ≡ safeRow Plain noParts) (m′ : List ℕ) (t : m′ ≡ safeStored m (k .safes) row) where
+    stored : m′ ≡ safeStored m (k .safes) (safeRow Plain noParts)
+    stored = rw r at t
+
+    pub plain-ready : Ready s m′ (withSafe k 4) (o .at)
+    plain-ready =
+        record {
+          short = pre .short;
+          held = held-with-safe m k (pre .held) m′ _ 4 (pre .few) stored;
+          counted = pre .counted;
+        }
+
+    abbrev innerOf : Walked
+    innerOf = safeContentsAt levels s (owner (k .safes) Enclosing.None) (rowsAt m′ (withSafe k 4)) o
+
+    plain-is : wholePlain ≡ closing innerOf f e n
+    unfolding plainSafeAt
+    plain-is =
+        rw (safe-count m k, ← rows-with-safe m k (pre .held) m′ (safeRow Plain noParts) 4 (pre .few) stored)
+
+    -- the contents in it, which the code holds as y, in the memory m₁
+    module _ (m₁ : List ℕ) (y : Progress) (z : Shown m₁ y innerOf) (v : Checked)
+        (u : v ≡ closedAt (y .answer) (y .next) f e) where
+      pub plain-refused : (i : Fault) (x : Progress) → v ≡ Checked.Refused i → x ≡ refusedProgress i
+          → Shown m₁ x wholePlain
+      plain-refused i x q c = shown-stop m₁ x wholePlain i (plain-is ∙ closing-refused innerOf f e n m₁ y z v u i q) c
+
+      pub plain-went : (j : ℕ) (d : Cursor) → v ≡ Passed j d
+          → Shown m₁ (record { answer = Accepted; counts = y .counts; next = n }) wholePlain
+      plain-went j d q =
+          let w = closing-passed innerOf f e n m₁ y z v u j d q in
+          shown-went m₁ _ wholePlain refl (z .held (w .0)) (plain-is ∙ w .1)
+
+-- ---- a safe at c
+
+module _ (s : List ℕ) (m : List ℕ) (k : Counts) (c : Cursor) where
+  abbrev wholeSafe : Walked
+  wholeSafe = safeAt s (rowsAt m k) c
+
+  module _ (ready : Ready s m k (c .at)) (w : Contents) (p : w ≡ safeHeadAt s (leb safeRows (k .safes)) c) where
+    head-is : w ≡ safeHeadAt s (leb safeRows (length (rowsAt m k .safes))) c
+    head-is = p ∙ ap (λ (n : ℕ). safeHeadAt s (leb safeRows n) c) (sym (safe-count m k))
+
+    safe-is : wholeSafe
+        ≡ onContents w Refused (λ o f e n. plainSafeAt s (rowsAt m k) o f e n)
+        (λ p j n. Went (addSafe (rowsAt m k) (safeRow Encrypted p) j) n)
+    unfolding plainSafeAt
+    safe-is = sym (safe-law s (rowsAt m k) c) ∙ rw (← head-is)
+
+    facts : OfSafe s c (leb safeRows (k .safes)) w
+    facts = rw (← p) at (safe-of s (leb safeRows (k .safes)) c)
+
+    pub safe-refused : (f : Fault) (r : Progress) → w ≡ Contents.Refused f → r ≡ refusedProgress f
+        → Shown m r wholeSafe
+    safe-refused f r q i = shown-stop m r wholeSafe f (safe-is ∙ rw q) i
+
+    -- an encrypted safe
+    module _ (a : Parts) (j : ℕ) (n : Cursor) (q : w ≡ Contents.Encrypted a j n) where
+      sealed-is : wholeSafe ≡ Went (addSafe (rowsAt m k) (safeRow Encrypted a) j) n
+      sealed-is = safe-is ∙ rw q
+
+      pub sealed-few : k .safes < safeRows
+      sealed-few = leb-false safeRows (k .safes) (rw q at facts)
+
+      pub sealed-fits : Fits w64 (k .elements + j)
+      unfolding startCount
+      sealed-fits =
+          let o = safe-past s (rowsAt m k) c _ n sealed-is in
+          let i = count-of m k in
+          omega (arith, i, ready .counted, ready .short, o .long, o .within, o .inside)
+
+      pub sealed-went : (row : SafeRow) → row ≡ safeRow Encrypted a → (m′ : List ℕ) → m′ ≡ safeStored m (k .safes) row
+          → Shown m′ (record { answer = Accepted; counts = withSafe k j; next = n }) wholeSafe
+      sealed-went row r m′ t =
+          let u : m′ ≡ safeStored m (k .safes) (safeRow Encrypted a) = rw r at t in
+          shown-went m′ _ wholeSafe refl (held-with-safe m k (ready .held) m′ _ j sealed-few u)
+          (sealed-is ∙ rw (rows-with-safe m k (ready .held) m′ (safeRow Encrypted a) j sealed-few u))
+
+    -- a plain safe
+    module _ (o f e n : Cursor) (q : w ≡ Contents.Plain o f e n) where
+      plain-facts : (leb safeRows (k .safes) ≡ false) × (c .at + 4 ≤ o .at) × (o .at ≤ length s)
+      plain-facts = rw q at facts
+
+      pub plain-requires : ReadyForSafe s m k (o .at)
+      plain-requires =
+          let x = plain-facts in
+          record {
+            short = ready .short;
+            held = ready .held;
+            few = leb-false safeRows (k .safes) (x .0);
+            counted = omega (arith, ready .counted, x .1);
+            inside = x .2;
+          }
+
+      pub plain-shown : (m₁ : List ℕ) (r : Progress) → Shown m₁ r (plainSafeAt s (rowsAt m k) o f e n)
+          → Shown m₁ r wholeSafe
+      plain-shown m₁ r h = rw (safe-is, q) h
+
+-- ---- the safes of a body b, behind the rows that are counted; then a turn
+
+module _ (s : List ℕ) (m₀ : List ℕ) (k₀ : Counts) (b : Cursor) where
   abbrev wholeSafes : Walked
-  wholeSafes = run (safeAt s) st₀ b
+  wholeSafes = run (safeAt s) (rowsAt m₀ k₀) b
 
-  module _ (t : Table) (at : ℕ) (g : Rowing s (safeAt s) (b .end) wholeSafes t at) where
-    pub safes-end : b .end ≤ at → record { answer = Accepted; table = t; next = cursor at (b .end) } ≡ progress wholeSafes
-    safes-end h =
-        rw (rowing-end s (safeAt s) _ _ t at g h)
-        (ap (λ (t : Table). record { answer = Accepted; table = t; next = cursor at (b .end) }) (g .ready .rows))
+  pub safes-start : Ready s m₀ k₀ (b .at) → Rowing s (safeAt s) (b .end) wholeSafes (length m₀) m₀ k₀ (b .at)
+  safes-start r = rowing-start s (safeAt s) m₀ k₀ b r
 
-    module _ (h : at < b .end) (w : Contents) (p : w ≡ safeHeadAt s (leb safeRows (t .«safe_count»)) (cursor at (b .end))) where
-      safe-is : safeAt s (rowsIn t) (cursor at (b .end))
-          ≡ onContents w Refused
-          (λ o f e n. closing (safeContentsAt levels s (owner (t .«safe_count») Enclosing.None) (addSafe (rowsIn t) (safeRow Plain noParts) 4) o) f e n)
-          (λ p k n. Went (addSafe (rowsIn t) (safeRow Encrypted p) k) n)
-      safe-is = sym (safe-law s (rowsIn t) (cursor at (b .end))) ∙ rw (← safe-count t (g .ready .rows), ← p)
+  module _ (m : List ℕ) (k : Counts) (at : ℕ) (g : Rowing s (safeAt s) (b .end) wholeSafes (length m₀) m k at) where
+    abbrev here : Cursor
+    here = cursor at (b .end)
 
-      facts : OfSafe s (cursor at (b .end)) (leb safeRows (t .«safe_count»)) w
-      facts = rw (← p) at (safe-of s (leb safeRows (t .«safe_count»)) (cursor at (b .end)))
+    pub safes-end : b .end ≤ at → Shown m (record { answer = Accepted; counts = k; next = here }) wholeSafes
+    safes-end h = shown-went m _ wholeSafes refl (g .ready .held) (rowing-end s (safeAt s) _ _ _ m k at g h)
 
-      -- a way out: the safe was refused
-      stops : (f : Fault) (r : Progress) → safeAt s (rowsIn t) (cursor at (b .end)) ≡ Refused f → r ≡ progress (Refused f) → r ≡ progress wholeSafes
-      stops f r e i = rw (rowing-refused s (safeAt s) _ _ t at g f h e) i
+    -- a turn, whose answer the code holds as y, in the memory m′
+    module _ (m′ : List ℕ) (l : length m′ ≡ length m) (y : Progress) (h : at < b .end)
+        (z : Shown m′ y (safeAt s (rowsAt m k) here)) where
+      pub safe-stops : (f : Fault) → y .answer ≡ Answer.Refused f → Shown m′ y wholeSafes
+      safe-stops f i =
+          shown-refused m′ y wholeSafes f
+          (rowing-refused s (safeAt s) _ _ _ m k at g f h (walk-refused m′ y (safeAt s (rowsAt m k) here) f z i)) i
 
-      pub safe-refused : (f : Fault) (r : Progress) → w ≡ Contents.Refused f → r ≡ progress (Refused f) → r ≡ progress wholeSafes
-      safe-refused f r q i = stops f r (safe-is ∙ rw q) i
+      safe-goes : y .answer ≡ Accepted → Past s here (rowsAt m k .count) (rowsAt m′ (y .counts) .count) (y .next)
+      safe-goes i = safe-past s (rowsAt m k) here _ (y .next) (walk-went m′ y (safeAt s (rowsAt m k) here) z i)
 
-      -- an encrypted safe
-      module _ (a : Parts) (k : ℕ) (n : Cursor) (q : w ≡ Contents.Encrypted a k n) where
-        sealed-is : safeAt s (rowsIn t) (cursor at (b .end)) ≡ Went (addSafe (rowsIn t) (safeRow Encrypted a) k) n
-        sealed-is = safe-is ∙ rw q
+      pub safe-on : y .answer ≡ Accepted
+          → Rowing s (safeAt s) (b .end) wholeSafes (length m₀) m′ (y .counts) (y .next .at)
+      safe-on i =
+          rowing-on s (safeAt s) _ _ _ m k at g _ (y .next) m′ (y .counts) h
+          (walk-went m′ y (safeAt s (rowsAt m k) here) z i) (safe-goes i) l refl (z .held i)
 
-        sealed-goes : Past s (cursor at (b .end)) (rowsIn t .count) (rowsIn t .count + k) n
-        sealed-goes = safe-past s (rowsIn t) _ _ n sealed-is
-
-        pub sealed-room : t .«safe_count» < safeRows
-        sealed-room = leb-false safeRows (t .«safe_count») (rw q at facts)
-
-        pub sealed-fits : Fits w64 (t .elements + k)
-        unfolding startCount
-        sealed-fits = let o = sealed-goes in omega (arith, g .ready .counted, g .ready .short, o .long, o .within, o .inside)
-
-        pub sealed-on : Rowing s (safeAt s) (b .end) wholeSafes (storedSafe t (safeRow Encrypted a) k) (n .at)
-        sealed-on = rowing-on s (safeAt s) _ _ t at g _ n _ h sealed-is sealed-goes (stored-safe t (g .ready .rows) _ k sealed-room)
-
-        pub sealed-less : b .end - n .at < b .end - at
-        sealed-less = omega (arith, sealed-goes .some)
-
-      -- a plain safe
-      module _ (o f e n : Cursor) (q : w ≡ Contents.Plain o f e n) where
-        plain-facts : (leb safeRows (t .«safe_count») ≡ false) × (at + 4 ≤ o .at) × (o .at ≤ length s)
-        plain-facts = rw q at facts
-
-        pub plain-room : t .«safe_count» < safeRows
-        plain-room = leb-false safeRows (t .«safe_count») (plain-facts .0)
-
-        pub plain-fits : Fits w64 (t .elements + 4)
-        unfolding startCount
-        plain-fits = let x = plain-facts in omega (arith, g .ready .counted, g .ready .short, x .1, x .2)
-
-        plain-stored : storedSafe t (safeRow Plain noParts) 4 ≡ tableOf (addSafe (rowsIn t) (safeRow Plain noParts) 4) noMac
-        plain-stored = stored-safe t (g .ready .rows) _ 4 plain-room
-
-        pub plain-ready : Ready s (storedSafe t (safeRow Plain noParts) 4) (o .at)
-        plain-ready =
-            let x = plain-facts in
-            record {
-              short = g .ready .short;
-              rows = rows-again _ _ plain-stored;
-              counted = omega (arith, g .ready .counted, x .1);
-            }
-
-        abbrev innerOf : Walked
-        innerOf = safeContentsAt levels s (owner (t .«safe_count») Enclosing.None) (rowsIn (storedSafe t (safeRow Plain noParts) 4)) o
-
-        plain-is : safeAt s (rowsIn t) (cursor at (b .end)) ≡ closing innerOf f e n
-        plain-is = safe-is ∙ rw (q, ← rows-of _ _ plain-stored)
-
-        module _ (y : Progress) (z : y ≡ progress innerOf) (v : Checked) (u : v ≡ closedAt (y .answer) (y .next) f e) where
-          pub plain-refused : (i : Fault) (r : Progress) → v ≡ Checked.Refused i → r ≡ progress (Refused i) → r ≡ progress wholeSafes
-          plain-refused i r x j = stops i r (plain-is ∙ closing-refused innerOf f e n y z v u i x) j
-
-          module _ (k : ℕ) (j : Cursor) (x : v ≡ Passed k j) where
-            plain-went : safeAt s (rowsIn t) (cursor at (b .end)) ≡ Went (rowsIn (y .table)) n
-            plain-went = plain-is ∙ closing-passed innerOf f e n y z v u k j x
-
-            pub plain-on : Rowing s (safeAt s) (b .end) wholeSafes (y .table) (n .at)
-            plain-on = rowing-on s (safeAt s) _ _ t at g _ n _ h plain-went (safe-past s (rowsIn t) _ _ n plain-went) (progress-rows innerOf y z)
-
-            pub plain-less : b .end - n .at < b .end - at
-            plain-less = omega (arith, safe-past s (rowsIn t) _ _ n plain-went .some)
+      pub safe-less : y .answer ≡ Accepted → b .end - y .next .at < b .end - at
+      safe-less i = omega (arith, safe-goes i .some)

@@ -40,7 +40,8 @@ abbrev PastRows : List ℕ → Cursor → ℕ → Walked → Type 0
 PastRows s c i = OfWalked (λ st n. Past s c i (st .count) n)
 
 -- the facts of the rows that a part returned
-rows-past : (s : List ℕ) (c : Cursor) (i : ℕ) (x : Walked) (st : Rows) (n : Cursor) → PastRows s c i x → x ≡ Went st n → Past s c i (st .count) n
+rows-past : (s : List ℕ) (c : Cursor) (i : ℕ) (x : Walked) (st : Rows) (n : Cursor) → PastRows s c i x → x ≡ Went st n
+    → Past s c i (st .count) n
 rows-past s c i x st n h e = rw e at h
 
 -- what is counted from `at` up to `end`, with i elements before it and j after it
@@ -49,10 +50,13 @@ pub record Room (at end i j : ℕ) : Type 0 where
   more : i ≤ j
 
 -- a run to the end of the body b of an element
-pub run-room : (s : List ℕ) (step : Rows → Cursor → Walked) → ((st : Rows) (c : Cursor) → PastRows s c (st .count) (step st c))
-    → (st : Rows) (b : Cursor) → b .at ≤ b .end → OfWalked (λ st′ n. Room (b .at) (b .end) (st .count) (st′ .count)) (run step st b)
+pub run-room : (s : List ℕ) (step : Rows → Cursor → Walked)
+    → ((st : Rows) (c : Cursor) → PastRows s c (st .count) (step st c))
+    → (st : Rows) (b : Cursor) → b .at ≤ b .end
+    → OfWalked (λ st′ n. Room (b .at) (b .end) (st .count) (st′ .count)) (run step st b)
 run-room s step each st b h =
-    run-of (rangeOf b) step (λ st c st′ n. In (rangeOf b) n × Past s c (st .count) (st′ .count) n) (λ st at st′. Room at (b .end) (st .count) (st′ .count))
+    run-of (rangeOf b) step (λ st c st′ n. In (rangeOf b) n × Past s c (st .count) (st′ .count) n)
+    (λ st at st′. Room at (b .end) (st .count) (st′ .count))
     (λ st c i. inside st c i (step st c) (each st c))
     (λ st c st′ n p. (p .0, p .1 .some))
     (λ st. record { long = omega arith; more = omega arith })
@@ -62,9 +66,11 @@ run-room s step each st b h =
     inside : (st : Rows) (c : Cursor) → In (rangeOf b) c → (x : Walked) → PastRows s c (st .count) x
         → OfWalked (λ st′ n. In (rangeOf b) n × Past s c (st .count) (st′ .count) n) x
     inside st c i (Refused f) p = tt
-    inside st c i (Went st′ n) p = (record { after = omega (arith, i, p); within = omega (arith, p); end = p .end ∙ i .end }, p)
+    inside st c i (Went st′ n) p =
+        (record { after = omega (arith, i, p); within = omega (arith, p); end = p .end ∙ i .end }, p)
 
-attribute-of : (s : List ℕ) (number : ℕ) (st : Rows) (c : Cursor) → PastRows s c (st .count) (attributeAt s number st c)
+attribute-of : (s : List ℕ) (number : ℕ) (st : Rows) (c : Cursor)
+    → PastRows s c (st .count) (attributeAt s number st c)
 unfolding attributeAt
 attribute-of s number st c =
     by-expect s Good _ (λ f. tt) c sequenceTag _
@@ -93,7 +99,8 @@ set-of s number st c l =
     (λ t b n h.
     by-walked Good _ (λ f. tt) (λ st′ f. Room (b .at) (b .end) (st .count + 1) (st′ .count)) _
     (λ st′ f r. by-finish Good _ (λ f. tt) n _ (λ z. record { long = omega (arith, h, r); more = omega (arith, r) }))
-    (run (attributeAt s number) (counting st 1) b) (run-room s (attributeAt s number) (attribute-of s number) (counting st 1) b (h .size))))
+    (run (attributeAt s number) (counting st 1) b)
+    (run-room s (attributeAt s number) (attribute-of s number) (counting st 1) b (h .size))))
     (λ y. by-finish Good _ (λ f. tt) c _ (λ z. record { long = omega arith; more = omega arith }))
   where
     Good : Walked → Type 0
@@ -104,10 +111,20 @@ leaf-of : (s : List ℕ) (c : Cursor) (kind : BagKind) (w : Owner) (h : Bool) (s
     → PastRows s c (st .count + 3) (leafAt x kind w h st)
 leaf-of s c kind w h st (PartsAt.Refused f) p = tt
 leaf-of s c kind w h st (PartsAt.Found y k n) p =
-    record { some = p .some; long = omega (arith, p); more = omega arith; within = p .within; inside = p .inside; end = p .end }
+    record {
+      some =
+          p .some;
+      long = omega (arith, p);
+      more = omega arith;
+      within = p .within;
+      inside = p .inside;
+      end = p .end;
+    }
 
-module _ (s : List ℕ) (inner : Owner → Rows → Cursor → Walked) (inner-of : (w : Owner) (st : Rows) (c : Cursor) → PastRows s c (st .count) (inner w st c)) where
-  content-of : (k : BagKind) (w : Owner) (h : Bool) (st : Rows) (c : Cursor) → PastRows s c (st .count + 3) (contentAt inner s k w h st c)
+module _ (s : List ℕ) (inner : Owner → Rows → Cursor → Walked)
+    (inner-of : (w : Owner) (st : Rows) (c : Cursor) → PastRows s c (st .count) (inner w st c)) where
+  content-of : (k : BagKind) (w : Owner) (h : Bool) (st : Rows) (c : Cursor)
+      → PastRows s c (st .count + 3) (contentAt inner s k w h st c)
   content-of BagKind.None w h st c = tt
   content-of Key w h st c = leaf-of s c Key w h st (keyAt s c) (key-of s c)
   content-of ShroudedKey w h st c = leaf-of s c ShroudedKey w h st (sealedAt s c) (sealed-of s c)
@@ -142,7 +159,8 @@ module _ (s : List ℕ) (inner : Owner → Rows → Cursor → Walked) (inner-of
       Good : Walked → Type 0
       Good = PastRows s c (st .count)
 
-contents-of : (l : ℕ) (s : List ℕ) (w : Owner) (st : Rows) (c : Cursor) → PastRows s c (st .count) (safeContentsAt l s w st c)
+contents-of : (l : ℕ) (s : List ℕ) (w : Owner) (st : Rows) (c : Cursor)
+    → PastRows s c (st .count) (safeContentsAt l s w st c)
 unfolding safeContentsAt
 contents-of zero s w st c = by-expect s (PastRows s c (st .count)) _ (λ f. tt) c sequenceTag _ (λ t b n h. tt)
 contents-of (suc l) s w st c =
@@ -151,7 +169,8 @@ contents-of (suc l) s w st c =
     by-walked (PastRows s c (st .count)) _ (λ f. tt) (λ st′ f. Room (b .at) (b .end) (st .count + 1) (st′ .count)) _
     (λ st′ f r. past-head s c b n (st .count) (st′ .count) h (omega (arith, r)) (omega (arith, r)))
     (run (bagAt (safeContentsAt l s) s w) (counting st 1) b)
-    (run-room s (bagAt (safeContentsAt l s) s w) (bag-of s (safeContentsAt l s) (contents-of l s) w) (counting st 1) b (h .size)))
+    (run-room s (bagAt (safeContentsAt l s) s w) (bag-of s (safeContentsAt l s) (contents-of l s) w) (counting st 1) b
+    (h .size)))
 
 -- a part as in `Past`, where it may be empty
 record Within (c : Cursor) (i j : ℕ) (n : Cursor) : Type 0 where
@@ -161,7 +180,8 @@ record Within (c : Cursor) (i j : ℕ) (n : Cursor) : Type 0 where
   pub end : n .end ≡ c .end
 
 -- two headers around what `inner` reads; four elements were counted before it
-data-of : (s : List ℕ) (inner : Cursor → Walked) (i : ℕ) → ((o : Cursor) → PastRows s o (i + 4) (inner o)) → (c : Cursor)
+data-of : (s : List ℕ) (inner : Cursor → Walked) (i : ℕ) → ((o : Cursor) → PastRows s o (i + 4) (inner o))
+    → (c : Cursor)
     → OfWalked (λ st n. Within c (i + 1) (st .count) n) (dataAt inner s c)
 unfolding dataAt
 data-of s inner i inner-of c =
@@ -217,7 +237,8 @@ safe-of s st c =
     by-identifier s Good _ (λ f. tt) b _
     (λ t i m j.
     by-walked Good _ (λ f. tt) (λ st′ e. Within m (st .count + 1) (st′ .count) e) _
-    (λ st′ e a. by-finish Good _ (λ f. tt) e _ (λ z. past-head s c b n (st .count) (st′ .count) h (omega (arith, a)) (omega (arith, j, a))))
+    (λ st′ e a. by-finish Good _ (λ f. tt) e _ (λ z. past-head s c b n (st .count) (st′ .count) h (omega (arith, a))
+    (omega (arith, j, a))))
     (safeValueAt s (bytesOf s i) (b .at) st m) (safe-value-of s (bytesOf s i) (b .at) st m))))
   where
     Good : Walked → Type 0
@@ -225,29 +246,34 @@ safe-of s st c =
 
 pub attribute-past : (s : List ℕ) (number : ℕ) (st : Rows) (c : Cursor) (st′ : Rows) (n : Cursor)
     → attributeAt s number st c ≡ Went st′ n → Past s c (st .count) (st′ .count) n
-attribute-past s number st c st′ n = rows-past s c (st .count) (attributeAt s number st c) st′ n (attribute-of s number st c)
+attribute-past s number st c st′ n =
+    rows-past s c (st .count) (attributeAt s number st c) st′ n (attribute-of s number st c)
 
 pub bag-past : (l : ℕ) (s : List ℕ) (w : Owner) (st : Rows) (c : Cursor) (st′ : Rows) (n : Cursor)
     → bagAt (safeContentsAt l s) s w st c ≡ Went st′ n → Past s c (st .count) (st′ .count) n
 bag-past l s w st c st′ n =
-    rows-past s c (st .count) (bagAt (safeContentsAt l s) s w st c) st′ n (bag-of s (safeContentsAt l s) (contents-of l s) w st c)
+    rows-past s c (st .count) (bagAt (safeContentsAt l s) s w st c) st′ n
+    (bag-of s (safeContentsAt l s) (contents-of l s) w st c)
 
 pub contents-past : (l : ℕ) (s : List ℕ) (w : Owner) (st : Rows) (c : Cursor) (st′ : Rows) (n : Cursor)
     → safeContentsAt l s w st c ≡ Went st′ n → Past s c (st .count) (st′ .count) n
 contents-past l s w st c st′ n = rows-past s c (st .count) (safeContentsAt l s w st c) st′ n (contents-of l s w st c)
 
-pub safe-past : (s : List ℕ) (st : Rows) (c : Cursor) (st′ : Rows) (n : Cursor) → safeAt s st c ≡ Went st′ n → Past s c (st .count) (st′ .count) n
+pub safe-past : (s : List ℕ) (st : Rows) (c : Cursor) (st′ : Rows) (n : Cursor) → safeAt s st c ≡ Went st′ n
+    → Past s c (st .count) (st′ .count) n
 safe-past s st c st′ n = rows-past s c (st .count) (safeAt s st c) st′ n (safe-of s st c)
 
 -- ---- the MAC
 
-iterations-of : (s : List ℕ) (p : Parts) (salt : Range) (k : ℕ) (c : Cursor) → OfMac (λ x j n. (k ≤ j) × (j ≤ k + 1)) (iterationsAt s p salt k c)
+iterations-of : (s : List ℕ) (p : Parts) (salt : Range) (k : ℕ) (c : Cursor)
+    → OfMac (λ x j n. (k ≤ j) × (j ≤ k + 1)) (iterationsAt s p salt k c)
 unfolding iterationsAt
 iterations-of s p salt k c =
     by-eq Good _ _ (tagAt s c) integerTag
     (λ t.
     by-integer s Good _ (λ f. tt) c _
-    (λ v e i. by-le Good _ _ v defaultIterations (λ y. tt) (λ y. by-finish Good _ (λ f. tt) e _ (λ z. (omega arith, omega arith)))))
+    (λ v e i. by-le Good _ _ v defaultIterations (λ y. tt)
+    (λ y. by-finish Good _ (λ f. tt) e _ (λ z. (omega arith, omega arith)))))
     (λ t. by-finish Good _ (λ f. tt) c _ (λ z. (omega arith, omega arith)))
   where
     Good : MacAt → Type 0

@@ -37,12 +37,14 @@ module _ {A : Type 0} where
   -- the iterations behind a salt, whose range the code made
   pub salted-refused : (s : List ℕ) (p : Parts) (x y : Range) (k : ℕ) (c : Cursor) (w : MacAt) (f : Fault) (r : A)
       (bad : Fault → A) (good : Mac → ℕ → Cursor → A)
-      → w ≡ iterationsAt s p x k c → x ≡ y → w ≡ MacAt.Refused f → r ≡ bad f → r ≡ onMac (iterationsAt s p y k c) bad good
+      → w ≡ iterationsAt s p x k c → x ≡ y → w ≡ MacAt.Refused f → r ≡ bad f
+      → r ≡ onMac (iterationsAt s p y k c) bad good
   salted-refused s p x y k c w f r bad good e z q h = rw (← z, ← e, q) h
 
   pub salted-found : (s : List ℕ) (p : Parts) (x y : Range) (k : ℕ) (c : Cursor) (w : MacAt) (m : Mac) (j : ℕ)
       (n : Cursor) (r : A) (bad : Fault → A) (good : Mac → ℕ → Cursor → A)
-      → w ≡ iterationsAt s p x k c → x ≡ y → w ≡ MacAt.Found m j n → r ≡ good m j n → r ≡ onMac (iterationsAt s p y k c) bad good
+      → w ≡ iterationsAt s p x k c → x ≡ y → w ≡ MacAt.Found m j n → r ≡ good m j n
+      → r ≡ onMac (iterationsAt s p y k c) bad good
   salted-found s p x y k c w m j n r bad good e z q h = rw (← z, ← e, q) h
 
 pub ruleset answers = (parts-answers, mac-refused, mac-found)

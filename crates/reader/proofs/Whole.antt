@@ -1,6 +1,6 @@
 -- The whole reading: what the code has learnt of the file at each step, and each way on from there,
 -- as the walk goes.
-use mathlib.Core.Path.{_≡_, refl, sym, _∙_}
+use mathlib.Core.Path.{_≡_, refl, sym, ap, _∙_}
 use mathlib.Core.List.{List}
 use Prim.Native.Nat.{ℕ, _+_, _≤_, _<_}
 use native.Mathlib.Omega.{arith}
@@ -20,30 +20,30 @@ use Rattle.der.proofs.Choices.{by-test, by-le}
 use Rattle.buffer.specs.Numbers.{fileBytes, tooLong}
 use Rattle.range.specs.Bytes.{sameBytes}
 use Rattle.pkcs12.specs.Identifiers.{dataType, signedType}
-use Rattle.pkcs12.specs.Table.{Rows, table, noMac, tableOf, emptyTable}
-use Rattle.pkcs12.specs.Walk.{Walked, Refused, Went, onWalked, run, counting, safeAt, startRows, onMac, macAt}
+use Rattle.pkcs12.specs.Table.{Rows, tableOf}
+use Rattle.pkcs12.specs.Walk.{onWalked, run, counting, safeAt, startRows, onMac, macAt}
 use Rattle.pkcs12.specs.Walk.{refused, readFile}
 use Rattle.pkcs12.specs.declared.row.Mac.{Mac}
 use Rattle.pkcs12.specs.declared.answers.MacAt.{MacAt}
-use Rattle.pkcs12.specs.declared.table.Table.{Table}
 use Rattle.pkcs12.specs.declared.answers.Answer.{Answer}
 use Rattle.pkcs12.specs.declared.answers.Answer.the-variants.{Accepted}
 use Rattle.pkcs12.specs.declared.answers.Reading.{Reading}
-use Rattle.pkcs12.proofs.AcceptedAttributes.{OfWalked}
 use Rattle.pkcs12.proofs.AcceptedOuter.{OfMac, by-mac}
 use Rattle.reader.specs.Steps.{onOctets, dataHeadAt, bothAt, closedAt, onOuter, pfxHeadAt, onOpened}
-use Rattle.reader.specs.Steps.{openedSafesAt, openedValueAt, openedInfoAt, openAt, lastAt, closeAt, progress}
+use Rattle.reader.specs.Steps.{openedSafesAt, openedValueAt, openedInfoAt, openAt, lastAt, closeAt}
+use Rattle.reader.specs.Memory.{shownIn, Shown, refusedSummary, Summed}
 use Rattle.reader.specs.declared.rows.Progress.{Progress}
+use Rattle.reader.specs.declared.Summary.{Summary}
 use Rattle.reader.specs.declared.safes.Octets.{Octets}
 use Rattle.reader.specs.declared.file.Outer.{Outer}
 use Rattle.reader.specs.declared.file.Opened.{Opened}
 use Rattle.reader.proofs.Past.{Room, run-room, safe-of, mac-of}
 use Rattle.parts.proofs.Past.{Past, by-expect, by-identifier}
 use Rattle.reader.proofs.BridgeFile.{file-law}
-
--- the table with the MAC and with its k elements
-abbrev pub withMac : Table → Mac → ℕ → Table
-withMac t x k = table (t .safes) (t .«safe_count») (t .bags) (t .«bag_count») (t .attributes) (t .«attribute_count») x (t .«mac_input») (t .elements + k)
+use Rattle.reader.proofs.Shown.{not-both, walk-went}
+use Rattle.load.specs.Holds.{rowsAt}
+use Rattle.load.proofs.Held.{count-of}
+use Rattle.load.proofs.Counted.{withCount, rows-counted, held-counted}
 
 -- ---- what is known of an opened file: the MAC input and the AuthenticatedSafe's body lie within
 -- the bytes
@@ -69,7 +69,8 @@ module _ (s : List ℕ) where
   opened-safes-of c mac file = go (dataHeadAt s c) (octets-of s c)
     where
       go : (x : Octets) → OfOctets s x
-          → OfOpened s (onOctets x Opened.Refused (λ o f e. onElement (expectAt sequenceTag s o) Opened.Refused (λ t b n. Opened.Found o b n f e mac file)))
+          → OfOpened s (onOctets x Opened.Refused (λ o f e. onElement (expectAt sequenceTag s o) Opened.Refused
+          (λ t b n. Opened.Found o b n f e mac file)))
       go (Octets.Refused f) h = tt
       go (Octets.Found o f e) h =
           by-expect s (OfOpened s) _ (λ f. tt) o sequenceTag _
@@ -100,7 +101,8 @@ abbrev Counted : List ℕ → MacAt → Type 0
 Counted s = OfMac (λ x k n. k ≤ length s)
 
 -- what is made of a check holds if it holds of all that a passed one leads to
-by-any : (s : List ℕ) (x : Checked) (good : ℕ → Cursor → MacAt) → ((z : ℕ) (g : Cursor) → Counted s (good z g)) → Counted s (onChecked x MacAt.Refused good)
+by-any : (s : List ℕ) (x : Checked) (good : ℕ → Cursor → MacAt) → ((z : ℕ) (g : Cursor) → Counted s (good z g))
+    → Counted s (onChecked x MacAt.Refused good)
 by-any s (Checked.Refused f) good p = tt
 by-any s (Passed z g) good p = p z g
 
@@ -113,52 +115,65 @@ last-of s c file =
     (λ x k n a. by-any s (bothAt n file) _ (λ z g. omega (arith, a)))
     (macAt s c) (mac-of s c))
 
-close-of : (s : List ℕ) (a : Answer) (safes string content mac file : Cursor) → Counted s (closeAt s a safes string content mac file)
+close-of : (s : List ℕ) (a : Answer) (safes string content mac file : Cursor)
+    → Counted s (closeAt s a safes string content mac file)
 unfolding closeAt
 close-of s a safes string content mac file = by-any s (closedAt a safes string content) _ (λ z g. last-of s mac file)
 
-count-of : (x : Walked) (at end : ℕ) → OfWalked (λ st n. Room at end 7 (st .count)) x → progress x .table .elements ≤ end + 7
-unfolding emptyTable tableOf
-count-of (Refused f) at end r = omega arith
-count-of (Went st n) at end r = omega (arith, r .long)
-
 -- ---- what is done with the answer of what follows the safes
 
-abbrev accepted : Table → Mac → ℕ → Cursor → Reading
-accepted t x k n = record { answer = Accepted; table = withMac t x k }
+abbrev accepted : Rows → Mac → ℕ → Cursor → Reading
+accepted st x k n = record { answer = Accepted; table = tableOf (counting st k) x }
 
-with-mac : (st : Rows) (v : MacAt) → onMac v refused (accepted (tableOf st noMac)) ≡ onMac v refused
-    (λ x k n. record { answer = Accepted; table = tableOf (counting st k) x })
-unfolding tableOf
-with-mac st (MacAt.Refused f) = refl
-with-mac st (MacAt.Found x k n) = refl
+-- the safes, which the code holds as y in the memory m, and what follows them
+module _ (s : List ℕ) (safes string content mac rest : Cursor) (m : List ℕ) (y : Progress) where
+  close-law : (a : Answer) → y .answer ≡ a
+      → onMac (closeAt s a safes string content mac rest) refused (accepted (rowsAt m (y .counts)))
+      ≡ onWalked (shownIn m y) refused (λ st z. onMac (closeAt s Accepted safes string content mac rest) refused
+      (accepted st))
+  unfolding closeAt closedAt
+  close-law (Answer.Refused f) e = rw e refl
+  close-law Accepted e = rw e refl
 
-close-law : (s : List ℕ) (safes string content mac rest : Cursor) (x : Walked)
-    → onMac (closeAt s (progress x .answer) safes string content mac rest) refused (accepted (progress x .table))
-    ≡ onWalked x refused
-    (λ st z. onMac (closeAt s Accepted safes string content mac rest) refused
-    (λ m k n. record { answer = Accepted; table = tableOf (counting st k) m }))
-unfolding closeAt closedAt
-close-law s safes string content mac rest (Refused f) = refl
-close-law s safes string content mac rest (Went st n) = with-mac st (closeAt s Accepted safes string content mac rest)
+  -- what follows is found only behind safes that were accepted
+  closed-accepted : (a : Answer) (x : Mac) (k : ℕ) (n : Cursor)
+      → MacAt.Found x k n ≡ closeAt s a safes string content mac rest → a ≡ Accepted
+  unfolding closeAt closedAt
+  closed-accepted (Answer.Refused f) x k n e =
+      let z : _≡_ {A = ℕ} 1 0 = ap (λ (v : MacAt). onMac v (λ g. 0) (λ u j o. 1)) e in
+      absurd (omega (arith, z))
+  closed-accepted Accepted x k n e = refl
 
 -- ---- the reading
 
-pub read-long : (s : List ℕ) (r : Reading) → fileBytes < length s → r ≡ refused (fault tooLong 0) → r ≡ readFile s
-read-long s r h e = e ∙ rw (lt-ltb fileBytes (length s) h) at (file-law s)
+module _ (m : List ℕ) (r : Summary) (x : Reading) where
+  sum-stop : (f : Fault) → x ≡ refused f → r ≡ refusedSummary f → Summed m r x
+  sum-stop f e i =
+      record {
+        reading = e ∙ rw i;
+        held = λ h. absurd (not-both (r .answer) f (ap (λ (y : Summary). y .answer) i) h);
+      }
 
-module _ (s : List ℕ) (short : length s ≤ fileBytes) (c₀ : Cursor) (start : c₀ ≡ wholeOf s) (w : Opened) (p : w ≡ openAt s c₀) where
+pub read-long : (s m : List ℕ) (r : Summary) → fileBytes < length s → r ≡ refusedSummary (fault tooLong 0)
+    → Summed m r (readFile s)
+read-long s m r h e =
+    sum-stop m r (readFile s) (fault tooLong 0) (sym (rw (lt-ltb fileBytes (length s) h) at (file-law s))) e
+
+module _ (s : List ℕ) (short : length s ≤ fileBytes) (c₀ : Cursor) (start : c₀ ≡ wholeOf s) (w : Opened)
+    (p : w ≡ openAt s c₀) where
   read-is : onOpened w refused
       (λ input body safes string content mac rest.
       onWalked (run (safeAt s) (startRows input) body) refused
-      (λ st z. onMac (closeAt s Accepted safes string content mac rest) refused (λ x k n. record { answer = Accepted; table = tableOf (counting st k) x })))
+      (λ st z. onMac (closeAt s Accepted safes string content mac rest) refused (accepted st)))
       ≡ readFile s
   read-is = rw (p, start) (rw (le-ltb fileBytes (length s) short) at (file-law s))
 
-  pub read-refused : (f : Fault) (r : Reading) → w ≡ Opened.Refused f → r ≡ refused f → r ≡ readFile s
-  read-refused f r q e = e ∙ rw q at read-is
+  pub read-refused : (f : Fault) (m : List ℕ) (r : Summary) → w ≡ Opened.Refused f → r ≡ refusedSummary f
+      → Summed m r (readFile s)
+  read-refused f m r q e = sum-stop m r (readFile s) f (sym (rw q at read-is)) e
 
-  module _ (input body safes string content mac rest : Cursor) (q : w ≡ Opened.Found input body safes string content mac rest) where
+  module _ (input body safes string content mac rest : Cursor)
+      (q : w ≡ Opened.Found input body safes string content mac rest) where
     facts : (input .at ≤ length s) × (input .end ≤ length s) × (body .at ≤ body .end) × (body .end ≤ length s)
     facts = rw (sym p ∙ q) at (opened-of s c₀)
 
@@ -168,28 +183,34 @@ module _ (s : List ℕ) (short : length s ≤ fileBytes) (c₀ : Cursor) (start 
     pub input-to : input .end ≤ fileBytes
     input-to = omega (arith, facts .1, short)
 
-    pub body-order : body .at ≤ body .end
-    body-order = facts .2
-
-    pub body-inside : body .end ≤ length s
-    body-inside = facts .3
-
-    -- the safes, which the code holds as y, and what follows them
-    module _ (y : Progress) (z : y ≡ progress (run (safeAt s) (startRows input) body)) (v : MacAt)
+    -- the safes, which the code holds as y in the memory m, and what follows them
+    module _ (m : List ℕ) (y : Progress) (z : Shown m y (run (safeAt s) (startRows input) body)) (v : MacAt)
         (u : v ≡ closeAt s (y .answer) safes string content mac rest) where
-      closed-is : onMac v refused (accepted (y .table)) ≡ readFile s
-      closed-is = rw (u, z) (close-law s safes string content mac rest (run (safeAt s) (startRows input) body)) ∙ rw q at read-is
+      closed-is : onMac v refused (accepted (rowsAt m (y .counts))) ≡ readFile s
+      closed-is = rw u (close-law s safes string content mac rest m y (y .answer) refl) ∙ rw (q, z .walk) at read-is
 
-      pub close-refused : (f : Fault) (r : Reading) → v ≡ MacAt.Refused f → r ≡ refused f → r ≡ readFile s
-      close-refused f r h e = e ∙ rw h at closed-is
+      pub close-refused : (f : Fault) (r : Summary) → v ≡ MacAt.Refused f → r ≡ refusedSummary f
+          → Summed m r (readFile s)
+      close-refused f r h e = sum-stop m r (readFile s) f (sym (rw h at closed-is)) e
 
-      pub close-fits : (x : Mac) (k : ℕ) (n : Cursor) → v ≡ MacAt.Found x k n → Fits w64 (y .table .elements + k)
-      close-fits x k n h =
-          let i : k ≤ length s = rw (sym u ∙ h) at (close-of s (y .answer) safes string content mac rest) in
-          let j : y .table .elements ≤ body .end + 7 =
-          rw z (count-of (run (safeAt s) (startRows input) body) (body .at) (body .end)
-          (run-room s (safeAt s) (safe-of s) (startRows input) body body-order)) in
-          omega (arith, i, j, body-inside, short)
+      module _ (x : Mac) (k : ℕ) (n : Cursor) (h : v ≡ MacAt.Found x k n) where
+        went : y .answer ≡ Accepted
+        went = closed-accepted s safes string content mac rest m y (y .answer) x k n (sym h ∙ u)
 
-      pub close-found : (x : Mac) (k : ℕ) (n : Cursor) → v ≡ MacAt.Found x k n → record { answer = Accepted; table = withMac (y .table) x k } ≡ readFile s
-      close-found x k n h = rw h at closed-is
+        pub close-fits : Fits w64 (y .counts .elements + k)
+        close-fits =
+            let i : k ≤ length s = rw (sym u ∙ h) at (close-of s (y .answer) safes string content mac rest) in
+            let j : Room (body .at) (body .end) 7 (rowsAt m (y .counts) .count) =
+            rw (walk-went m y (run (safeAt s) (startRows input) body) z went)
+            at (run-room s (safeAt s) (safe-of s) (startRows input) body (facts .2)) in
+            let l = count-of m (y .counts) in
+            let e = facts in
+            omega (arith, i, j .long, l, e .2, e .3, short)
+
+        pub close-found : Summed m (record { answer = Accepted; counts = withCount (y .counts) k; mac = x })
+            (readFile s)
+        close-found =
+            record {
+              reading = sym (rw h at closed-is) ∙ rw (rows-counted m (y .counts) (z .held went) k);
+              held = λ e. held-counted m (y .counts) (z .held went) k;
+            }

@@ -3,39 +3,39 @@
 -- it.
 use mathlib.Core.Bool.{Bool, true, false}
 use mathlib.Core.List.{List}
-use mathlib.Core.Path.{_≡_}
 use Prim.Native.Nat.{ℕ, _+_, _≤_}
-use lib.Dec.{leb, ltb, eqb}
 use lib.ListN.{length}
+use lib.Dec.{leb, eqb}
 use Rattle.der.specs.Choice.{if_then_else_}
 use Rattle.der.specs.Numbers.{content, tooMany, opaqueLevels, octetStringTag, sequenceTag, setTag, contextTag}
-use Rattle.der.specs.Element.{cursor, fault, tagAt, finishAt, expectAt, onElement}
+use Rattle.der.specs.Element.{fault, tagAt, finishAt, expectAt, onElement}
 use Rattle.der.specs.Content.{bytesOf, identifierAt, integerAt, onInteger}
-use Rattle.der.specs.Opaque.{onChecked, opaqueAt, elementsAt}
+use Rattle.der.specs.Opaque.{onChecked, elementsAt}
 use Rattle.der.specs.declared.Fault.{Fault}
 use Rattle.der.specs.declared.Cursor.{Cursor}
 use Rattle.der.specs.declared.Checked.{Checked}
 use Rattle.buffer.specs.Numbers.{fileBytes}
-use Rattle.pkcs12.specs.Numbers.{notServed, ciphertextTag, pfxVersion, defaultIterations}
+use Rattle.pkcs12.specs.Numbers.{notServed, pfxVersion, defaultIterations, levels}
 use Rattle.range.specs.Bytes.{sameBytes}
 use Rattle.pkcs12.specs.Identifiers.{dataType, signedType, envelopedType, encryptedType, kindOf}
-use Rattle.range.specs.Range.{range, noRange}
-use Rattle.pkcs12.specs.Table.{parts, macFields, noMac, Rows, tableOf, emptyTable, rowsIn}
-use Rattle.pkcs12.specs.Walk.{rangeOf, onParts, algorithmAt, withValue, sealedAt, keyAt, valueAt, typedAt}
-use Rattle.pkcs12.specs.Walk.{encryptedInfoAt, encryptedAt, Walked, Refused, Went, onWalked, setAt, onKind, onMac}
-use Rattle.pkcs12.specs.Walk.{iterationsAt, macAt, onAnswer}
+use Rattle.range.specs.Range.{noRange}
+use Rattle.pkcs12.specs.Table.{parts, noParts, safeRow, macFields, Rows}
+use Rattle.pkcs12.specs.Walk.{rangeOf, onParts, sealedAt, keyAt, typedAt}
+use Rattle.pkcs12.specs.Walk.{encryptedAt, Walked, Refused, Went, onWalked, run, addSafe, attributeAt, setAt, Owner}
+use Rattle.pkcs12.specs.Walk.{owner, onKind, safeContentsAt}
+use Rattle.pkcs12.specs.Walk.{onMac, iterationsAt, macAt, onAnswer}
 use Rattle.range.specs.declared.Range.{Range}
 use Rattle.pkcs12.specs.declared.row.Parts.{Parts}
 use Rattle.pkcs12.specs.declared.answers.PartsAt.{PartsAt}
 use Rattle.pkcs12.specs.declared.kind.BagKind.{BagKind}
 use Rattle.pkcs12.specs.declared.kind.BagKind.the-variants.{Key, ShroudedKey, Certificate, Crl, Secret, Nested}
 use Rattle.pkcs12.specs.declared.answers.MacAt.{MacAt}
+use Rattle.pkcs12.specs.declared.kind.SafeKind.the-variants.{Plain}
 use Rattle.pkcs12.specs.declared.answers.Answer.{Answer}
 use Rattle.pkcs12.specs.declared.answers.Answer.the-variants.{Accepted}
-use Rattle.pkcs12.specs.declared.table.Table.{Table}
+use Rattle.pkcs12.specs.declared.row.Enclosing.{Enclosing}
 use Rattle.reader.specs.declared.bags.Set.{Set}
 use Rattle.reader.specs.declared.bags.Bag.{Bag}
-use Rattle.reader.specs.declared.rows.Progress.{Progress}
 use Rattle.reader.specs.declared.safes.Octets.{Octets}
 use Rattle.reader.specs.declared.safes.Contents.{Contents}
 use Rattle.reader.specs.declared.file.Outer.{Outer}
@@ -80,14 +80,13 @@ abbrev pub SmallParts : PartsAt → Type 0
 SmallParts (PartsAt.Refused f) = Unit {0}
 SmallParts (PartsAt.Found p k n) = k ≤ fileBytes
 
-abbrev pub onBag : {A : Type 0} → Bag → (Fault → A) → (BagKind → Parts → ℕ → Cursor → Cursor → Cursor → A) → (Cursor → Cursor → Cursor → A) → A
-onBag (Bag.Refused f) bad leaf nest = bad f
-onBag (Bag.Leaf kind p k f e n) bad leaf nest = leaf kind p k f e n
-onBag (Bag.Nested v e n) bad leaf nest = nest v e n
+abbrev pub onBag : {A : Type 0} → Bag → (Fault → A) → (BagKind → Parts → ℕ → Cursor → Cursor → Cursor → A) → A
+onBag (Bag.Refused f) bad good = bad f
+onBag (Bag.Found kind p k v e n) bad good = good kind p k v e n
 
 -- a bag that holds no bags, counted with its SEQUENCE, bagId and [0]
 unfoldable pub leafOf : BagKind → PartsAt → Cursor → Cursor → Bag
-leafOf kind x e n = onParts x Bag.Refused (λ p k f. Bag.Leaf kind p (k + 3) f e n)
+leafOf kind x e n = onParts x Bag.Refused (λ p k f. Bag.Found kind p (k + 3) f e n)
 
 -- what is in [0], by the kind of the bag
 unfoldable pub bagValueAt : List ℕ → BagKind → Cursor → Cursor → Cursor → Bag
@@ -97,7 +96,7 @@ bagValueAt s ShroudedKey v e n = leafOf ShroudedKey (sealedAt s v) e n
 bagValueAt s Certificate v e n = leafOf Certificate (typedAt true s v) e n
 bagValueAt s Crl v e n = leafOf Crl (typedAt false s v) e n
 bagValueAt s Secret v e n = leafOf Secret (typedAt false s v) e n
-bagValueAt s Nested v e n = Bag.Nested v e n
+bagValueAt s Nested v e n = Bag.Found Nested noParts 3 v e n
 
 unfoldable pub bagOfAt : List ℕ → ℕ → Cursor → Cursor → Cursor → Bag
 bagOfAt s at i m n =
@@ -242,17 +241,35 @@ unfoldable pub bagEndAt : List ℕ → ℕ → Rows → Cursor → Cursor → Cu
 bagEndAt s number st e c n =
     onChecked (finishAt e) Refused (λ z g. onWalked (setAt s number st c) Refused (λ st′ h. Went st′ n))
 
--- what the code holds of the walk so far
-abbrev pub progress : Walked → Progress
-progress (Refused f) = record { answer = Answer.Refused f; table = emptyTable; next = cursor 0 0 }
-progress (Went st n) = record { answer = Accepted; table = tableOf st noMac; next = n }
+-- whether a bag of this kind holds bags
+abbrev pub isNested : BagKind → Bool
+isNested BagKind.None = false
+isNested Key = false
+isNested ShroudedKey = false
+isNested Certificate = false
+isNested Crl = false
+isNested Secret = false
+isNested Nested = true
+
+-- what is in [0] of a bag whose row is stored
+unfoldable pub insideAt : (Owner → Rows → Cursor → Walked) → BagKind → ℕ → ℕ → Rows → Cursor → Walked
+insideAt inner kind safe number st v =
+    if isNested kind then inner (owner safe (Enclosing.Bag number)) st v else
+    Went st v
+
+-- the attributes in the body b of a set; e is past the set, and n past the bag
+unfoldable pub setBodyAt : List ℕ → ℕ → Rows → Cursor → Cursor → Cursor → Walked
+setBodyAt s number st b e n =
+    onWalked (run (attributeAt s number) st b) Refused (λ st′ f. onChecked (finishAt e) Refused (λ z g. Went st′ n))
+
+-- a plain safe whose contents are at o: its row, its bags, and that they end what they are in
+unfoldable pub plainSafeAt : List ℕ → Rows → Cursor → Cursor → Cursor → Cursor → Walked
+plainSafeAt s st o f e n =
+    onWalked
+    (safeContentsAt levels s (owner (length (st .safes)) Enclosing.None) (addSafe st (safeRow Plain noParts) 4) o)
+    Refused
+    (λ st′ g. onChecked (closedAt Accepted g f e) Refused (λ z h. Went st′ n))
 
 -- The number of elements before the first safe, which are counted at the start.
 unfoldable pub startCount : ℕ
 startCount = 7
-
--- what the code requires of the bytes and of the table at an offset
-pub record Ready (s : List ℕ) (t : Table) (at : ℕ) : Type 0 where
-  pub short : length s ≤ fileBytes
-  pub rows : t ≡ tableOf (rowsIn t) noMac
-  pub counted : t .elements ≤ at + startCount

@@ -7,9 +7,9 @@ ghost use lib.ListN.{length};
 ghost use Rattle.der.specs.Content.{bytesOf};
 ghost use Rattle.buffer.specs.Numbers.{fileBytes};
 ghost use Rattle.pkcs12.specs.Identifiers.{kindOf};
-ghost use Rattle.pkcs12.specs.Walk.{onKind};
+ghost use Rattle.pkcs12.specs.Walk.{rangeOf, onKind};
 ghost use Rattle.reader.specs.Steps.{SmallParts, attributeValuesAt, attributePartsAt, setHeadAt, leafOf};
-ghost use Rattle.reader.specs.Steps.{bagValueAt, bagOfAt, bagHeadAt};
+ghost use Rattle.reader.specs.Steps.{bagValueAt, bagOfAt, bagHeadAt, isNested};
 use der::Checked;
 use der::Cursor;
 use der::Element;
@@ -19,18 +19,16 @@ use pkcs12::Parts;
 use pkcs12::PartsAt;
 use range::Range;
 
-// What is in a bag before its attributes.
+// The elements of a bag before what is in [0]: SEQUENCE, bagId, [0].
+const HEAD_COUNT: usize = 3;
+
+// What is in a bag before its attributes: `value` is what is left in [0], or the safe contents in it.
 pub(crate) enum Bag {
-    Leaf {
+    Found {
         kind: BagKind,
         parts: Parts,
         count: usize,
-        end: Cursor,
-        set: Cursor,
-        next: Cursor,
-    },
-    Nested {
-        content: Cursor,
+        value: Cursor,
         set: Cursor,
         next: Cursor,
     },
@@ -42,6 +40,16 @@ pub(crate) enum Set {
     None,
     Found { body: Cursor, next: Cursor },
     Refused(Fault),
+}
+
+// The range of a body in a file: its offsets fit.
+fn range_of(body: Cursor) -> Range
+    requires { ⌜ (body .at ≤ fileBytes) × (body .end ≤ fileBytes) ⌝ }
+    ensures { λ r. ⌜ r ≡ rangeOf body ⌝ }
+{
+    let start = body.at as u16;
+    let end = body.end as u16;
+    Range { start, end }
 }
 
 // The values of an attribute whose identifier has body i; n is past the attribute.
@@ -56,9 +64,9 @@ fn attribute_values(s: &[u8], i: Cursor, m: Cursor, n: Cursor) -> PartsAt
             Checked::Passed { count, next: _ } => match next.finish() {
                 Checked::Refused(f) => PartsAt::Refused(f),
                 Checked::Passed { count: _, next: _ } => {
-                    let identifier = Range::of(i);
+                    let identifier = range_of(i);
                     let parameters = Range::EMPTY;
-                    let value = Range::of(body);
+                    let value = range_of(body);
                     let parts = Parts {
                         identifier,
                         parameters,
@@ -110,15 +118,17 @@ pub(crate) fn set_at(s: &[u8], e: Cursor, c: Cursor) -> Set
     match e.finish() {
         Checked::Refused(f) => Set::Refused(f),
         Checked::Passed { count: _, next: _ } => {
-            if c.tag(s) == der::SET {
-                return match c.expect(s, der::SET) {
-                    Element::Refused(f) => Set::Refused(f),
-                    Element::Found { tag: _, body, next } => Set::Found { body, next },
-                };
-            }
-            match c.finish() {
-                Checked::Refused(f) => Set::Refused(f),
-                Checked::Passed { count: _, next: _ } => Set::None,
+            match c.expect(s, der::SET) {
+                Element::Found { tag: _, body, next } => Set::Found { body, next },
+                Element::Refused(f) => {
+                    if c.tag(s) == der::SET {
+                        return Set::Refused(f);
+                    }
+                    match c.finish() {
+                        Checked::Refused(g) => Set::Refused(g),
+                        Checked::Passed { count: _, next: _ } => Set::None,
+                    }
+                }
             }
         }
     }
@@ -137,11 +147,11 @@ fn leaf(kind: BagKind, value: PartsAt, set: Cursor, next: Cursor) -> Bag
             next: end,
         } => {
             let more = count + 3;
-            Bag::Leaf {
+            Bag::Found {
                 kind,
                 parts,
                 count: more,
-                end,
+                value: end,
                 set,
                 next,
             }
@@ -168,11 +178,17 @@ fn bag_value(s: &[u8], kind: BagKind, v: Cursor, set: Cursor, next: Cursor) -> B
         BagKind::Certificate => leaf(kind, parts::typed(true, s, v), set, next),
         BagKind::Crl => leaf(kind, parts::typed(false, s, v), set, next),
         BagKind::Secret => leaf(kind, parts::typed(false, s, v), set, next),
-        BagKind::Nested => Bag::Nested {
-            content: v,
-            set,
-            next,
-        },
+        BagKind::Nested => {
+            let parts = Parts::EMPTY;
+            Bag::Found {
+                kind,
+                parts,
+                count: HEAD_COUNT,
+                value: v,
+                set,
+                next,
+            }
+        }
     }
 }
 
@@ -198,6 +214,21 @@ fn is_none(kind: BagKind) -> bool
         BagKind::Crl => false,
         BagKind::Secret => false,
         BagKind::Nested => false,
+    }
+}
+
+// Whether a bag of this kind holds bags.
+pub(crate) fn is_nested(kind: BagKind) -> bool
+    ensures { λ r. ⌜ r ≡ isNested kind ⌝ }
+{
+    match kind {
+        BagKind::None => false,
+        BagKind::Key => false,
+        BagKind::ShroudedKey => false,
+        BagKind::Certificate => false,
+        BagKind::Crl => false,
+        BagKind::Secret => false,
+        BagKind::Nested => true,
     }
 }
 

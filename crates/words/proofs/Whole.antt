@@ -5,7 +5,8 @@ use Prim.Native.Nat.{ℕ, _+_, _*_, _≤_, _<_}
 use native.Mathlib.Omega.{arith}
 use borrow.Author.Tests.{lt-ltb, le-ltb}
 use lib.Dec.{ltb}
-use lib.ListN.{length, length-append}
+use lib.ListN.{length, drop, length-append}
+use lib.Seq.{sets-eq}
 use Rattle.der.specs.Choice.{if_then_else_}
 use Rattle.pkcs12.specs.Numbers.{safeRows, bagRows, attributeRows}
 use Rattle.buffer.specs.Numbers.{shortBuffer}
@@ -17,11 +18,10 @@ use Rattle.pkcs12.specs.declared.row.AttributeRow.{AttributeRow}
 use Rattle.pkcs12.specs.declared.table.Table.{Table}
 use Rattle.buffer.specs.declared.Written.{Written}
 use Rattle.buffer.specs.declared.Written.the-variants.{Length}
-use Rattle.buffer.specs.Placed.{greatest, Placed}
-use Rattle.buffer.proofs.Placing.{placed-whole}
 use Rattle.words.specs.Layout.{safeWidth, bagWidth, attributeWidth, tableWords}
 use Rattle.words.specs.Stored.{headWords, safeWords, bagWords, attributeWords, safesWords, bagsWords}
 use Rattle.words.specs.Stored.{attributesWords, wordsOf, stored, storedRow}
+use Rattle.words.specs.Steps.{StoredAt}
 use Rattle.words.proofs.Rows.{rows-length}
 
 pub safes-length : (rows : List SafeRow) (count : ℕ) → length (safesWords rows count) ≡ safeRows * safeWidth
@@ -69,10 +69,11 @@ module _ (x : List ℕ) (n : ℕ) (l : length x ≡ n) (memory : List ℕ) where
       stored-answer : (k : ℕ) → k ≡ n → Length k ≡ o .answer
       stored-answer k e = ap {B = Written} Length (e ∙ sym l) ∙ sym (ap (λ (y : Outcome). y .answer) enough)
 
-      stored-memory : length x ≤ greatest → (e : List ℕ) (r : ℕ) → Placed memory 0 x e r → e ≡ o .buffer
-      stored-memory f e r p =
-          let k : length x ≤ length memory = omega (arith, l, h) in
-          placed-whole p k f ∙ sym (ap (λ (y : Outcome). y .buffer) enough)
+      stored-memory : (e : List ℕ) → StoredAt memory 0 x e → e ≡ o .buffer
+      stored-memory e s =
+          let z : 0 + length x ≡ length x = omega arith in
+          let f : e ≡ x ++ drop (0 + length x) memory = s .words ∙ sets-eq x memory 0 (omega (arith, l, h)) in
+          (rw z at f) ∙ sym (ap (λ (y : Outcome). y .buffer) enough)
 
 -- a table
 module _ (t : Table) (memory : List ℕ) where
@@ -89,8 +90,9 @@ module _ (t : Table) (memory : List ℕ) where
   pub table-answer : tableWords ≤ length memory → (k : ℕ) → k ≡ tableWords → Length k ≡ stored t memory .answer
   table-answer = stored-answer (wordsOf t) tableWords (words-length t) memory (stored t memory) is-table
 
-  pub table-memory : tableWords ≤ length memory → (e : List ℕ) (r : ℕ) → Placed memory 0 (wordsOf t) e r → e ≡ stored t memory .buffer
-  table-memory h = stored-memory (wordsOf t) tableWords (words-length t) memory (stored t memory) is-table h (omega (arith, words-length t))
+  pub table-memory : tableWords ≤ length memory → (e : List ℕ) → StoredAt memory 0 (wordsOf t) e
+      → e ≡ stored t memory .buffer
+  table-memory h = stored-memory (wordsOf t) tableWords (words-length t) memory (stored t memory) is-table h
 
 -- an attribute row
 module _ (x : AttributeRow) (memory : List ℕ) where
@@ -104,5 +106,6 @@ module _ (x : AttributeRow) (memory : List ℕ) where
   pub row-answer : attributeWidth ≤ length memory → (k : ℕ) → k ≡ attributeWidth → Length k ≡ storedRow x memory .answer
   row-answer = stored-answer (attributeWords x) attributeWidth refl memory (storedRow x memory) is-row
 
-  pub row-memory : attributeWidth ≤ length memory → (e : List ℕ) (r : ℕ) → Placed memory 0 (attributeWords x) e r → e ≡ storedRow x memory .buffer
-  row-memory h = stored-memory (attributeWords x) attributeWidth refl memory (storedRow x memory) is-row h (omega arith)
+  pub row-memory : attributeWidth ≤ length memory → (e : List ℕ) → StoredAt memory 0 (attributeWords x) e
+      → e ≡ storedRow x memory .buffer
+  row-memory h = stored-memory (attributeWords x) attributeWidth refl memory (storedRow x memory) is-row h

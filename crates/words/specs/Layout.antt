@@ -22,9 +22,9 @@ bagWidth = 4 + partsWidth
 abbrev pub attributeWidth : ℕ
 attributeWidth = 1 + 2 * rangeWidth
 
--- parts, salt, iterations
+-- parts, salt, the low and the high half of the iterations
 abbrev pub macWidth : ℕ
-macWidth = partsWidth + rangeWidth + 1
+macWidth = partsWidth + rangeWidth + 2
 
 -- the head: elements, the counts of rows, the MAC input, the MAC
 abbrev pub elementsAt : ℕ
@@ -55,13 +55,13 @@ bagsAt = safesAt + safeRows * safeWidth
 abbrev pub attributesAt : ℕ
 attributesAt = bagsAt + bagRows * bagWidth
 
--- all of them: 1,407
+-- all of them: 1,408
 abbrev pub tableWords : ℕ
 tableWords = attributesAt + attributeRows * attributeWidth
 
--- the greatest word, and the greatest number that a row holds
+-- the greatest word, and how many words there are
 abbrev pub greatestWord : ℕ
-greatestWord = 4294967295
+greatestWord = 65_535
 
-abbrev pub greatestNumber : ℕ
-greatestNumber = 65535
+abbrev pub halfSize : ℕ
+halfSize = 65_536

@@ -1,7 +1,7 @@
 -- The words of a table, and storing them.
 use mathlib.Core.Bool.{Bool, true, false}
 use mathlib.Core.List.{List, [], _∷_, _++_}
-use Prim.Native.Nat.{ℕ, _+_, _-_, _*_, min}
+use Prim.Native.Nat.{ℕ, _+_, _-_, _*_, _/_, _%_, min}
 use lib.Dec.{ltb}
 use lib.ListN.{length, getD, replicate}
 use Rattle.der.specs.Choice.{if_then_else_}
@@ -23,10 +23,9 @@ use Rattle.pkcs12.specs.declared.row.BagRow.{BagRow}
 use Rattle.pkcs12.specs.declared.row.AttributeRow.{AttributeRow}
 use Rattle.pkcs12.specs.declared.row.Mac.{Mac}
 use Rattle.pkcs12.specs.declared.table.Table.{Table}
-use Rattle.words.specs.Layout.{safeWidth, bagWidth, attributeWidth, tableWords, greatestWord}
+use Rattle.words.specs.Layout.{safeWidth, bagWidth, attributeWidth, tableWords, greatestWord, halfSize}
 -- the words of these are the values that they report
 pub use Rattle.pkcs12.specs.Report.{bagNumber, partsValues as partsWords, attributeValues as attributeWords}
-pub use Rattle.pkcs12.specs.Report.{macValues as macWords}
 pub use Rattle.buffer.specs.Report.{rangeValues as rangeWords}
 
 -- a count that doesn't fit a word is the greatest word
@@ -38,9 +37,10 @@ safeNumber SafeKind.None = 0
 safeNumber Plain = 1
 safeNumber Encrypted = 2
 
+-- one more than the row of the enclosing bag; a row whose number doesn't fit is none of a table
 abbrev pub enclosingNumber : Enclosing → ℕ
 enclosingNumber Enclosing.None = 0
-enclosingNumber (Bag n) = n + 1
+enclosingNumber (Bag n) = min (n + 1) greatestWord
 
 abbrev pub setNumber : Bool → ℕ
 setNumber false = 0
@@ -51,6 +51,10 @@ safeWords r = safeNumber (r .kind) ∷ partsWords (r .parts)
 
 abbrev pub bagWords : BagRow → List ℕ
 bagWords r = bagNumber (r .kind) ∷ r .safe ∷ enclosingNumber (r .enclosing) ∷ (partsWords (r .parts) ++ (setNumber (r .«has_set») ∷ []))
+
+abbrev pub macWords : Mac → List ℕ
+macWords m =
+    partsWords (m .parts) ++ (rangeWords (m .salt) ++ (m .iterations % halfSize ∷ m .iterations / halfSize ∷ []))
 
 abbrev pub countWords : ℕ → ℕ → ℕ → ℕ → List ℕ
 countWords n i j k = countWord n ∷ countWord i ∷ countWord j ∷ countWord k ∷ []

@@ -1,263 +1,152 @@
-// Stores words in a caller's memory, at an offset in words; the answer is the offset behind them.
-// What lies past the end of the memory is not stored, but counted.
+// Stores parts of a table one by one in a caller's memory, each where it is in the words of a
+// table. Memory that is shorter than a table stays as it is, and so does memory where there is no
+// such row.
 ghost use mathlib.Core.Path.{_≡_};
-ghost use mathlib.Core.List.{[], _∷_};
-ghost use lib.ListN.{replicate};
-ghost use Rattle.words.specs.Stored.{countWord, safeNumber, bagNumber, enclosingNumber, setNumber, rangeWords};
-ghost use Rattle.words.specs.Stored.{partsWords, safeWords, bagWords, attributeWords, macWords, countWords};
-ghost use Rattle.words.specs.Stored.{headWords, safesWords, bagsWords, attributesWords, wordsOf};
-ghost use Rattle.buffer.specs.Placed.{Placed};
-use buffer::write;
+ghost use Prim.Native.Nat.{_≤_};
+ghost use lib.ListN.{length};
+ghost use Rattle.words.specs.Layout.{elementsAt, macFieldsAt, tableWords};
+ghost use Rattle.words.specs.Stored.{countWords, macWords};
+ghost use Rattle.words.specs.InPlace.{safeStored, bagStored, attributeStored, inputStored, finished, cleared};
+ghost use Rattle.words.specs.Steps.{StoredAt};
+use crate::Counts;
+use crate::field;
+use crate::number;
 use pkcs12::AttributeRow;
-use pkcs12::BagKind;
 use pkcs12::BagRow;
-use pkcs12::Enclosing;
 use pkcs12::Mac;
-use pkcs12::Parts;
-use pkcs12::SafeKind;
 use pkcs12::SafeRow;
-use pkcs12::Table;
 use range::Range;
 
-// A count as a word.
-fn count_word(n: usize) -> u32
-    ensures { λ r. ⌜ r ≡ countWord n ⌝ }
+// Row n of each kind.
+pub fn safe(memory: &mut [u16], n: usize, row: SafeRow)
+    ensures { λ _. ⌜ now (memory .exit) ≡ safeStored (now (memory .entry)) n row ⌝ }
 {
-    let fits = range::fewer(n, crate::GREATEST_WORD);
-    fits as u32
-}
-
-fn safe_number(kind: SafeKind) -> u32
-    ensures { λ r. ⌜ r ≡ safeNumber kind ⌝ }
-{
-    match kind {
-        SafeKind::None => 0,
-        SafeKind::Plain => 1,
-        SafeKind::Encrypted => 2,
+    if memory.len() < crate::TABLE_WORDS {
+        return;
     }
-}
-
-fn bag_number(kind: BagKind) -> u32
-    ensures { λ r. ⌜ r ≡ bagNumber kind ⌝ }
-{
-    match kind {
-        BagKind::None => 0,
-        BagKind::Key => 1,
-        BagKind::ShroudedKey => 2,
-        BagKind::Certificate => 3,
-        BagKind::Crl => 4,
-        BagKind::Secret => 5,
-        BagKind::Nested => 6,
+    if pkcs12::SAFE_ROWS <= n {
+        return;
     }
-}
-
-fn enclosing_number(enclosing: Enclosing) -> u32
-    ensures { λ r. ⌜ r ≡ enclosingNumber enclosing ⌝ }
-{
-    match enclosing {
-        Enclosing::None => 0,
-        Enclosing::Bag(n) => {
-            let wide = n as u32;
-            wide + 1
-        }
-    }
-}
-
-fn set_number(has_set: bool) -> u32
-    ensures { λ r. ⌜ r ≡ setNumber «has_set» ⌝ }
-{
-    if has_set {
-        return 1;
-    }
-    0
-}
-
-fn word(out: &mut [u32], at: usize, w: u32) -> usize
-    ensures { λ r. ⌜ Placed (now (out .entry)) at (w ∷ []) (now (out .exit)) r ⌝ }
-{
-    if out.len() <= at {
-        return write::after(at, 1);
-    }
-    out[at] = w;
-    at + 1
-}
-
-// The word 0, n times.
-fn zeros(out: &mut [u32], at: usize, n: usize) -> usize
-    ensures { λ r. ⌜ Placed (now (out .entry)) at (replicate n 0) (now (out .exit)) r ⌝ }
-{
-    let size = out.len();
-    if size <= at {
-        return write::after(at, n);
-    }
-    let left = size - at;
-    let count = range::fewer(n, left);
-    let mut i: usize = 0;
-    while i < count {
-        let to = at + i;
-        out[to] = 0;
-        i = i + 1;
-    }
-    write::after(at, n)
-}
-
-fn range(out: &mut [u32], at: usize, range: Range) -> usize
-    ensures { λ r. ⌜ Placed (now (out .entry)) at (rangeWords range) (now (out .exit)) r ⌝ }
-{
-    let start = range.start as u32;
-    let end = range.end as u32;
-    let second = word(out, at, start);
-    word(out, second, end)
-}
-
-fn parts(out: &mut [u32], at: usize, parts: Parts) -> usize
-    ensures { λ r. ⌜ Placed (now (out .entry)) at (partsWords parts) (now (out .exit)) r ⌝ }
-{
-    let second = range(out, at, parts.identifier);
-    let third = range(out, second, parts.parameters);
-    range(out, third, parts.value)
-}
-
-fn safe(out: &mut [u32], at: usize, row: SafeRow) -> usize
-    ensures { λ r. ⌜ Placed (now (out .entry)) at (safeWords row) (now (out .exit)) r ⌝ }
-{
+    let at = crate::SAFES_AT + n * crate::SAFE_WIDTH;
+    let second = at + 1;
     let kind = row.kind;
-    let number = safe_number(kind);
-    let second = word(out, at, number);
-    parts(out, second, row.parts)
+    let number = number::safe(kind);
+    field::word(memory, at, number);
+    field::parts(memory, second, row.parts);
 }
 
-// What is before the parts of a bag.
-fn bag_head(out: &mut [u32], at: usize, kind: BagKind, safe: u16, enclosing: Enclosing) -> usize
-    ensures { λ r. ⌜ Placed (now (out .entry)) at (bagNumber kind ∷ safe ∷ enclosingNumber enclosing ∷ []) (now (out .exit)) r ⌝ }
+pub fn bag(memory: &mut [u16], n: usize, row: BagRow)
+    ensures { λ _. ⌜ now (memory .exit) ≡ bagStored (now (memory .entry)) n row ⌝ }
 {
-    let number = bag_number(kind);
-    let wide = safe as u32;
-    let around = enclosing_number(enclosing);
-    let second = word(out, at, number);
-    let third = word(out, second, wide);
-    word(out, third, around)
-}
-
-fn bag(out: &mut [u32], at: usize, row: BagRow) -> usize
-    ensures { λ r. ⌜ Placed (now (out .entry)) at (bagWords row) (now (out .exit)) r ⌝ }
-{
+    if memory.len() < crate::TABLE_WORDS {
+        return;
+    }
+    if pkcs12::BAG_ROWS <= n {
+        return;
+    }
+    let at = crate::BAGS_AT + n * crate::BAG_WIDTH;
+    let second = at + 1;
+    let third = second + 1;
+    let fourth = third + 1;
+    let last = fourth + crate::PARTS_WIDTH;
     let kind = row.kind;
     let enclosing = row.enclosing;
-    let set = set_number(row.has_set);
-    let inner = bag_head(out, at, kind, row.safe, enclosing);
-    let last = parts(out, inner, row.parts);
-    word(out, last, set)
+    let number = number::bag(kind);
+    let around = number::enclosing(enclosing);
+    let set = number::set(row.has_set);
+    field::word(memory, at, number);
+    field::word(memory, second, row.safe);
+    field::word(memory, third, around);
+    field::parts(memory, fourth, row.parts);
+    field::word(memory, last, set);
 }
 
-pub(crate) fn attribute(out: &mut [u32], at: usize, row: AttributeRow) -> usize
-    ensures { λ r. ⌜ Placed (now (out .entry)) at (attributeWords row) (now (out .exit)) r ⌝ }
+pub fn attribute(memory: &mut [u16], n: usize, row: AttributeRow)
+    ensures { λ _. ⌜ now (memory .exit) ≡ attributeStored (now (memory .entry)) n row ⌝ }
 {
-    let bag = row.bag as u32;
-    let second = word(out, at, bag);
-    let third = range(out, second, row.identifier);
-    range(out, third, row.values)
+    if memory.len() < crate::TABLE_WORDS {
+        return;
+    }
+    if pkcs12::ATTRIBUTE_ROWS <= n {
+        return;
+    }
+    let at = crate::ATTRIBUTES_AT + n * crate::ATTRIBUTE_WIDTH;
+    field::attribute(memory, at, row);
 }
 
-fn counts(
-    out: &mut [u32],
-    at: usize,
-    elements: usize,
-    safes: usize,
-    bags: usize,
-    attributes: usize,
-) -> usize
-    ensures { λ r. ⌜ Placed (now (out .entry)) at (countWords elements safes bags attributes) (now (out .exit)) r ⌝ }
+// The range of the MAC input.
+pub fn input(memory: &mut [u16], range: Range)
+    ensures { λ _. ⌜ now (memory .exit) ≡ inputStored (now (memory .entry)) range ⌝ }
 {
-    let second = word(out, at, count_word(elements));
-    let third = word(out, second, count_word(safes));
-    let fourth = word(out, third, count_word(bags));
-    word(out, fourth, count_word(attributes))
+    if memory.len() < crate::TABLE_WORDS {
+        return;
+    }
+    field::range(memory, crate::MAC_INPUT_AT, range);
 }
 
-fn mac(out: &mut [u32], at: usize, mac: Mac) -> usize
-    ensures { λ r. ⌜ Placed (now (out .entry)) at (macWords mac) (now (out .exit)) r ⌝ }
+fn count_words(memory: &mut [u16], counts: Counts)
+    requires { ⌜ tableWords ≤ length (now memory) ⌝ }
+    ensures { λ _. ⌜ StoredAt (now (memory .entry)) elementsAt
+        (countWords (counts .elements) (counts .safes) (counts .bags) (counts .attributes)) (now (memory .exit)) ⌝ }
 {
-    let salt = parts(out, at, mac.parts);
-    let iterations = range(out, salt, mac.salt);
-    word(out, iterations, mac.iterations)
+    let elements = number::count(counts.elements);
+    let safes = number::count(counts.safes);
+    let bags = number::count(counts.bags);
+    let attributes = number::count(counts.attributes);
+    field::word(memory, crate::ELEMENTS_AT, elements);
+    field::word(memory, crate::SAFE_COUNT_AT, safes);
+    field::word(memory, crate::BAG_COUNT_AT, bags);
+    field::word(memory, crate::ATTRIBUTE_COUNT_AT, attributes);
 }
 
-// What is before the rows.
-fn head(out: &mut [u32], at: usize, table: Table) -> usize
-    ensures { λ r. ⌜ Placed (now (out .entry)) at (headWords table) (now (out .exit)) r ⌝ }
+fn mac(memory: &mut [u16], mac: Mac)
+    requires { ⌜ tableWords ≤ length (now memory) ⌝ }
+    ensures { λ _. ⌜ StoredAt (now (memory .entry)) macFieldsAt (macWords mac) (now (memory .exit)) ⌝ }
 {
-    let input = counts(
-        out,
-        at,
-        table.elements,
-        table.safe_count,
-        table.bag_count,
-        table.attribute_count,
+    let salt = crate::MAC_FIELDS_AT + crate::PARTS_WIDTH;
+    let low = salt + crate::RANGE_WIDTH;
+    let high = low + 1;
+    let low_half = (mac.iterations % crate::HALF_SIZE) as u16;
+    let high_half = (mac.iterations / crate::HALF_SIZE) as u16;
+    field::parts(memory, crate::MAC_FIELDS_AT, mac.parts);
+    field::range(memory, salt, mac.salt);
+    field::word(memory, low, low_half);
+    field::word(memory, high, high_half);
+}
+
+// The rows are stored: stores the counts and the MAC, and 0 in place of the rows that aren't
+// counted.
+pub fn finish(memory: &mut [u16], counts: Counts, mac: Mac)
+    ensures { λ _. ⌜ now (memory .exit) ≡ finished (now (memory .entry)) counts mac ⌝ }
+{
+    if memory.len() < crate::TABLE_WORDS {
+        return;
+    }
+    let safes = range::fewer(counts.safes, pkcs12::SAFE_ROWS);
+    let bags = range::fewer(counts.bags, pkcs12::BAG_ROWS);
+    let attributes = range::fewer(counts.attributes, pkcs12::ATTRIBUTE_ROWS);
+    count_words(memory, counts);
+    self::mac(memory, mac);
+    field::zeros(
+        memory,
+        crate::SAFES_AT + safes * crate::SAFE_WIDTH,
+        crate::BAGS_AT,
     );
-    let fields = range(out, input, table.mac_input);
-    mac(out, fields, table.mac)
+    field::zeros(
+        memory,
+        crate::BAGS_AT + bags * crate::BAG_WIDTH,
+        crate::ATTRIBUTES_AT,
+    );
+    let left = crate::ATTRIBUTES_AT + attributes * crate::ATTRIBUTE_WIDTH;
+    field::zeros(memory, left, crate::TABLE_WORDS);
 }
 
-fn safes(out: &mut [u32], at: usize, rows: [SafeRow; pkcs12::SAFE_ROWS], count: usize) -> usize
-    ensures { λ r. ⌜ Placed (now (out .entry)) at (safesWords rows count) (now (out .exit)) r ⌝ }
+// The words of the empty table.
+pub fn clear(memory: &mut [u16])
+    ensures { λ _. ⌜ now (memory .exit) ≡ cleared (now (memory .entry)) ⌝ }
 {
-    let end = range::fewer(count, pkcs12::SAFE_ROWS);
-    let mut to = at;
-    let mut i: usize = 0;
-    while i < end {
-        let row = rows[i];
-        to = safe(out, to, row);
-        i = i + 1;
+    if memory.len() < crate::TABLE_WORDS {
+        return;
     }
-    let left = (pkcs12::SAFE_ROWS - end) * crate::SAFE_WIDTH;
-    zeros(out, to, left)
-}
-
-fn bags(out: &mut [u32], at: usize, rows: [BagRow; pkcs12::BAG_ROWS], count: usize) -> usize
-    ensures { λ r. ⌜ Placed (now (out .entry)) at (bagsWords rows count) (now (out .exit)) r ⌝ }
-{
-    let end = range::fewer(count, pkcs12::BAG_ROWS);
-    let mut to = at;
-    let mut i: usize = 0;
-    while i < end {
-        let row = rows[i];
-        to = bag(out, to, row);
-        i = i + 1;
-    }
-    let left = (pkcs12::BAG_ROWS - end) * crate::BAG_WIDTH;
-    zeros(out, to, left)
-}
-
-fn attributes(
-    out: &mut [u32],
-    at: usize,
-    rows: [AttributeRow; pkcs12::ATTRIBUTE_ROWS],
-    count: usize,
-) -> usize
-    ensures { λ r. ⌜ Placed (now (out .entry)) at (attributesWords rows count) (now (out .exit)) r ⌝ }
-{
-    let end = range::fewer(count, pkcs12::ATTRIBUTE_ROWS);
-    let mut to = at;
-    let mut i: usize = 0;
-    while i < end {
-        let row = rows[i];
-        to = attribute(out, to, row);
-        i = i + 1;
-    }
-    let left = (pkcs12::ATTRIBUTE_ROWS - end) * crate::ATTRIBUTE_WIDTH;
-    zeros(out, to, left)
-}
-
-// The whole table, at the front.
-pub(crate) fn all(out: &mut [u32], table: Table) -> usize
-    ensures { λ r. ⌜ Placed (now (out .entry)) 0 (wordsOf table) (now (out .exit)) r ⌝ }
-{
-    let first = head(out, 0, table);
-    let safe_rows = table.safes;
-    let second = safes(out, first, safe_rows, table.safe_count);
-    let bag_rows = table.bags;
-    let third = bags(out, second, bag_rows, table.bag_count);
-    let attribute_rows = table.attributes;
-    attributes(out, third, attribute_rows, table.attribute_count)
+    field::zeros(memory, 0, crate::TABLE_WORDS);
 }

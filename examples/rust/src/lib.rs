@@ -18,7 +18,8 @@ mod table;
 mod upload;
 
 pub use numbers::{
-    Number, ATTRIBUTE_ROWS, BAG_ROWS, FILE_BYTES, LEVELS, LISTING_BYTES, OPAQUE_LEVELS, PAIRS_BYTES, SAFE_ROWS, TEXT_BYTES, UPLOAD_LEVELS,
+    Number, ATTRIBUTE_ROWS, BAG_ROWS, FILE_BYTES, LEVELS, LISTING_BYTES, OPAQUE_LEVELS, PAIRS_BYTES, SAFE_ROWS, TABLE_LENGTH, TEXT_BYTES,
+    UPLOAD_LEVELS,
 };
 pub use table::{Attribute, Bag, BagKind, Parts, Range, Safe, SafeKind, Table};
 pub use upload::{Passed, Spoiled, Upload};
@@ -52,6 +53,11 @@ fn answer<T>(number: u8, offset: usize, value: T) -> Result<T, Refusal> {
         OK => Ok(value),
         _ => Err(Refusal { number: Number::of(number), offset }),
     }
+}
+
+/// How many words of 16 bits the library takes a table for: `TABLE_LENGTH`, unless it is of another version than these types.
+pub fn table_length() -> usize {
+    sys::table_length()
 }
 
 /// Reads a file.
@@ -137,7 +143,7 @@ pub fn export_into(bytes: &[u8], out: &mut [u8]) -> Result<usize, Refusal> {
 
 /// The number of elements in an attribute's values, and element i, counted from 0, header included.
 pub fn element(bytes: &[u8], values: Range, i: usize) -> (usize, Option<&[u8]>) {
-    let (count, start, end) = sys::element(bytes, values.start, values.end, i);
+    let (count, start, end) = sys::element(bytes, values.start.into(), values.end.into(), i);
     (count, if i < count { bytes.get(start..end) } else { None })
 }
 

@@ -6,6 +6,8 @@ pub const SAFE_ROWS: usize = 16;
 pub const BAG_ROWS: usize = 64;
 /// Attribute rows in a table.
 pub const ATTRIBUTE_ROWS: usize = 128;
+/// Words of a table, of 16 bits each.
+pub const TABLE_LENGTH: usize = 1408;
 /// Bytes of the longest file.
 pub const FILE_BYTES: usize = 65535;
 /// Levels of safe contents; those of a plain safe are level 1.

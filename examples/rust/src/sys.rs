@@ -1,24 +1,24 @@
 //! The calls of p12.h, and for each a safe function over slices. The only unsafe code of the crate.
 //!
 //! What p12.h takes on trust holds by the types: a slice's pointer and length belong together and the pointer isn't NULL; a `&mut` shares no byte
-//! with anything else that is handed over; results behind pointers are locals. `Table` and `Attribute` are `repr(C)`, and all their members are u32,
+//! with anything else that is handed over; results behind pointers are locals. `Table` and `Attribute` are `repr(C)`, and all their members are u16,
 //! so they are words without padding, and any words are a value of them.
-use crate::numbers::UPLOAD_LENGTH;
+use crate::numbers::{TABLE_LENGTH, UPLOAD_LENGTH};
 use crate::table::{Attribute, Table};
 use std::mem::{align_of, size_of};
 
-pub const TABLE_WORDS: usize = size_of::<Table>() / size_of::<u32>();
-pub const ATTRIBUTE_WORDS: usize = size_of::<Attribute>() / size_of::<u32>();
+pub const ATTRIBUTE_WORDS: usize = size_of::<Attribute>() / size_of::<u16>();
 
-const _: () = assert!(TABLE_WORDS == 1407 && ATTRIBUTE_WORDS == 5 && align_of::<Table>() == align_of::<u32>());
+const _: () = assert!(size_of::<Table>() == TABLE_LENGTH * size_of::<u16>() && ATTRIBUTE_WORDS == 5 && align_of::<Table>() == align_of::<u16>());
 
 extern "C" {
-    fn p12_read(file: *const u8, length: usize, table: *mut u32, words: usize, offset: *mut usize) -> u8;
+    fn p12_table_length() -> usize;
+    fn p12_read(file: *const u8, length: usize, table: *mut u16, words: usize, offset: *mut usize) -> u8;
     fn p12_mac_input(file: *const u8, length: usize, start: *mut usize, end: *mut usize) -> u8;
-    fn p12_write(table: *const u32, words: usize, bytes: *const u8, length: usize, out: *mut u8, capacity: usize, written: *mut usize) -> u8;
-    fn p12_attribute(table: *const u32, words: usize, bytes: *const u8, length: usize, bag: usize, i: usize, row: *mut u32, row_words: usize) -> u8;
+    fn p12_write(table: *const u16, words: usize, bytes: *const u8, length: usize, out: *mut u8, capacity: usize, written: *mut usize) -> u8;
+    fn p12_attribute(table: *const u16, words: usize, bytes: *const u8, length: usize, bag: usize, i: usize, row: *mut u16, row_words: usize) -> u8;
     fn p12_element(bytes: *const u8, length: usize, values_start: u32, values_end: u32, i: usize, start: *mut usize, end: *mut usize) -> usize;
-    fn p12_certificate_for(table: *const u32, words: usize, bytes: *const u8, length: usize, key: usize, bag: *mut usize) -> u8;
+    fn p12_certificate_for(table: *const u16, words: usize, bytes: *const u8, length: usize, key: usize, bag: *mut usize) -> u8;
     fn p12_list(file: *const u8, length: usize, out: *mut u8, capacity: usize, written: *mut usize) -> u8;
     fn p12_pairs(file: *const u8, length: usize, out: *mut u8, capacity: usize, written: *mut usize) -> u8;
     fn p12_import(text: *const u8, length: usize, out: *mut u8, capacity: usize, written: *mut usize, offset: *mut usize) -> u8;
@@ -29,7 +29,13 @@ extern "C" {
     fn p12_upload_end(state: *const u16, cells: usize, offset: *mut usize, after: *mut usize, elements: *mut usize, level: *mut usize) -> u8;
 }
 
-fn words(table: &Table) -> *const u32 {
+/// How many words the library takes a table for.
+pub fn table_length() -> usize {
+    // SAFETY: nothing is handed over.
+    unsafe { p12_table_length() }
+}
+
+fn words(table: &Table) -> *const u16 {
     (table as *const Table).cast()
 }
 
@@ -37,8 +43,8 @@ fn words(table: &Table) -> *const u32 {
 pub fn read(file: &[u8], table: &mut Table) -> (u8, usize) {
     let mut offset = 0;
     let memory: *mut Table = table;
-    // SAFETY: the module's head; `memory` is TABLE_WORDS words that `table` lends.
-    let number = unsafe { p12_read(file.as_ptr(), file.len(), memory.cast(), TABLE_WORDS, &mut offset) };
+    // SAFETY: the module's head; `memory` is TABLE_LENGTH words that `table` lends.
+    let number = unsafe { p12_read(file.as_ptr(), file.len(), memory.cast(), TABLE_LENGTH, &mut offset) };
     (number, offset)
 }
 
@@ -54,7 +60,7 @@ pub fn mac_input(file: &[u8]) -> (u8, usize, usize) {
 pub fn write(table: &Table, bytes: &[u8], out: &mut [u8]) -> (u8, usize) {
     let mut written = 0;
     // SAFETY: the module's head.
-    let number = unsafe { p12_write(words(table), TABLE_WORDS, bytes.as_ptr(), bytes.len(), out.as_mut_ptr(), out.len(), &mut written) };
+    let number = unsafe { p12_write(words(table), TABLE_LENGTH, bytes.as_ptr(), bytes.len(), out.as_mut_ptr(), out.len(), &mut written) };
     (number, written)
 }
 
@@ -63,7 +69,7 @@ pub fn attribute(table: &Table, bytes: &[u8], bag: usize, i: usize) -> (u8, Attr
     let mut row = Attribute::default();
     let memory: *mut Attribute = &mut row;
     // SAFETY: the module's head; `memory` is ATTRIBUTE_WORDS words of a local.
-    let number = unsafe { p12_attribute(words(table), TABLE_WORDS, bytes.as_ptr(), bytes.len(), bag, i, memory.cast(), ATTRIBUTE_WORDS) };
+    let number = unsafe { p12_attribute(words(table), TABLE_LENGTH, bytes.as_ptr(), bytes.len(), bag, i, memory.cast(), ATTRIBUTE_WORDS) };
     (number, row)
 }
 
@@ -79,7 +85,7 @@ pub fn element(bytes: &[u8], values_start: u32, values_end: u32, i: usize) -> (u
 pub fn certificate_for(table: &Table, bytes: &[u8], key: usize) -> (u8, usize) {
     let mut bag = 0;
     // SAFETY: the module's head.
-    let number = unsafe { p12_certificate_for(words(table), TABLE_WORDS, bytes.as_ptr(), bytes.len(), key, &mut bag) };
+    let number = unsafe { p12_certificate_for(words(table), TABLE_LENGTH, bytes.as_ptr(), bytes.len(), key, &mut bag) };
     (number, bag)
 }
 

@@ -6,14 +6,14 @@ use crate::numbers::{ATTRIBUTE_ROWS, BAG_ROWS, SAFE_ROWS};
 #[repr(C)]
 #[derive(Clone, Copy, Debug, Default, PartialEq, Eq)]
 pub struct Range {
-    pub start: u32,
-    pub end: u32,
+    pub start: u16,
+    pub end: u16,
 }
 
 impl Range {
     /// The bytes that the range names, if it lies in them.
     pub fn of(self, bytes: &[u8]) -> Option<&[u8]> {
-        bytes.get(self.start as usize..self.end as usize)
+        bytes.get(usize::from(self.start)..usize::from(self.end))
     }
 }
 
@@ -52,7 +52,7 @@ impl BagKind {
 #[derive(Clone, Copy, Debug, Default, PartialEq, Eq)]
 pub struct Safe {
     /// The number of the kind; 0 in an empty row.
-    pub kind: u32,
+    pub kind: u16,
     pub parts: Parts,
 }
 
@@ -70,14 +70,14 @@ impl Safe {
 #[derive(Clone, Copy, Debug, Default, PartialEq, Eq)]
 pub struct Bag {
     /// The number of the kind; 0 in an empty row.
-    pub kind: u32,
+    pub kind: u16,
     /// The row of its safe.
-    pub safe: u32,
+    pub safe: u16,
     /// 0 for none, else the row of the enclosing bag and 1.
-    pub enclosing: u32,
+    pub enclosing: u16,
     pub parts: Parts,
     /// Whether the bag has a set of attributes, 0 or 1.
-    pub has_set: u32,
+    pub has_set: u16,
 }
 
 impl Bag {
@@ -95,7 +95,7 @@ impl Bag {
 
     /// The row of the enclosing bag.
     pub fn enclosing(&self) -> Option<usize> {
-        (self.enclosing as usize).checked_sub(1)
+        usize::from(self.enclosing).checked_sub(1)
     }
 }
 
@@ -103,7 +103,7 @@ impl Bag {
 #[derive(Clone, Copy, Debug, Default, PartialEq, Eq)]
 pub struct Attribute {
     /// The row of its bag.
-    pub bag: u32,
+    pub bag: u16,
     pub identifier: Range,
     /// The body of the SET.
     pub values: Range,
@@ -114,17 +114,18 @@ pub struct Attribute {
 #[derive(Clone, Copy, Debug, PartialEq, Eq)]
 pub struct Table {
     /// The number of elements in the file.
-    pub elements: u32,
-    pub safe_count: u32,
-    pub bag_count: u32,
-    pub attribute_count: u32,
+    pub elements: u16,
+    pub safe_count: u16,
+    pub bag_count: u16,
+    pub attribute_count: u16,
     /// What the MAC is computed over.
     pub mac_input: Range,
     /// The digest's algorithm, and the digest.
     pub mac: Parts,
     pub mac_salt: Range,
-    /// 1 where none are written.
-    pub mac_iterations: u32,
+    /// The MAC's iterations: their remainder by 65,536, and their quotient. Together 1 where none are written.
+    pub mac_iterations_low: u16,
+    pub mac_iterations_high: u16,
     pub safe_rows: [Safe; SAFE_ROWS],
     pub bag_rows: [Bag; BAG_ROWS],
     pub attribute_rows: [Attribute; ATTRIBUTE_ROWS],
@@ -141,7 +142,8 @@ impl Default for Table {
             mac_input: Range::default(),
             mac: Parts::default(),
             mac_salt: Range::default(),
-            mac_iterations: 0,
+            mac_iterations_low: 0,
+            mac_iterations_high: 0,
             safe_rows: [Safe::default(); SAFE_ROWS],
             bag_rows: [Bag::default(); BAG_ROWS],
             attribute_rows: [Attribute::default(); ATTRIBUTE_ROWS],
@@ -150,11 +152,21 @@ impl Default for Table {
 }
 
 /// The rows below a count.
-fn below<T>(rows: &[T], count: u32) -> &[T] {
-    &rows[..rows.len().min(count as usize)]
+fn below<T>(rows: &[T], count: u16) -> &[T] {
+    &rows[..rows.len().min(usize::from(count))]
 }
 
 impl Table {
+    /// The MAC's iterations.
+    pub fn mac_iterations(&self) -> u32 {
+        u32::from(self.mac_iterations_high) << 16 | u32::from(self.mac_iterations_low)
+    }
+
+    pub fn set_mac_iterations(&mut self, iterations: u32) {
+        self.mac_iterations_low = (iterations & 0xFFFF) as u16;
+        self.mac_iterations_high = (iterations >> 16) as u16;
+    }
+
     pub fn safes(&self) -> &[Safe] {
         below(&self.safe_rows, self.safe_count)
     }

@@ -51,8 +51,44 @@ fn reads_m() {
     assert_eq!(table.mac_input, Range { start: 22, end: 24 });
     assert_eq!(table.mac.value.of(&M), Some(&[0xAA][..]));
     assert_eq!(table.mac_salt.of(&M), Some(&[0x55][..]));
-    assert_eq!(table.mac_iterations, 1);
+    assert_eq!(table.mac_iterations(), 1);
     assert_eq!(p12::mac_input(&M), Ok(&M[22..24]));
+}
+
+#[test]
+fn library_and_types_agree_on_the_words() {
+    assert_eq!(p12::table_length(), p12::TABLE_LENGTH);
+    assert_eq!(std::mem::size_of::<Table>(), 2 * p12::TABLE_LENGTH);
+}
+
+/// M with iterations, in as few bytes as they take.
+fn with_iterations(number: u32) -> Vec<u8> {
+    let bytes = number.to_be_bytes();
+    let body = (0..4).map(|i| &bytes[i..]).rfind(|body| body[0] < 0x80 && body.len() * 8 > 32 - number.leading_zeros() as usize);
+    let last = element(0x02, &[body.unwrap()]);
+    element(0x30, &[&M[2..24], &element(0x30, &[&M[26..], &last])])
+}
+
+#[test]
+fn reads_and_writes_both_halves_of_the_iterations() {
+    for (number, low, high) in [(2, 2, 0), (65_535, 65_535, 0), (65_536, 0, 1), (100_000, 34_464, 1), (i32::MAX as u32, 65_535, 32_767)] {
+        let file = with_iterations(number);
+        let mut table = p12::read(&file).unwrap();
+        assert_eq!((table.mac_iterations_low, table.mac_iterations_high, table.mac_iterations()), (low, high, number));
+        let mut out = [0; 60];
+        let written = table.write(&file, &mut out).unwrap();
+        assert_eq!(out[..written], file);
+        table.set_mac_iterations(1);
+        assert_eq!(table.write(&file, &mut out), Ok(47));
+        assert_eq!(out[..47], M);
+        table.set_mac_iterations(number);
+        assert_eq!(table, p12::read(&file).unwrap());
+    }
+    let mut table = p12::read(&M).unwrap();
+    for number in [0, 1 << 31, u32::MAX] {
+        table.set_mac_iterations(number);
+        assert_eq!(table.write(&M, &mut [0; 60]), refusal(Number::NotSound, 0));
+    }
 }
 
 #[test]

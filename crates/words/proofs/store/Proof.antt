@@ -30,7 +30,7 @@ returns-2 c =
     let x = f .before .before .args .table in
     promised writtenReport
     (table-answer x _ (omega (arith, f .if1 .left)) _ (omega arith))
-    (table-memory x _ (omega (arith, f .if1 .left)) _ _ (c .before .before .all .ensures))
+    (table-memory x _ (omega (arith, f .if1 .left)) _ (c .before .before .all .ensures))
 
 pub store-spec : {M : Type 1} → statement M
 store-spec = tie.close (tie.spec too-few-requires returns all-requires same-length returns-2)

@@ -30,7 +30,7 @@ returns-2 c =
     let x = f .before .before .args .row in
     promised writtenReport
     (row-answer x _ (omega (arith, f .if1 .left)) _ (omega arith))
-    (row-memory x _ (omega (arith, f .if1 .left)) _ _ (c .before .before .attribute .ensures))
+    (row-memory x _ (omega (arith, f .if1 .left)) _ (c .before .before .attribute .ensures))
 
 pub store-row-spec : {M : Type 1} → statement M
 store-row-spec =

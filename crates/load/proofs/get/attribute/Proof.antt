@@ -7,9 +7,6 @@ use Rattle.load.proofs.get.attribute.Tie as tie
 word-requires : tie.Need-word-requires
 word-requires c κs = search needs
 
-number-of-requires : tie.Need-number-of-requires
-number-of-requires c κs = search needs
-
 add-range : tie.Need-add-range
 add-range c = search needs
 
@@ -34,7 +31,6 @@ attribute-spec =
     tie.close
     (tie.spec
     word-requires
-    number-of-requires
     add-range
     range-requires
     add-range-2

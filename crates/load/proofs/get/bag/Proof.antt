@@ -16,9 +16,6 @@ add-word c = search needs
 word-requires-2 : tie.Need-word-requires-2
 word-requires-2 c κs = search needs
 
-number-of-requires : tie.Need-number-of-requires
-number-of-requires c κs = search needs
-
 add-word-2 : tie.Need-add-word-2
 add-word-2 c = search needs
 
@@ -58,7 +55,6 @@ bag-spec =
     bag-kind-of-requires
     add-word
     word-requires-2
-    number-of-requires
     add-word-2
     word-requires-3
     enclosing-of-requires

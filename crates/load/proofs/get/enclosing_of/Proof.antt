@@ -9,15 +9,12 @@ returns : tie.Need-returns
 unfolding enclosingOf
 returns c = search choices depth 14
 
-sub-number-of : tie.Need-sub-number-of
-sub-number-of c = search needs
-
-number-of-requires : tie.Need-number-of-requires
-number-of-requires c κs = search needs
+sub-t3 : tie.Need-sub-t3
+sub-t3 c = search needs
 
 returns-2 : tie.Need-returns-2
 unfolding enclosingOf
 returns-2 c = search choices depth 14
 
 pub enclosing-of-spec : {M : Type 1} → statement M
-enclosing-of-spec = tie.close (tie.spec returns sub-number-of number-of-requires returns-2)
+enclosing-of-spec = tie.close (tie.spec returns sub-t3 returns-2)

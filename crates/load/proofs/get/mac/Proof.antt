@@ -22,6 +22,30 @@ add-word-2 c = search needs
 word-requires : tie.Need-word-requires
 word-requires c κs = search needs
 
+cast-low : tie.Need-cast-low
+cast-low c = search needs
+
+add-word-3 : tie.Need-add-word-3
+add-word-3 c = search needs
+
+add-word-4 : tie.Need-add-word-4
+add-word-4 c = search needs
+
+add-word-5 : tie.Need-add-word-5
+add-word-5 c = search needs
+
+word-requires-2 : tie.Need-word-requires-2
+word-requires-2 c κs = search needs
+
+cast-high : tie.Need-cast-high
+cast-high c = search needs
+
+mul-iterations : tie.Need-mul-iterations
+mul-iterations c = search needs
+
+add-iterations : tie.Need-add-iterations
+add-iterations c = search needs
+
 returns : tie.Need-returns
 unfolding macLoaded
 returns c = cc
@@ -29,4 +53,19 @@ returns c = cc
 pub mac-spec : {M : Type 1} → statement M
 mac-spec =
     tie.close
-    (tie.spec parts-requires add-range range-requires add-word add-word-2 word-requires returns)
+    (tie.spec
+    parts-requires
+    add-range
+    range-requires
+    add-word
+    add-word-2
+    word-requires
+    cast-low
+    add-word-3
+    add-word-4
+    add-word-5
+    word-requires-2
+    cast-high
+    mul-iterations
+    add-iterations
+    returns)

@@ -13,12 +13,9 @@ add-word c = search needs
 word-requires-2 : tie.Need-word-requires-2
 word-requires-2 c κs = search needs
 
-of-words-requires : tie.Need-of-words-requires
-of-words-requires c κs = search needs
-
 returns : tie.Need-returns
 unfolding rangeLoaded
 returns c = cc
 
 pub range-spec : {M : Type 1} → statement M
-range-spec = tie.close (tie.spec word-requires add-word word-requires-2 of-words-requires returns)
+range-spec = tie.close (tie.spec word-requires add-word word-requires-2 returns)

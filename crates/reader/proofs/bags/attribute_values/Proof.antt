@@ -38,11 +38,21 @@ enum-known-f-3 c = search needs
 enum-told : tie.Need-enum-told
 enum-told c = search needs
 
-of-requires : tie.Need-of-requires
-of-requires c κs = search needs
+range-of-requires : tie.Need-range-of-requires
+range-of-requires c κs =
+    let a = c .before .before .before .before .before .before in
+    let p = a .before .before .before .before .before .before .pre in
+    (omega (arith, p), omega (arith, p))
 
-of-requires-2 : tie.Need-of-requires-2
-of-requires-2 c κs = search needs
+range-of-requires-2 : tie.Need-range-of-requires-2
+range-of-requires-2 c κs =
+    let a = c .before .before .before .before .before in
+    let b = a .before .before .before .before in
+    let x = b .before .before in
+    let p = x .before .before .pre in
+    let e = x .expect .ensures .0 in
+    let f = b .body .given .1 in
+    (expected-from _ _ _ _ _ _ _ e f (p .0), expected-to _ _ _ _ _ _ _ e f (p .0))
 
 add-more : tie.Need-add-more
 add-more c = search elements-fits
@@ -69,11 +79,10 @@ returns-4 c =
     let p = x .before .before .pre in
     let e = x .expect .ensures .0 in
     let f = b .body .given .1 in
-    let i = body-range _ _ (c .before .of .ensures) (omega (arith, p)) (omega (arith, p)) in
-    let v = body-range _ _ (c .of2 .ensures) (expected-from _ _ _ _ _ _ _ e f (p .0)) (expected-to _ _ _ _ _ _ _ e f (p .0)) in
     element-found _ _ _ _ _ _ _ _ e f
     (checked-passed _ _ _ _ _ _ _ (m .before .before .elements .ensures .0) (m .count .given .1)
-    (checked-passed _ _ _ _ _ _ _ (k .finish .ensures .0) (c .before .before .enum-told .given .1) (made _ _ _ _ _ _ _ _ i refl v)))
+    (checked-passed _ _ _ _ _ _ _ (k .finish .ensures .0) (c .before .before .enum-told .given .1)
+    (made _ _ _ _ _ _ _ _ (c .before .range-of .ensures) refl (c .range-of2 .ensures))))
 
 pub attribute-values-spec : {M : Type 1} → statement M
 attribute-values-spec =
@@ -88,8 +97,8 @@ attribute-values-spec =
     finish-requires
     enum-known-f-3
     enum-told
-    of-requires
-    of-requires-2
+    range-of-requires
+    range-of-requires-2
     add-more
     returns
     returns-2

@@ -1,33 +1,36 @@
--- The bag before the ranges.
-use Rattle.buffer.proofs.Placing.{_then_}
-use Rattle.words.proofs.Stores.{word-then}
-use native.Mathlib.Omega.{arith}
+-- Nothing where the memory is short or there is no such row, else the row.
+use Rattle.words.proofs.InPlace.{kept-short, kept-none, row-stored}
+use Rattle.words.specs.InPlace.{attributeStored}
 use borrow.Author.Needs.{needs}
 use Rattle.words.proofs.put.attribute.Statement.{statement}
 use Rattle.words.proofs.put.attribute.Tie as tie
 
-cast-bag : tie.Need-cast-bag
-cast-bag c = search needs
+returns : tie.Need-returns
+unfolding attributeStored
+returns c = kept-short _ _ (c .if1 .taken)
 
-word-requires : tie.Need-word-requires
-word-requires c κs = search needs
+returns-2 : tie.Need-returns-2
+unfolding attributeStored
+returns-2 c = kept-none _ _ _ _ (c .before .if1 .left) (c .if2 .taken)
 
-range-requires : tie.Need-range-requires
-range-requires c κs = search needs
+mul-at : tie.Need-mul-at
+mul-at c = search needs
 
-range-requires-2 : tie.Need-range-requires-2
-range-requires-2 c κs = search needs
+add-at : tie.Need-add-at
+add-at c = search needs
+
+attribute-requires : tie.Need-attribute-requires
+attribute-requires c κs = search needs
 
 same-length : tie.Need-same-length
 same-length c = search needs
 
-returns : tie.Need-returns
-returns c =
-    let a = c .before .before in
-    let b = a .before .before .before .before in
-    let d = b .before .before .before .before in
-    word-then (omega arith) (d .word .ensures) (_then_ (b .range .ensures) (a .range2 .ensures))
+returns-3 : tie.Need-returns-3
+unfolding attributeStored
+returns-3 c =
+    let f = c .before .before .before .before in
+    row-stored (f .before .if1 .left) (f .if2 .left) (c .before .before .attribute .ensures)
 
 pub attribute-spec : {M : Type 1} → statement M
 attribute-spec =
-    tie.close (tie.spec cast-bag word-requires range-requires range-requires-2 same-length returns)
+    tie.close (tie.spec returns returns-2 mul-at add-at attribute-requires same-length returns-3)
