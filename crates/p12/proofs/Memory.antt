@@ -1,5 +1,5 @@
 -- What `p12_read` leaves in the memory, and what the calls that take a table from it return.
-use mathlib.Core.Path.{_≡_, refl, sym, ap, subst, _∙_}
+use mathlib.Core.Path.{_≡_, refl, sym, ap, _∙_}
 use mathlib.Core.List.{List, _++_}
 use Prim.Native.Nat.{ℕ, _≤_, _<_}
 use native.Mathlib.Omega.{arith}
@@ -14,16 +14,15 @@ use Rattle.buffer.specs.Report.{writtenReport}
 use Rattle.pkcs12.specs.Walk.{readFile}
 use Rattle.pkcs12.specs.Written.{writeFile}
 use Rattle.pkcs12.specs.declared.answers.Answer.{Answer}
-use Rattle.pkcs12.specs.declared.answers.Answer.the-variants.{Accepted}
 use Rattle.pkcs12.specs.declared.table.Table.{Table}
 use Rattle.pkcs12.proofs.Theorems.{refused-table-empty, read-is-written}
 use Rattle.words.specs.Layout.{tableWords}
 use Rattle.words.specs.Stored.{wordsOf}
 use Rattle.load.specs.Loaded.{tableIn}
-use Rattle.load.specs.Wordable.{Wordable}
-use Rattle.load.proofs.Theorems.{words-count, stored-is-loaded, accepted-wordable, empty-wordable, empty-is-zeros}
+use Rattle.load.proofs.Theorems.{words-count}
 use Rattle.reader.specs.Memory.{Into}
-use Rattle.reader.proofs.Filled.{into-short, into-whole}
+use Rattle.reader.proofs.Filled.{into-whole}
+use Rattle.reader.proofs.Theorems as reader
 use Rattle.p12.specs.Calls.{ok, readNumber, readOffset, Called, called, wrote, readCall, writeCall, Is11}
 use Rattle.p12.proofs.Unsound.{empty-is-11}
 
@@ -33,44 +32,28 @@ asCall x = called (readNumber (x .answer)) (x .memory) (readOffset (x .answer))
 
 pub short-is-10 : (f words : List ℕ) → length words < tableWords → readCall f words ≡ called shortBuffer words 0
 unfolding readCall answerReport
-short-is-10 f words h = ap asCall (into-short f words h)
+short-is-10 f words h = ap asCall (reader.short-is-10 f words h)
 
 module _ (f words : List ℕ) (h : tableWords ≤ length words) where
-  -- the number, the words of a table with what is behind them, and the offset
-  abbrev told : Answer → Table → Called
-  told x t = called (readNumber x) (wordsOf t ++ drop tableWords words) (readOffset x)
-
-  told-is : readCall f words ≡ told (readFile f .answer) (tableFrom f)
-  unfolding readCall
-  told-is = ap asCall (into-whole f words h)
-
-  still-long : tableWords ≤ length (readCall f words .memory)
-  still-long =
-      let a = length-append (wordsOf (tableFrom f)) (drop tableWords words) in
-      rw told-is (omega (arith, a, words-count (tableFrom f)))
-
   pub read-stores : IsAccepted f → readCall f words ≡ called ok (wordsOf (tableFrom f) ++ drop tableWords words) 0
-  unfolding answerReport
-  read-stores a = told-is ∙ ap (λ (x : Answer). told x (tableFrom f)) a
+  unfolding readCall answerReport
+  read-stores a = ap asCall (reader.accepted-is-stored f words h a)
 
   pub refused-is-cleared : (x : Fault) → readFile f .answer ≡ Answer.Refused x
       → readCall f words ≡ called (x .number) (replicate tableWords 0 ++ drop tableWords words) (x .offset)
-  unfolding answerReport
-  refused-is-cleared x e =
-      told-is
-      ∙ ap (λ (y : Answer). told y (tableFrom f)) e
-      ∙ ap (told (Answer.Refused x)) (refused-table-empty f x e)
-      ∙ ap (λ (ws : List ℕ). called (x .number) (ws ++ drop tableWords words) (x .offset)) empty-is-zeros
+  unfolding readCall answerReport
+  refused-is-cleared x e = ap asCall (reader.refused-is-cleared f words h x e)
+
+  still-long : tableWords ≤ length (readCall f words .memory)
+  unfolding readCall
+  still-long =
+      let a = length-append (wordsOf (tableFrom f)) (drop tableWords words) in
+      rw (into-whole f words h) (omega (arith, a, words-count (tableFrom f)))
 
   module _ (b : Bytes f) where
-    table-fits : (x : Answer) → readFile f .answer ≡ x → Wordable (tableFrom f)
-    table-fits Accepted e = accepted-wordable f b e
-    table-fits (Answer.Refused x) e = subst Wordable (sym (refused-table-empty f x e)) empty-wordable
-
     pub read-is-loaded : tableIn (readCall f words .memory) ≡ tableFrom f
-    read-is-loaded =
-        let w = table-fits (readFile f .answer) refl in
-        rw told-is (stored-is-loaded (tableFrom f) w (drop tableWords words))
+    unfolding readCall
+    read-is-loaded = reader.into-is-loaded f words h b
 
     pub refused-is-11 : (x : Fault) → readFile f .answer ≡ Answer.Refused x
         → (s : List ℕ) → Is11 (readCall f words .memory) s

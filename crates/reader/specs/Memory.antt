@@ -81,10 +81,13 @@ pub record Into : Type 0 where
   pub answer : Answer
   pub memory : List ℕ
 
+abbrev pub into : Answer → List ℕ → Into
+into a m = record { answer = a; memory = m }
+
 -- 10 if the memory is shorter than a table, whatever the file. Else the memory begins with the words
 -- of the reading's table, and what is behind them is as before; so for every file, since a refused
 -- one has the empty table (Rule 5.38).
 unfoldable pub readInto : List ℕ → List ℕ → Into
 readInto f m =
-    if ltb (length m) tableWords then record { answer = Answer.Refused (fault shortBuffer 0); memory = m } else
-    record { answer = readFile f .answer; memory = wordsOf (readFile f .table) ++ drop tableWords m }
+    if ltb (length m) tableWords then into (Answer.Refused (fault shortBuffer 0)) m else
+    into (readFile f .answer) (wordsOf (readFile f .table) ++ drop tableWords m)
