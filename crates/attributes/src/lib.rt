@@ -1,5 +1,7 @@
 // Returns the attributes of one bag in turn. `Attributes` keeps the file and a position; the work
 // is done on the position, which is plain.
+#![tactic(auto)]
+
 ghost use Rattle.std.specs.Prelude.{◌≡◌};
 ghost use Rattle.der.specs.Span.{Bytes};
 ghost use Rattle.range.specs.Range.{bytes_in};
@@ -14,7 +16,7 @@ use sound::Measured;
 
 // What a call returned: nothing yet, an attribute, that there are no more (`Done`), or the refusal
 // of opening.
-#[derive(Drop)]
+#[derive(Clone, Copy)]
 pub enum Item {
     Ready,
     Attribute(AttributeRow),
@@ -24,7 +26,7 @@ pub enum Item {
 
 // The position of a reader: the attribute rows and their number, the bag's row, the next row to
 // look at, and what the last call returned.
-#[derive(Drop)]
+#[derive(Clone, Copy)]
 pub struct Position {
     pub rows: [AttributeRow; pkcs12::ATTRIBUTE_ROWS],
     pub count: usize,
@@ -35,7 +37,7 @@ pub struct Position {
 
 // A reader of one bag's attributes. It keeps the file, the caller's bytes that its ranges point
 // into.
-#[derive(Drop)]
+#[derive(Clone, Copy)]
 pub struct Attributes<'a> {
     pub file: &'a [u8],
     pub position: Position,
@@ -167,7 +169,7 @@ pub fn next<'a>(r: Attributes<'a>) -> Attributes<'a>
 // What the last call returned.
 pub fn given<'a>(r: Attributes<'a>) -> Item
     ensures value { result ≡ r.entry.position.item }
-    ensures result_value { item_report result ≡ item_report r.entry.position.item }
+    ensures report { item_report result ≡ item_report r.entry.position.item }
 {
     r.position.item
 }
@@ -194,7 +196,7 @@ fn is_last(item: Item) -> bool
 // What call i returns, counted from 0, of a reader that is opened for it.
 pub fn attribute(table: Table, file: &[u8], bag: usize, i: usize) -> Item
     ensures value { result ≡ item_after i (opening_of table file.now bag) }
-    ensures result_value { item_report result ≡ item_report (item_after i (opening_of table file.now bag)) }
+    ensures report { item_report result ≡ item_report (item_after i (opening_of table file.now bag)) }
     ensures bytes { Bytes file.now }
 {
     let mut position = opening(table, file, bag).next();

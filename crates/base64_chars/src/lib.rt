@@ -1,4 +1,6 @@
 // Base64 (RFC 4648, section 4): the characters of the 64 values, and the values of characters.
+#![tactic(auto)]
+
 ghost use Rattle.std.specs.Prelude.{◌≡◌, ◌%◌, get_or};
 ghost use Rattle.base64_chars.specs.Alphabet.{alphabet, value_table};
 

@@ -1,5 +1,7 @@
 // What every crate that reads or writes a caller's bytes shares: the answer of a call that writes,
 // and bytes and numbers, read at an offset and written at one.
+#![tactic(auto)]
+
 pub mod read;
 pub mod write;
 
@@ -18,7 +20,7 @@ pub const NOT_SOUND: u8 = 11;
 
 // The answer of a call that writes: the number of bytes or words written, or the refusal, at offset
 // 0.
-#[derive(Drop)]
+#[derive(Clone, Copy)]
 pub enum Written {
     Length(usize),
     Refused(Fault),

@@ -1,6 +1,8 @@
 // An upload as plain cells of 16 bits in a caller's memory: the check of an upload for callers that
 // hold no value of it. Every call answers any cells. They are the `state` of `p12_upload_begin` in
 // include/p12.h.
+#![tactic(auto)]
+
 ghost use Rattle.std.specs.Prelude.{◌≡◌};
 ghost use Rattle.der.specs.Span.{Bytes};
 ghost use Rattle.stream.specs.Report.{status_report, end_report};
@@ -39,7 +41,7 @@ pub const REFUSED: u16 = 8;
 
 // What is due as plain numbers: its kind, the offset, the tag or the number of a refusal, and two
 // more, 0 where the kind has no use for them.
-#[derive(Drop)]
+#[derive(Clone, Copy)]
 struct Plain {
     kind: u16,
     at: u16,
@@ -59,7 +61,7 @@ fn refused(number: u8) -> stream::Status
 // The length is announced. 10 if there are fewer cells than an upload takes.
 pub fn begin(length: usize, cells: &mut [u16]) -> stream::Status
     ensures value { result ≡ (begun_in length cells.old).answer }
-    ensures result_value { status_report result ≡ status_report (begun_in length cells.old).answer }
+    ensures report { status_report result ≡ status_report (begun_in length cells.old).answer }
     ensures cells_after { cells.new ≡ (begun_in length cells.old).cells }
 {
     let count = cells.len();
@@ -74,7 +76,7 @@ pub fn begin(length: usize, cells: &mut [u16]) -> stream::Status
 // A portion arrives; it may be empty. 11 if there are fewer cells than an upload takes.
 pub fn take(cells: &mut [u16], portion: &[u8]) -> stream::Status
     ensures value { result ≡ (taken_in cells.old portion.now).answer }
-    ensures result_value { status_report result ≡ status_report (taken_in cells.old portion.now).answer }
+    ensures report { status_report result ≡ status_report (taken_in cells.old portion.now).answer }
     ensures cells_after { cells.new ≡ (taken_in cells.old portion.now).cells }
     ensures bytes { Bytes portion.now }
 {
@@ -90,7 +92,7 @@ pub fn take(cells: &mut [u16], portion: &[u8]) -> stream::Status
 // What is certain so far; 11 if there are fewer cells than an upload takes.
 pub fn status(cells: &[u16]) -> stream::Status
     ensures value { result ≡ status_in cells.now }
-    ensures result_value { status_report result ≡ status_report (status_in cells.now) }
+    ensures report { status_report result ≡ status_report (status_in cells.now) }
 {
     if cells.len() < UPLOAD_LENGTH {
         return refused(buffer::NOT_SOUND);
@@ -102,7 +104,7 @@ pub fn status(cells: &[u16]) -> stream::Status
 // The answer if the upload ends here; 11 if there are fewer cells than an upload takes.
 pub fn end(cells: &[u16]) -> stream::End
     ensures value { result ≡ end_in cells.now }
-    ensures result_value { end_report result ≡ end_report (end_in cells.now) }
+    ensures report { end_report result ≡ end_report (end_in cells.now) }
 {
     if cells.len() < UPLOAD_LENGTH {
         let fault = Fault {

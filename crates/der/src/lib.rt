@@ -1,6 +1,8 @@
 // One element of DER (ITU-T X.690) and what PKCS #12 files are made of: tags, lengths, identifiers,
 // integers, and opaque elements, which are checked for their form to the bottom. Every public
 // function answers any cursor over any bytes.
+#![tactic(auto)]
+
 ghost use Rattle.std.specs.Prelude.{◌≡◌, ◌+◌, ◌^◌, ◌%◌, ◌<◌, ◌≤◌, length, get_or};
 ghost use Rattle.std.proofs.Math.Seq.{slice};
 ghost use Rattle.der.specs.Numbers.{octet_string_tag};
@@ -52,7 +54,7 @@ pub const CONTEXT_0: u8 = 0xA0;
 pub const OPAQUE_LEVELS: u8 = 16;
 
 // The first fault: its number, and its offset in the file.
-#[derive(Drop)]
+#[derive(Clone, Copy)]
 pub struct Fault {
     pub number: u8,
     pub offset: usize,
@@ -60,28 +62,28 @@ pub struct Fault {
 
 // A position in a parent's body: the offset of the next byte, and that of the body's end. A cursor
 // that ends past the bytes, or at or before its own position, has no byte left.
-#[derive(Drop)]
+#[derive(Clone, Copy)]
 pub struct Cursor {
     pub at: usize,
     pub end: usize,
 }
 
 // An element: its tag, its body, and the cursor past the whole element.
-#[derive(Drop)]
+#[derive(Clone, Copy)]
 pub enum Element {
     Found { tag: u8, body: Cursor, next: Cursor },
     Refused(Fault),
 }
 
 // What a check went through: the number of elements, and the cursor past them.
-#[derive(Drop)]
+#[derive(Clone, Copy)]
 pub enum Checked {
     Passed { count: usize, next: Cursor },
     Refused(Fault),
 }
 
 // The number in an INTEGER, and the cursor past it.
-#[derive(Drop)]
+#[derive(Clone, Copy)]
 pub enum Integer {
     Value { value: u32, next: Cursor },
     Refused(Fault),
@@ -473,7 +475,7 @@ impl Cursor {
     // A parent's body is at its end; what is left over is refused.
     pub fn finish(self) -> Checked
         ensures value { result ≡ finish_at self }
-        ensures result_value { checked_report result ≡ checked_report (finish_at self) }
+        ensures report { checked_report result ≡ checked_report (finish_at self) }
     {
         let left = self.at;
         let end = self.end;
@@ -492,7 +494,7 @@ impl Cursor {
     // The next element, of any tag.
     pub fn element(self, s: &[u8]) -> Element
         ensures value { result ≡ element_at s.now self }
-        ensures result_value { element_report result ≡ element_report (element_at s.now self) }
+        ensures report { element_report result ≡ element_report (element_at s.now self) }
         ensures bytes { Bytes s.now }
     {
         let at = self.at;
@@ -536,7 +538,7 @@ impl Cursor {
     // The next element, with the tag that is due.
     pub fn expect(self, s: &[u8], due: u8) -> Element
         ensures value { result ≡ expect_at due s.now self }
-        ensures result_value { element_report result ≡ element_report (expect_at due s.now self) }
+        ensures report { element_report result ≡ element_report (expect_at due s.now self) }
         ensures bytes { Bytes s.now }
     {
         if due == 0 {
@@ -567,7 +569,7 @@ impl Cursor {
     // The next element, an OCTET STRING.
     pub fn octet_string(self, s: &[u8]) -> Element
         ensures value { result ≡ expect_at octet_string_tag s.now self }
-        ensures result_value { element_report result ≡ element_report (expect_at octet_string_tag s.now self) }
+        ensures report { element_report result ≡ element_report (expect_at octet_string_tag s.now self) }
         ensures bytes { Bytes s.now }
     {
         self.expect(s, OCTET_STRING)
@@ -576,7 +578,7 @@ impl Cursor {
     // The next element, an OBJECT IDENTIFIER.
     pub fn identifier(self, s: &[u8]) -> Element
         ensures value { result ≡ identifier_at s.now self }
-        ensures result_value { element_report result ≡ element_report (identifier_at s.now self) }
+        ensures report { element_report result ≡ element_report (identifier_at s.now self) }
         ensures bytes { Bytes s.now }
     {
         let at = self.at;
@@ -600,7 +602,7 @@ impl Cursor {
     // The next element, an INTEGER, with its number.
     pub fn integer(self, s: &[u8]) -> Integer
         ensures value { result ≡ integer_at s.now self }
-        ensures result_value { integer_report result ≡ integer_report (integer_at s.now self) }
+        ensures report { integer_report result ≡ integer_report (integer_at s.now self) }
         ensures bytes { Bytes s.now }
     {
         let at = self.at;
@@ -682,7 +684,7 @@ impl Cursor {
     // The next element, checked to the bottom, with `level` levels left.
     pub fn opaque(self, s: &[u8], level: u8) -> Checked
         ensures value { result ≡ opaque_at level s.now self }
-        ensures result_value { checked_report result ≡ checked_report (opaque_at level s.now self) }
+        ensures report { checked_report result ≡ checked_report (opaque_at level s.now self) }
         ensures bytes { Bytes s.now }
     {
         let at = self.at;
@@ -715,7 +717,7 @@ impl Cursor {
     // Zero or more elements up to the cursor's end, each checked to the bottom.
     pub fn elements(self, s: &[u8], level: u8) -> Checked
         ensures value { result ≡ elements_at level s.now self }
-        ensures result_value { checked_report result ≡ checked_report (elements_at level s.now self) }
+        ensures report { checked_report result ≡ checked_report (elements_at level s.now self) }
         ensures bytes { Bytes s.now }
     {
         let at = self.at;

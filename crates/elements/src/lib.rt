@@ -1,4 +1,6 @@
 // The elements of a range of bytes, one behind another: how many there are, and one of them.
+#![tactic(auto)]
+
 ghost use Rattle.std.specs.Prelude.{◌≡◌};
 ghost use Rattle.der.specs.Span.{Bytes};
 ghost use Rattle.elements.specs.Elements.{element_ranges, counted_of, chosen_of};
@@ -7,7 +9,7 @@ use der::{Cursor, Element};
 use range::Range;
 
 // The number of elements in a range, and one of them.
-#[derive(Drop)]
+#[derive(Clone, Copy)]
 pub struct Counted {
     pub count: usize,
     pub element: Range,

@@ -1,4 +1,6 @@
 // Elements, headers and INTEGERs of DER: measured, and written into a caller's buffer.
+#![tactic(auto)]
+
 pub mod size;
 pub mod write;
 

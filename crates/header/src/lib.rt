@@ -1,5 +1,7 @@
 // The header of an element, byte by byte: what the next byte decides, with the first byte that
 // does. Every public function answers any values.
+#![tactic(auto)]
+
 ghost use Rattle.std.specs.Prelude.{◌≡◌, ◌+◌, ◌^◌, ◌<◌};
 ghost use Rattle.header.specs.Header.{arrived_at, entering, on_tag, on_length, on_one, on_first};
 ghost use Rattle.header.specs.Header.{on_second, moved};
@@ -15,7 +17,7 @@ pub const UPLOAD_LEVELS: u8 = 20;
 
 // What the next byte is. `at` is the offset of the tag of its element, and of the byte itself in a
 // body.
-#[derive(Drop)]
+#[derive(Clone, Copy)]
 pub enum Due {
     // a tag
     Tag { at: u16 },
@@ -37,7 +39,7 @@ pub enum Due {
 // What a byte does: refuses the element at `at`, after so many bytes, waits for the next byte of
 // a header, enters the body of an element, passes a byte of a body, comes after the last one, or
 // changes nothing.
-#[derive(Drop)]
+#[derive(Clone, Copy)]
 pub enum Move {
     Refuse {
         number: u8,

@@ -1,4 +1,6 @@
 // The identity rows of a table's bags, and the certificate for a key's bag.
+#![tactic(auto)]
+
 ghost use Rattle.std.specs.Prelude.{◌≡◌, get_or};
 ghost use Rattle.der.specs.Span.{Bytes};
 ghost use Rattle.buffer.specs.Report.{written_report};
@@ -22,21 +24,21 @@ use sound::Measured;
 pub const LOCAL_KEY_ID: [u8; 9] = *b"\x2A\x86\x48\x86\xF7\x0D\x01\x09\x15";
 
 // The identity row of a bag, or the refusal, at offset 0.
-#[derive(Drop)]
+#[derive(Clone, Copy)]
 pub enum Identity {
     Row(IdentityRow),
     Refused(Fault),
 }
 
 // Whether there is an id, and its range.
-#[derive(Drop)]
+#[derive(Clone, Copy)]
 struct Id {
     present: bool,
     range: Range,
 }
 
 // What filling a caller's rows comes to: the answer, how many rows are stored, and these.
-#[derive(Drop)]
+#[derive(Clone, Copy)]
 struct Filling {
     answer: Written,
     count: usize,
@@ -144,7 +146,7 @@ fn row_of(table: Table, bytes: &[u8], bag: usize) -> IdentityRow
 // The identity row of a bag of a table over bytes; refused as opening its attributes is.
 pub fn identity_of(table: Table, bytes: &[u8], bag: usize) -> Identity
     ensures value { result ≡ identity_at table bytes.now bag }
-    ensures result_value { identity_report result ≡ identity_report (identity_at table bytes.now bag) }
+    ensures report { identity_report result ≡ identity_report (identity_at table bytes.now bag) }
     ensures bytes { Bytes bytes.now }
 {
     let position = attributes::opening(table, bytes, bag);
@@ -174,7 +176,7 @@ fn rows_of(table: Table, bytes: &[u8]) -> [IdentityRow; pkcs12::BAG_ROWS]
 // The certificate for the key in bag row `key` of a table over bytes, by its bag row.
 pub fn certificate_for(table: Table, bytes: &[u8], key: usize) -> Paired
     ensures value { result ≡ certificate_for table bytes.now key }
-    ensures result_value { paired_report result ≡ paired_report (certificate_for table bytes.now key) }
+    ensures report { paired_report result ≡ paired_report (certificate_for table bytes.now key) }
     ensures bytes { Bytes bytes.now }
 {
     match sound::measure(table, bytes) {
@@ -234,7 +236,7 @@ fn row_at(filling: Filling, i: usize) -> IdentityRow
 // Stores the identity rows of all bags at the front of the caller's rows.
 pub fn fill(table: Table, bytes: &[u8], out: &mut [IdentityRow]) -> Written
     ensures value { result ≡ (fill_of table bytes.now out.old).answer }
-    ensures result_value { written_report result ≡ written_report (fill_of table bytes.now out.old).answer }
+    ensures report { written_report result ≡ written_report (fill_of table bytes.now out.old).answer }
     ensures out_after { out.new ≡ (fill_of table bytes.now out.old).rows }
     ensures bytes { Bytes bytes.now }
 {

@@ -1,5 +1,7 @@
 // Lists the file on standard input: bytes, or a text that wraps them. Of an input that is too long
 // one byte more than the longest text has is read, so that it is refused as such.
+#![tactic(auto)]
+
 fn list(file: &[u8]) {
     let mut text = io::large_buffer();
     let written = listing::list(file.len(), reader::read(file), &mut text);

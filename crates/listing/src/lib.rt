@@ -1,5 +1,7 @@
 // Writes the listing of a file into a caller's buffer: three lines and one for each row, or the
 // line of a refusal. docs/USING.md has the forms.
+#![tactic(auto)]
+
 ghost use Rattle.std.specs.Prelude.{◌≡◌, length};
 ghost use Rattle.buffer.specs.Report.{written_report};
 ghost use Rattle.listing.specs.Lines.{head_lines, accepted_lines, answered, listing};
@@ -57,7 +59,7 @@ fn measured(size: usize, reading: Reading) -> usize
 // is long enough.
 pub fn list(size: usize, reading: Reading, out: &mut [u8]) -> Written
     ensures value { result ≡ (listed size reading out.old).answer }
-    ensures result_value { written_report result ≡ written_report (listed size reading out.old).answer }
+    ensures report { written_report result ≡ written_report (listed size reading out.old).answer }
     ensures out_after { out.new ≡ (listed size reading out.old).buffer }
 {
     let n = measured(size, reading);

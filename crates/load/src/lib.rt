@@ -1,5 +1,7 @@
 // Loads a table, or one row of it, from plain words; the words are those that `words` stores. Words
 // that aren't there count as 0.
+#![tactic(auto)]
+
 ghost use Rattle.std.specs.Prelude.{◌≡◌};
 ghost use Rattle.load.specs.Loaded.{safe_fetched, bag_fetched, attribute_fetched, table_in};
 

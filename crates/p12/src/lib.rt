@@ -1,5 +1,7 @@
 // The calls for programs in C; include/p12.h says in C's words what each does. A slice is a pointer
 // and a length there.
+#![tactic(auto)]
+
 ghost use Rattle.std.specs.Prelude.{◌≡◌, ltb};
 ghost use Rattle.der.specs.Span.{Bytes};
 ghost use Rattle.pkcs12.specs.Walk.{read_file};

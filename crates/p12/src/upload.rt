@@ -8,7 +8,7 @@ use stream::{End, Status};
 
 // What an answer reports as plain numbers: those of a fault, 0 where there is none, and those of a
 // check that passed, 0 where it did not.
-#[derive(Drop)]
+#[derive(Clone, Copy)]
 struct Reported {
     number: u8,
     offset: usize,

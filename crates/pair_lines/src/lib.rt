@@ -1,6 +1,8 @@
 // Writes the pairs of a file into a caller's buffer: a line for each key bag with the row of its
 // certificate, or with the refusal; of a refused file the line of its refusal. docs/USING.md has
 // the forms.
+#![tactic(auto)]
+
 ghost use Rattle.std.specs.Prelude.{◌≡◌};
 ghost use Rattle.der.specs.Span.{Bytes};
 ghost use Rattle.buffer.specs.Report.{written_report};
@@ -86,7 +88,7 @@ fn answered(out: &mut [u8], answer: Answer, table: Table, file: &[u8]) -> usize
 // each key is paired once, and nothing of `out` is written before it is known that the text fits.
 pub fn list(file: &[u8], reading: Reading, out: &mut [u8]) -> Written
     ensures value { result ≡ (pairs_listed file.now reading out.old).answer }
-    ensures result_value { written_report result ≡ written_report (pairs_listed file.now reading out.old).answer }
+    ensures report { written_report result ≡ written_report (pairs_listed file.now reading out.old).answer }
     ensures out_after { out.new ≡ (pairs_listed file.now reading out.old).buffer }
     ensures bytes { Bytes file.now }
 {

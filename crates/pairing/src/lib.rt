@@ -1,5 +1,7 @@
 // Pairs keys with certificates by their ids. `pair` works over the caller's own list of identity
 // rows; each row is judged by value.
+#![tactic(auto)]
+
 ghost use Rattle.std.specs.Prelude.{◌≡◌};
 ghost use Rattle.der.specs.Element.{fault};
 ghost use Rattle.der.specs.Span.{Bytes};
@@ -19,7 +21,7 @@ pub const MORE_CERTIFICATES: u8 = 14;
 
 // What pairing goes by: a bag's kind, whether it has an id, and the id's range in the caller's
 // bytes.
-#[derive(Drop)]
+#[derive(Clone, Copy)]
 pub struct IdentityRow {
     pub kind: BagKind,
     pub has_id: bool,
@@ -35,7 +37,7 @@ impl IdentityRow {
 }
 
 // The row of the certificate, or the refusal, at offset 0.
-#[derive(Drop)]
+#[derive(Clone, Copy)]
 pub enum Paired {
     Certificate(usize),
     Refused(Fault),
@@ -44,7 +46,7 @@ pub enum Paired {
 // What is known after some rows: the number of the key's row, that row once it was met, whether
 // every id lies in the bytes, and of the certificates with the key's id how many there are, where
 // 2 means two or more, and the row of the first.
-#[derive(Drop)]
+#[derive(Clone, Copy)]
 struct Search {
     number: usize,
     key: IdentityRow,
@@ -255,7 +257,7 @@ fn answer(state: Search) -> Paired
 // The only certificate row with the id of the key in row `key`.
 pub fn pair(rows: &[IdentityRow], bytes: &[u8], key: usize) -> Paired
     ensures value { result ≡ paired bytes.now rows.now key }
-    ensures result_value { paired_report result ≡ paired_report (paired bytes.now rows.now key) }
+    ensures report { paired_report result ≡ paired_report (paired bytes.now rows.now key) }
     ensures bytes { Bytes bytes.now }
 {
     let start = begin(key);
@@ -269,7 +271,7 @@ pub fn pair(rows: &[IdentityRow], bytes: &[u8], key: usize) -> Paired
 // walk.
 pub fn pair_all(rows: [IdentityRow; pkcs12::BAG_ROWS], bytes: &[u8], key: usize) -> Paired
     ensures value { result ≡ paired bytes.now rows key }
-    ensures result_value { paired_report result ≡ paired_report (paired bytes.now rows key) }
+    ensures report { paired_report result ≡ paired_report (paired bytes.now rows key) }
     ensures bytes { Bytes bytes.now }
 {
     pair(&rows, bytes, key)

@@ -1,5 +1,7 @@
 // Says for each key bag of the file on standard input, bytes or a text that wraps them, which bag
 // holds its certificate. A file that is refused is answered by the line of its refusal.
+#![tactic(auto)]
+
 fn pairs(file: &[u8]) {
     let mut text = [0u8; pair_lines::PAIRS_BYTES];
     let written = pair_lines::list(file, reader::read(file), &mut text);

@@ -1,6 +1,8 @@
 // What is read at a cursor and makes no row: algorithms, ciphertexts, and the values of bags. Each
 // function returns the ranges of what is at the cursor with the number of its elements, or the
 // first fault. Bytes that are longer than a file are refused (9).
+#![tactic(auto)]
+
 ghost use Rattle.std.specs.Prelude.{◌≡◌};
 ghost use Rattle.der.specs.Element.{fault};
 ghost use Rattle.der.specs.Span.{Bytes};
@@ -27,7 +29,7 @@ fn too_long() -> PartsAt
 // An AlgorithmIdentifier.
 pub fn algorithm(s: &[u8], c: Cursor) -> PartsAt
     ensures value { result ≡ in_file s.now (algorithm_at s.now c) }
-    ensures result_value { parts_report result ≡ parts_report (in_file s.now (algorithm_at s.now c)) }
+    ensures report { parts_report result ≡ parts_report (in_file s.now (algorithm_at s.now c)) }
     ensures bytes { Bytes s.now }
 {
     if buffer::FILE_BYTES < s.len() {
@@ -39,7 +41,7 @@ pub fn algorithm(s: &[u8], c: Cursor) -> PartsAt
 // An algorithm with the octets that it made: a shrouded key, a digest.
 pub fn sealed(s: &[u8], c: Cursor) -> PartsAt
     ensures value { result ≡ in_file s.now (sealed_at s.now c) }
-    ensures result_value { parts_report result ≡ parts_report (in_file s.now (sealed_at s.now c)) }
+    ensures report { parts_report result ≡ parts_report (in_file s.now (sealed_at s.now c)) }
     ensures bytes { Bytes s.now }
 {
     if buffer::FILE_BYTES < s.len() {
@@ -51,7 +53,7 @@ pub fn sealed(s: &[u8], c: Cursor) -> PartsAt
 // An opaque SEQUENCE: the value of a key bag.
 pub fn key(s: &[u8], c: Cursor) -> PartsAt
     ensures value { result ≡ in_file s.now (key_at s.now c) }
-    ensures result_value { parts_report result ≡ parts_report (in_file s.now (key_at s.now c)) }
+    ensures report { parts_report result ≡ parts_report (in_file s.now (key_at s.now c)) }
     ensures bytes { Bytes s.now }
 {
     if buffer::FILE_BYTES < s.len() {
@@ -63,7 +65,7 @@ pub fn key(s: &[u8], c: Cursor) -> PartsAt
 // A type and its value: the value of a certificate, CRL or secret bag.
 pub fn typed(certificate: bool, s: &[u8], c: Cursor) -> PartsAt
     ensures value { result ≡ in_file s.now (typed_at certificate s.now c) }
-    ensures result_value { parts_report result ≡ parts_report (in_file s.now (typed_at certificate s.now c)) }
+    ensures report { parts_report result ≡ parts_report (in_file s.now (typed_at certificate s.now c)) }
     ensures bytes { Bytes s.now }
 {
     if buffer::FILE_BYTES < s.len() {
@@ -75,7 +77,7 @@ pub fn typed(certificate: bool, s: &[u8], c: Cursor) -> PartsAt
 // The EncryptedData of an encrypted safe.
 pub fn encrypted(s: &[u8], c: Cursor) -> PartsAt
     ensures value { result ≡ in_file s.now (encrypted_at s.now c) }
-    ensures result_value { parts_report result ≡ parts_report (in_file s.now (encrypted_at s.now c)) }
+    ensures report { parts_report result ≡ parts_report (in_file s.now (encrypted_at s.now c)) }
     ensures bytes { Bytes s.now }
 {
     if buffer::FILE_BYTES < s.len() {

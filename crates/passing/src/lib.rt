@@ -1,1 +1,2 @@
 // Every accepted file passes the check of an upload: theorems only.
+#![tactic(auto)]

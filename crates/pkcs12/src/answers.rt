@@ -3,21 +3,21 @@ use crate::row::{Mac, Parts};
 use crate::table::Table;
 use der::{Cursor, Fault};
 
-#[derive(Drop)]
+#[derive(Clone, Copy)]
 pub enum Answer {
     Accepted,
     Refused(Fault),
 }
 
 // What reading a file returns. The table of a refused file is empty.
-#[derive(Drop)]
+#[derive(Clone, Copy)]
 pub struct Reading {
     pub answer: Answer,
     pub table: Table,
 }
 
 // Parts of a file: their ranges, the number of elements, and the cursor past them.
-#[derive(Drop)]
+#[derive(Clone, Copy)]
 pub enum PartsAt {
     Found {
         parts: Parts,
@@ -28,7 +28,7 @@ pub enum PartsAt {
 }
 
 // The MAC fields of a file, the number of elements, and the cursor past them.
-#[derive(Drop)]
+#[derive(Clone, Copy)]
 pub enum MacAt {
     Found {
         mac: Mac,

@@ -5,7 +5,7 @@ ghost use Rattle.pkcs12.specs.Identifiers.{kind_of};
 ghost use Rattle.pkcs12.specs.Report.{kind_report};
 
 // `None` is the kind of an empty row.
-#[derive(Drop)]
+#[derive(Clone, Copy)]
 pub enum SafeKind {
     None,
     Plain,
@@ -13,7 +13,7 @@ pub enum SafeKind {
 }
 
 // `None` is the kind of an empty row, and of an identifier that is of no kind.
-#[derive(Drop)]
+#[derive(Clone, Copy)]
 pub enum BagKind {
     None,
     Key,
@@ -40,7 +40,7 @@ impl BagKind {
     // The kind that a bag_id's body names, `None` if it names no kind.
     pub fn of(body: &[u8]) -> BagKind
         ensures value { result ≡ kind_of body.now }
-        ensures result_value { kind_report result ≡ kind_report (kind_of body.now) }
+        ensures report { kind_report result ≡ kind_report (kind_of body.now) }
     {
         if range::same(body, &BagKind::KEY) {
             return BagKind::Key;

@@ -1,6 +1,8 @@
 // What the reading of a PKCS #12 file is kept in: the table with its rows, by value, and the kinds
 // of bag. The rules that a file follows and what is read from it are definitions in specs/, with
 // the theorems about them in proofs/.
+#![tactic(auto)]
+
 ghost use Rattle.std.specs.Prelude.{◌≡◌};
 ghost use Rattle.der.specs.Span.{Bytes};
 ghost use Rattle.range.specs.Range.{bytes_in};

@@ -5,7 +5,7 @@ use range::Range;
 // The ranges of a safe, a bag or the MAC, by what its kind has. An AlgorithmIdentifier has an
 // identifier and parameters, and a certificate, CRL or secret the identifier of its type; the value
 // is a ciphertext, a digest, a key, or what the type names. What a kind doesn't have is 0..0.
-#[derive(Drop)]
+#[derive(Clone, Copy)]
 pub struct Parts {
     pub identifier: Range,
     pub parameters: Range,
@@ -13,19 +13,19 @@ pub struct Parts {
 }
 
 // The enclosing bag's row.
-#[derive(Drop)]
+#[derive(Clone, Copy)]
 pub enum Enclosing {
     None,
     Bag(u16),
 }
 
-#[derive(Drop)]
+#[derive(Clone, Copy)]
 pub struct SafeRow {
     pub kind: SafeKind,
     pub parts: Parts,
 }
 
-#[derive(Drop)]
+#[derive(Clone, Copy)]
 pub struct BagRow {
     pub kind: BagKind,
     pub safe: u16,
@@ -35,7 +35,7 @@ pub struct BagRow {
     pub has_set: bool,
 }
 
-#[derive(Drop)]
+#[derive(Clone, Copy)]
 pub struct AttributeRow {
     pub bag: u16,
     pub identifier: Range,
@@ -45,7 +45,7 @@ pub struct AttributeRow {
 
 // The digest's algorithm and the digest, in `parts`; the salt; the iterations, which are 1 where
 // none are written.
-#[derive(Drop)]
+#[derive(Clone, Copy)]
 pub struct Mac {
     pub parts: Parts,
     pub salt: Range,

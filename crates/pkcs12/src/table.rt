@@ -8,7 +8,7 @@ use range::Range;
 
 // In a table that reading returns the rows past the counts are empty (Rules 5.40, 6.7). `elements` is
 // the number of elements in the file.
-#[derive(Drop)]
+#[derive(Clone, Copy)]
 pub struct Table {
     pub safes: [SafeRow; SAFE_ROWS],
     pub safe_count: usize,

@@ -1,4 +1,6 @@
 // Ranges of bytes, and the parts of a caller's bytes that they name.
+#![tactic(auto)]
+
 ghost use Rattle.std.specs.Prelude.{◌≡◌, min};
 ghost use Rattle.std.proofs.Math.Seq.{slice};
 ghost use Rattle.der.specs.Content.{bytes_of};
@@ -13,7 +15,7 @@ const GREATEST: usize = 65535;
 const GREATEST_WORD: u32 = 65535;
 
 // A range start..end has the bytes start up to end-1.
-#[derive(Drop)]
+#[derive(Clone, Copy)]
 pub struct Range {
     pub start: u16,
     pub end: u16,

@@ -16,7 +16,7 @@ use range::Range;
 const HEAD_COUNT: usize = 3;
 
 // What is in a bag before its attributes: `value` is what is left in [0], or the safe contents in it.
-#[derive(Drop)]
+#[derive(Clone, Copy)]
 pub(crate) enum Bag {
     Found {
         kind: BagKind,
@@ -30,7 +30,7 @@ pub(crate) enum Bag {
 }
 
 // Where the attributes of a bag are.
-#[derive(Drop)]
+#[derive(Clone, Copy)]
 pub(crate) enum Set {
     None,
     Found { body: Cursor, next: Cursor },

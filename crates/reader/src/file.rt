@@ -14,7 +14,7 @@ use pkcs12::{Answer, Mac, MacAt, Parts, PartsAt};
 use range::Range;
 
 // The cursors at the outer ContentInfo and past the PFX.
-#[derive(Drop)]
+#[derive(Clone, Copy)]
 enum Outer {
     Found { body: Cursor, next: Cursor },
     Refused(Fault),
@@ -22,7 +22,7 @@ enum Outer {
 
 // The AuthenticatedSafe's body, in the MAC input; what is left behind it, behind the OCTET STRING
 // and behind [0]; the MAC; and what is left of the file behind the PFX.
-#[derive(Drop)]
+#[derive(Clone, Copy)]
 pub(crate) enum Opened {
     Found {
         input: Cursor,

@@ -1,4 +1,6 @@
 // Reads a PKCS #12 file into a table: in the caller's memory, or by value.
+#![tactic(auto)]
+
 ghost use Rattle.std.specs.Prelude.{◌≡◌, ◌≤◌, length};
 ghost use Rattle.der.specs.Span.{Bytes};
 ghost use Rattle.pkcs12.specs.Report.{answer_report};
@@ -29,7 +31,7 @@ const SHORT: Fault = Fault {
 };
 
 // What was read of the whole file: the counts of the rows in the memory, and the MAC.
-#[derive(Drop)]
+#[derive(Clone, Copy)]
 struct Summary {
     answer: Answer,
     counts: Counts,
@@ -121,7 +123,7 @@ fn fill(file: &[u8], memory: &mut [u16]) -> Answer
 // shorter than a table.
 pub fn read_into(file: &[u8], memory: &mut [u16]) -> Answer
     ensures value { result ≡ (read_into file.now memory.old).answer }
-    ensures result_value { answer_report result ≡ answer_report (read_into file.now memory.old).answer }
+    ensures report { answer_report result ≡ answer_report (read_into file.now memory.old).answer }
     ensures memory_after { memory.new ≡ (read_into file.now memory.old).memory }
     ensures bytes { Bytes file.now }
 {

@@ -27,7 +27,7 @@ const START_COUNT: usize = 7;
 const SAFE_COUNT: usize = 4;
 
 // What was read so far: the counts of the rows in the memory, and the cursor past the part.
-#[derive(Drop)]
+#[derive(Clone, Copy)]
 pub(crate) struct Progress {
     pub(crate) answer: Answer,
     pub(crate) counts: Counts,

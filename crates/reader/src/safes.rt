@@ -9,7 +9,7 @@ use der::{Checked, Cursor, Element, Fault};
 use pkcs12::{Answer, Parts, PartsAt};
 
 // The body of a data OCTET STRING in [0], with what is left behind the string and behind [0].
-#[derive(Drop)]
+#[derive(Clone, Copy)]
 pub(crate) enum Octets {
     Found {
         body: Cursor,
@@ -20,7 +20,7 @@ pub(crate) enum Octets {
 }
 
 // A safe up to its bags.
-#[derive(Drop)]
+#[derive(Clone, Copy)]
 pub(crate) enum Contents {
     Plain {
         body: Cursor,

@@ -1,5 +1,7 @@
 // Reads the file on standard input and writes it back from its table: the bytes that the writer
 // makes, and nothing else. A refusal is one line.
+#![tactic(auto)]
+
 use pkcs12::{Answer, Table};
 
 // The writer refuses no table of an accepted file.

@@ -20,7 +20,7 @@ pub const BELOW: u8 = pkcs12::LEVELS - 1;
 
 // The attributes that one bag has: the size of them all, that of their set, and the next attribute
 // row.
-#[derive(Drop)]
+#[derive(Clone, Copy)]
 pub struct Owned {
     pub body: usize,
     pub size: usize,
@@ -28,7 +28,7 @@ pub struct Owned {
 }
 
 // Bags that follow one another: their size, and the next bag and attribute rows.
-#[derive(Drop)]
+#[derive(Clone, Copy)]
 pub struct Taken {
     pub size: usize,
     pub bag: usize,
@@ -36,14 +36,14 @@ pub struct Taken {
 }
 
 // One bag or one safe, if the row is one.
-#[derive(Drop)]
+#[derive(Clone, Copy)]
 pub enum One {
     None,
     Found(Taken),
 }
 
 // Whether a kind of bag holds bags.
-#[derive(Drop)]
+#[derive(Clone, Copy)]
 pub enum Form {
     None,
     Leaf,
@@ -51,7 +51,7 @@ pub enum Form {
 }
 
 // The safes: their size, and the next safe, bag and attribute rows.
-#[derive(Drop)]
+#[derive(Clone, Copy)]
 pub struct Safes {
     pub size: usize,
     pub safe: usize,
@@ -124,7 +124,7 @@ pub fn belongs(row: BagRow, safe: usize, enclosing: Enclosing) -> bool
 
 pub fn form_of(kind: BagKind) -> Form
     ensures value { result ≡ form_of kind }
-    ensures result_value { form_report result ≡ form_report (form_of kind) }
+    ensures report { form_report result ≡ form_report (form_of kind) }
 {
     match kind {
         BagKind::None => Form::None,

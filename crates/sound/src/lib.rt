@@ -1,5 +1,7 @@
 // Whether a table is sound for the bytes that its ranges point into, and the size of the file that
 // it makes.
+#![tactic(auto)]
+
 ghost use Rattle.std.specs.Prelude.{◌≡◌};
 ghost use Rattle.der.specs.Span.{Bytes};
 ghost use Rattle.sound.specs.Measured.{measured};
@@ -11,7 +13,7 @@ use pkcs12::Table;
 
 // `Unsound`: the table is not sound, and makes no file. A size past that of the longest file is
 // returned as `encode::size::PAST`.
-#[derive(Drop)]
+#[derive(Clone, Copy)]
 pub enum Measured {
     Unsound,
     Size(usize),
@@ -20,7 +22,7 @@ pub enum Measured {
 // What a table makes of bytes.
 pub fn measure(table: Table, bytes: &[u8]) -> Measured
     ensures value { result ≡ measured table bytes.now }
-    ensures result_value { measured_report result ≡ measured_report (measured table bytes.now) }
+    ensures report { measured_report result ≡ measured_report (measured table bytes.now) }
     ensures bytes { Bytes bytes.now }
 {
     if !checks::rules(table, bytes) {

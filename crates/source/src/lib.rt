@@ -1,5 +1,7 @@
 // The file that a program reads: bytes, or a text that wraps them. The program reads its input
 // first, READ_BYTES at most.
+#![tactic(auto)]
+
 ghost use Rattle.std.specs.Prelude.{◌≡◌, length};
 ghost use Rattle.buffer.specs.Placed.{Placed};
 ghost use Rattle.buffer.specs.Report.{written_report};
@@ -63,7 +65,7 @@ fn so_far(fault: Fault) -> Fault
 // Imports a text of which no more was read.
 pub fn import(read: &[u8], out: &mut [u8]) -> Written
     ensures value { result ≡ (imported_so_far read.now out.old).answer }
-    ensures result_value { written_report result ≡ written_report (imported_so_far read.now out.old).answer }
+    ensures report { written_report result ≡ written_report (imported_so_far read.now out.old).answer }
     ensures out_after { out.new ≡ (imported_so_far read.now out.old).buffer }
 {
     let written = pem::import(read, out);

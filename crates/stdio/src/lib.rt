@@ -1,6 +1,8 @@
 // What programs do with standard input, output and error. No contract can say what the operating
 // system read or wrote: a function that reads promises to stay within the buffer, and one that
 // writes how many bytes it handed on.
+#![tactic(auto)]
+
 ghost use Rattle.std.specs.Prelude.{◌≡◌, length};
 ghost use Rattle.io.specs.Counts.{IsPrefixLen};
 ghost use Rattle.io.specs.Digits.{IsDigitCount};
@@ -15,7 +17,7 @@ use der::Fault;
 const LENGTH: usize = 4;
 
 // What reading a frame comes to. A frame is its length in four bytes, high first, then its bytes.
-#[derive(Drop)]
+#[derive(Clone, Copy)]
 pub enum Frame {
     // The input ends in front of the frame.
     End,

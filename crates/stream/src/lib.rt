@@ -1,6 +1,8 @@
 // The check of an upload while it arrives: one opaque element of DER, of 20 levels at most, and no
 // byte after it. An upload is a value; each call takes one and returns the next. Every call answers
 // any value, also one that these calls didn't return.
+#![tactic(auto)]
+
 ghost use Rattle.std.specs.Prelude.{◌≡◌, ◌^◌, ◌<◌};
 ghost use Rattle.der.specs.Span.{Bytes};
 ghost use Rattle.stream.specs.Upload.{begun, stepped, taken, is_whole};
@@ -15,7 +17,7 @@ use header::Due;
 
 // An upload: the announced length, what the next byte is, where the open elements end (the
 // outermost first) and how many are open, the number of elements and the greatest level so far.
-#[derive(Drop)]
+#[derive(Clone, Copy)]
 pub struct Upload {
     pub total: u16,
     pub due: Due,
@@ -26,7 +28,7 @@ pub struct Upload {
 }
 
 // What is certain of an upload: no fault, or one, and the number of bytes after which it was.
-#[derive(Drop)]
+#[derive(Clone, Copy)]
 pub enum Status {
     NoFault,
     Refused { fault: Fault, after: usize },
@@ -34,7 +36,7 @@ pub enum Status {
 
 // The answer at the end: the number of elements and the greatest level, or the fault and the
 // number of bytes after which it was certain.
-#[derive(Drop)]
+#[derive(Clone, Copy)]
 pub enum End {
     Passed { elements: usize, level: usize },
     Refused { fault: Fault, after: usize },
@@ -214,7 +216,7 @@ impl Upload {
     // What is certain so far.
     pub fn status(self) -> Status
         ensures value { result ≡ status_of self }
-        ensures result_value { status_report result ≡ status_report (status_of self) }
+        ensures report { status_report result ≡ status_report (status_of self) }
     {
         let due = self.due;
         match due {
@@ -245,7 +247,7 @@ impl Upload {
     // The answer if the upload ends here. It changes nothing: the same upload can take more.
     pub fn end(self) -> End
         ensures value { result ≡ ended self }
-        ensures result_value { end_report result ≡ end_report (ended self) }
+        ensures report { end_report result ≡ end_report (ended self) }
     {
         let status = self.status();
         match status {

@@ -2,6 +2,8 @@
 // answer. The whole input is read at once, and a frame has a header of its own: call, argument (a
 // byte each), cursor's position, its end, number of bytes (two bytes each, high first); then the
 // bytes. docs/TESTS.md lists the calls and the lines.
+#![tactic(auto)]
+
 ghost use Rattle.std.specs.Prelude.{◌<◌, length};
 
 use der::{Checked, Cursor, Element, Fault, Integer};

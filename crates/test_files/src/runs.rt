@@ -22,7 +22,7 @@ const UNUSED: IdentityRow = IdentityRow {
 };
 
 // What three calls of an attribute reader returned.
-#[derive(Drop)]
+#[derive(Clone, Copy)]
 struct Three {
     first: Item,
     second: Item,
@@ -30,14 +30,14 @@ struct Three {
 }
 
 // The number of some bytes, and the remainder of the number that they spell, first byte highest.
-#[derive(Drop)]
+#[derive(Clone, Copy)]
 struct Summary {
     bytes: usize,
     remainder: usize,
 }
 
 // The answer of storing identity rows in an array, and the array afterwards.
-#[derive(Drop)]
+#[derive(Clone, Copy)]
 struct Filled {
     answer: Written,
     rows: [IdentityRow; pkcs12::BAG_ROWS],

@@ -2,6 +2,8 @@
 // the size of the buffer, the counts, the rows, the MAC fields and the bytes.
 // docs/TESTS.md has the frame's parts and the lines. A frame that doesn't hold these is answered by
 // the line `cut`, and nothing after it is read.
+#![tactic(auto)]
+
 ghost use Rattle.std.specs.Prelude.{◌<◌};
 
 use buffer::Written;
@@ -117,7 +119,7 @@ fn mac(s: &[u8], at: usize) -> Mac
 }
 
 // How many rows of each kind are in the frame.
-#[derive(Drop)]
+#[derive(Clone, Copy)]
 struct Rows {
     safes: u8,
     bags: u8,

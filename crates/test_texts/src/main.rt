@@ -4,6 +4,8 @@
 // has the bytes that are given, in hex, or the refusal, and whether all others of the buffer are
 // still A5. A frame that doesn't hold a call is answered by the line `cut`, and nothing after it is
 // read.
+#![tactic(auto)]
+
 use buffer::{Written, read};
 use der::Fault;
 use stdio::{Frame, write_decimal, write_text};

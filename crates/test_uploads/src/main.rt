@@ -3,6 +3,8 @@
 // bytes, high first, and its bytes. The line has the status after the announcement and after each
 // portion, then the answer at the end. A frame that doesn't hold whole portions is answered by the
 // line `cut`, and nothing after it is read.
+#![tactic(auto)]
+
 ghost use Rattle.std.specs.Prelude.{◌<◌, length};
 
 use buffer::read;

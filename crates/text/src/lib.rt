@@ -1,6 +1,8 @@
 // Text in lines, into a caller's buffer at an offset; each function returns the offset behind what
 // was written. What lies past the end of the buffer is not written, but counted: so the same
 // functions measure, on an empty buffer.
+#![tactic(auto)]
+
 ghost use Rattle.buffer.specs.Placed.{Placed};
 ghost use Rattle.text.specs.Text.{number_text, refused_line};
 

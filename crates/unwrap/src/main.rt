@@ -1,6 +1,8 @@
 // Writes the bytes that the text on standard input wraps, and nothing else. A refusal is one line.
 // Of a text that is too long one byte more than the longest has is read, so that it is refused as
 // such.
+#![tactic(auto)]
+
 fn main() {
     let mut buffer = [0u8; source::READ_BYTES];
     let mut out = io::large_buffer();

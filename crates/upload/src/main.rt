@@ -1,5 +1,7 @@
 // Checks the upload on standard input while it arrives: the announced length in four bytes, high
 // first, then the bytes, which are handed on one by one. Writes one line: what the check comes to.
+#![tactic(auto)]
+
 ghost use Rattle.std.specs.Prelude.{◌≡◌};
 ghost use Rattle.stream.specs.Upload.{taken};
 

@@ -1,1 +1,2 @@
 // What the check of an upload comes to: theorems only.
+#![tactic(auto)]

@@ -1,5 +1,7 @@
 // A table as plain words in a caller's memory. The words are those of `struct p12_table`
 // in include/p12.h.
+#![tactic(auto)]
+
 ghost use Rattle.std.specs.Prelude.{◌≡◌, ◌≤◌, length};
 ghost use Rattle.der.specs.Element.{fault};
 ghost use Rattle.buffer.specs.Numbers.{short_buffer};
@@ -60,7 +62,7 @@ pub const GREATEST_WORD: usize = 65535;
 pub const HALF_SIZE: u32 = 65536;
 
 // How many rows of each kind there are, and how many elements.
-#[derive(Drop)]
+#[derive(Clone, Copy)]
 pub struct Counts {
     pub safes: usize,
     pub bags: usize,
@@ -102,7 +104,7 @@ fn all(memory: &mut [u16], table: Table)
 // has fewer.
 pub fn store(table: Table, out: &mut [u16]) -> Written
     ensures value { result ≡ (stored table out.old).answer }
-    ensures result_value { written_report result ≡ written_report (stored table out.old).answer }
+    ensures report { written_report result ≡ written_report (stored table out.old).answer }
     ensures out_after { out.new ≡ (stored table out.old).buffer }
 {
     if out.len() < TABLE_WORDS {
@@ -115,7 +117,7 @@ pub fn store(table: Table, out: &mut [u16]) -> Written
 // Stores one attribute row as words, as it is in a table; 10 if the memory has fewer.
 pub fn store_row(row: AttributeRow, out: &mut [u16]) -> Written
     ensures value { result ≡ (stored_row row out.old).answer }
-    ensures result_value { written_report result ≡ written_report (stored_row row out.old).answer }
+    ensures report { written_report result ≡ written_report (stored_row row out.old).answer }
     ensures out_after { out.new ≡ (stored_row row out.old).buffer }
 {
     if out.len() < ATTRIBUTE_WIDTH {

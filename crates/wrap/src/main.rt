@@ -1,6 +1,8 @@
 // Writes the text of the bytes on standard input, and nothing else. A refusal is one line. Of bytes
 // that are too long for a file one more than the longest has is read, so that they are refused as
 // such.
+#![tactic(auto)]
+
 fn main() {
     let mut buffer = io::large_buffer();
     let mut out = [0u8; pem::TEXT_BYTES];

@@ -1,1 +1,2 @@
 // What import and export of text come to: theorems only.
+#![tactic(auto)]

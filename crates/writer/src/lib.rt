@@ -1,4 +1,6 @@
 // Writes the file of a table into a caller's buffer.
+#![tactic(auto)]
+
 ghost use Rattle.std.specs.Prelude.{◌≡◌};
 ghost use Rattle.der.specs.Element.{fault};
 ghost use Rattle.der.specs.Span.{Bytes};
@@ -26,7 +28,7 @@ fn refused(number: u8) -> Written
 // long enough for it.
 pub fn write(table: Table, bytes: &[u8], out: &mut [u8]) -> Written
     ensures value { result ≡ (write_file table bytes.now out.old).answer }
-    ensures result_value { written_report result ≡ written_report (write_file table bytes.now out.old).answer }
+    ensures report { written_report result ≡ written_report (write_file table bytes.now out.old).answer }
     ensures out_after { out.new ≡ (write_file table bytes.now out.old).buffer }
     ensures bytes { Bytes bytes.now }
 {

@@ -18,14 +18,14 @@ use pkcs12::{BagRow, Enclosing, SafeKind, SafeRow, Table};
 use sizes::rows::Form;
 
 // The offset behind what was written, and the next attribute row.
-#[derive(Drop)]
+#[derive(Clone, Copy)]
 pub(crate) struct SetEnd {
     pub(crate) at: usize,
     pub(crate) next: usize,
 }
 
 // The offset behind what was written, and the next bag and attribute rows.
-#[derive(Drop)]
+#[derive(Clone, Copy)]
 pub(crate) struct RowsEnd {
     pub(crate) at: usize,
     pub(crate) bag: usize,

@@ -1,0 +1,323 @@
+#!/usr/bin/env python3
+"""Turns the Proof.antt of functions into Answers.antt and Invariants.antt.
+
+usage: tools/answers.py CRATE [FOLDER..]
+
+It asks rt for the old and the new name of each goal and each step of CRATE, and turns each proofs/F/Proof.antt
+(or those of the folders that are named) whose goals are listed. An answer that only says 'search rules' goes. A line 'left:' names what is to do by hand.
+"""
+
+import json
+import os
+import re
+import subprocess
+import sys
+import tempfile
+
+NAME = r'[^\s(){}.;,@"«»]+'
+PATH = re.compile(r'(?<![^\s(){};,@"«»\[\]|])([a-z]\w*)((?:\.[^\s(){}.;,@"«»\[\]]+)+)')
+
+
+def flat(name):
+    return name.replace("_", "-")
+
+
+def run_names(crate):
+    folder = tempfile.mkdtemp(prefix="names-")
+    said = subprocess.run(["rt", "check", "--generated", folder, "--old-names"], cwd=os.path.join("crates", crate),
+                          stdout=subprocess.PIPE, stderr=subprocess.STDOUT, text=True).stdout
+    path = os.path.join(folder, "names.json")
+    if not os.path.exists(path):
+        print(said[-3000:])
+        raise SystemExit("no names")
+    return json.load(open(path))
+
+
+def chunks(text):
+    """The top-level parts of a file: lists of lines."""
+    out = []
+    for line in text.split("\n"):
+        if line and not line[0].isspace() and not line.startswith(")"):
+            out.append([line])
+        elif out:
+            out[-1].append(line)
+        else:
+            out.append([line])
+    return ["\n".join(c).rstrip() for c in out]
+
+
+def steps_of(data):
+    old = {}
+    for (place, before, names, _, _), clauses, arms in zip(data["places"], data["clauses"], data["arms"]):
+        if names[0]:
+            old.setdefault(flat(names[0]), (names[1], clauses, arms))
+    return old
+
+
+def renamed_paths(body, steps, crate_note):
+    def one(m):
+        head, parts = m[1], m[2][1:].split(".")
+        parts = [p for p in parts if p != "before"]
+        if parts and flat(parts[0]) in steps:
+            new, clauses, arms = steps[flat(parts[0])]
+            parts[0] = new
+            if clauses and "ensures" in parts:
+                i = parts.index("ensures")
+                fields = clauses["fields"]
+                rest = parts[i + 1 :]
+                k = 0
+                while rest and rest[0] == "1" and k < len(fields) - 2:
+                    rest, k = rest[1:], k + 1
+                if rest and rest[0] in ("0", "1"):
+                    k += int(rest[0])
+                    parts[i + 1 :] = [fields[k]] + rest[1:]
+            if new.startswith("in-") or new.startswith("in_"):
+                if parts[1:3] == ["given", "1"]:
+                    parts[1:3] = ["is"]
+        return ".".join([head] + parts)
+
+    return PATH.sub(one, body)
+
+
+class Decl:
+    def __init__(self, chunk):
+        self.sig = chunk
+        self.rest = []
+
+
+def parse(text):
+    head, uses, decls, note = [], [], [], []
+    for c in chunks(text):
+        if c.startswith("--"):
+            if not uses and not decls:
+                head.append(c)
+            else:
+                note.append(c)
+        elif c.startswith("use "):
+            uses.append(c)
+        elif re.match(r"(pub |abbrev |unfoldable |ruleset |data |record |mutual|module )*" + NAME + r"(?: " + NAME + r")*(?: \{[^}]*\})*\s*:", c) or re.match(r"(pub )?(module|mutual|data|record|ruleset|abbrev)", c):
+            d = Decl(c)
+            d.note = note
+            note = []
+            decls.append(d)
+        elif decls:
+            decls[-1].rest.append(c)
+        elif c.strip():
+            head.append(c)
+    return head, uses, decls
+
+
+def split_top(text):
+    """The words of an application, parentheses kept together."""
+    words, depth, cur = [], 0, ""
+    for ch in text:
+        if ch.isspace() and depth == 0:
+            if cur:
+                words.append(cur)
+            cur = ""
+            continue
+        depth += (ch in "([{") - (ch in ")]}")
+        cur += ch
+    if cur:
+        words.append(cur)
+    return words
+
+
+def commas(text):
+    parts, depth, cur = [], 0, ""
+    for ch in text:
+        if ch == "," and depth == 0:
+            parts.append(cur.strip())
+            cur = ""
+            continue
+        depth += (ch in "([{") - (ch in ")]}")
+        cur += ch
+    parts.append(cur.strip())
+    return parts
+
+
+def is_plain(body):
+    return re.sub(r"\s+", " ", body.strip()) in ("search rules", "omega arith")
+
+
+def bare(word):
+    return word[1:-1].strip() if word.startswith("(") and word.endswith(")") else word
+
+
+def split_clauses(body, fields):
+    """Turns 'promised R X Y' and the like into one answer for each clause, or returns None."""
+    words = split_top(body)
+    if words and words[0] == "promised" and len(words) == 4 and len(fields) == 3:
+        return [(fields[0], bare(words[2])), (fields[1], ("ap", words[1])), (fields[2], bare(words[3]))]
+    if words and words[0] == "reported" and len(words) == 3 and len(fields) == 2:
+        return [(fields[0], bare(words[2])), (fields[1], ("ap", words[1]))]
+    if len(words) == 1 and words[0].startswith("("):
+        parts = commas(bare(words[0]))
+        while len(parts) == 2 and len(fields) > len(parts) and parts[-1].startswith("("):
+            parts = parts[:-1] + commas(bare(parts[-1]))
+        if len(parts) == len(fields):
+            return list(zip(fields, parts))
+    return None
+
+
+def main(argv):
+    crate = argv[0]
+    names = run_names(crate)
+    root = os.path.join("crates", crate, "proofs")
+    wanted = argv[1:]
+    for folder, dirs, fs in os.walk(root):
+        if "Proof.antt" not in fs:
+            continue
+        rel = os.path.relpath(folder, root)
+        if wanted and rel not in wanted:
+            continue
+        base = f"Rattle-{crate}-proofs." + rel.replace("/", ".")
+        found = {k[len(base) + 1 :]: v for k, v in names.items() if k.startswith(base + ".")}
+        if not found:
+            print(f"left: {rel}: no goals are listed")
+            continue
+        turn(crate, folder, rel, found)
+
+
+def turn(crate, folder, rel, found):
+    text = open(os.path.join(folder, "Proof.antt")).read()
+    if not re.search(r"Need-|\btie\.", text):
+        print(f"left: {rel}: a walk by hand")
+        return
+    head, uses, decls = parse(text)
+    cycle = len(found) > 1
+    alias = {}
+    for u in uses:
+        m = re.match(r"use \S+\.(Lts\S*|Tie) as (\S+)", u)
+        if m:
+            alias[m[2]] = m[1]
+    only = next(iter(found)) if not cycle else None
+    lines, invs, lefts = [], [], []
+    for d in decls:
+        sig = re.sub(r"\s+", " ", d.sig)
+        m = re.match(r"(?:pub |abbrev )*(\S+) : (?:\(t : ℕ\) → )?(\S+?)\.(Need|invariant|decreases)-(\S+)", sig)
+        if not m:
+            if re.search(r"statement\b|Measures|: In |\.Claims|→ In ", sig) or re.match(r"(abbrev )?uses\b", sig):
+                if "Measures" in sig:
+                    invs.append("-- " + d.sig + "\n-- " + "\n-- ".join(d.rest))
+                    lefts.append("measure " + sig[:60])
+                continue
+            lines.append("\n".join(d.note + [d.sig] + d.rest) + "\n")
+            continue
+        lts = alias.get(m[2], "Tie" if m[2] == "tie" else None)
+        key = "Lts" if lts in ("Tie", None) else lts
+        data = found.get(key) or found.get(only) if not cycle else found.get(key)
+        if data is None:
+            lefts.append(f"{m[1]}: no list for {m[2]}")
+            continue
+        prefix = ""
+        if cycle:
+            fn = key[len("Lts-") :]
+            path = [p for p in rel.split("/")[:-1]]
+            prefix = "::".join(path + [fn]) + "-"
+        steps = steps_of(data)
+        rest = "\n".join(d.rest)
+        um = re.match(r"(unfolding [^\n]*(?:\n +[^\n]*)*\n)?(.*)", rest, re.S)
+        unfold, clause = um[1] or "", um[2]
+        cm = re.match(r"(\S+)((?: \S+)*?)\s*=(?=\s)(.*)", clause, re.S)
+        if not cm:
+            lefts.append(f"{m[1]}: clause not understood")
+            continue
+        params, body = cm[2].split(), cm[3]
+        if m[3] in ("invariant", "decreases"):
+            loops = {flat(l[0][0]): (l[0][1], l[1], c) for l, c in zip(data["loops"], data["changed"])}
+            new, vars_, changed = loops.get(flat(m[4]), (None, None, None))
+            if new is None:
+                lefts.append(f"{m[1]}: no loop {m[4]}")
+                continue
+            count = sum(changed)
+            if len(params) != len(vars_) + count:
+                lefts.append(f"{m[1]}: {len(params)} parameters for {vars_} {changed}")
+            to = {}
+            for i, p in enumerate(params):
+                if i < len(vars_):
+                    to[p] = f"l.initial.{vars_[i]}" if changed[i] else f"l.{vars_[i]}"
+            after = [v for v, c in zip(vars_, changed) if c]
+            for p, v in zip(params[len(vars_) :], after):
+                to[p] = f"l.{v}"
+            body = re.sub(r"(?<![^\s(){};,@\"«»])" + r"([^\s(){}.;,@\"«»]+)", lambda x: to.get(x[1], x[1]), body)
+            word = m[3]
+            invs.append(f"abbrev pub {word}-{prefix}{new} : goal.{word}-{prefix}{new}\n{unfold}{word}-{prefix}{new} l ={body}\n")
+            continue
+        goals = {flat(a): b for a, b in data["needs"]}
+        new = goals.get(flat(m[4]))
+        if new is None:
+            pre = re.sub(r"^overflow-", "", flat(m[4]))
+            new = goals.get(pre)
+        if new is None:
+            lefts.append(f"{m[1]}: no goal {m[4]}")
+            lines.append("-- " + "\n-- ".join("\n".join(d.note + [d.sig] + d.rest).split("\n")) + "\n")
+            continue
+        cparam = [p for p in params if p not in ("κs",)]
+        if cparam and cparam[0] == "t" and len(cparam) == 2:
+            cparam = cparam[1:]
+        body = renamed_paths(body, steps, None)
+        if not unfold and is_plain(body):
+            continue
+        fields = (data.get("asked") or {}).get(next((a for a, b in data["needs"] if b == new), None)) or []
+        parts = split_clauses(body.strip(), fields) if fields else None
+        note = "\n".join(d.note) + "\n" if d.note else ""
+        p = " ".join(cparam)
+        g = prefix + new
+        if parts:
+            for f, b in parts:
+                n = f"{g}-clause-{f}"
+                if isinstance(b, tuple):
+                    lines.append(f"pub {n} : goal.{n}\n{n} {p} = ap {b[1]} ({g}-clause-{fields[0]} {p})\n")
+                elif not is_plain(b):
+                    lines.append(f"{note}pub {n} : goal.{n}\n{unfold}{n} {p} = {b}\n")
+            continue
+        if fields:
+            lefts.append(f"{g}: clauses {fields}: {body.strip()[:80]}")
+        lines.append(f"{note}pub {g} : goal.{g}\n{unfold}{g} {p} ={body}\n")
+    drop = re.compile(r"\.(Statement|Tie|Lts\S*|Reads|Kinds|Claims)\b|borrow\.Fn\.(Kinds|PlainCycle)|\.proofs\.\S*\.\{statement\}")
+    keep = [u for u in uses if not drop.search(u)]
+    path = f"Rattle.{crate}.proofs." + rel.replace("/", ".")
+    heading = "\n".join(head)
+    need_ap = any(re.search(r"= ap ", x) for x in lines) and not any(re.search(r"[{, ]ap[,}]", u) for u in keep)
+    if need_ap:
+        keep.append("use mathlib.Core.Path.{ap}")
+    if lines:
+        write(os.path.join(folder, "Answers.antt"), heading, keep, f"use {path}.Goals as goal", lines)
+    if invs:
+        write(os.path.join(folder, "Invariants.antt"), heading if not lines else "", keep, f"use {path}.Given as goal", invs)
+    os.remove(os.path.join(folder, "Proof.antt"))
+    if not lines and not invs:
+        try:
+            os.removedirs(folder)
+        except OSError:
+            pass
+    for l in lefts:
+        print(f"left: {rel}: {l}")
+
+
+def write(path, head, uses, own, parts):
+    body = "\n".join(parts)
+    kept = []
+    for u in uses:
+        m = re.match(r"use (\S+?)\.\{(.*)\}$", re.sub(r"\s+", " ", u))
+        if m:
+            ns = [n.strip() for n in m[2].split(",")]
+            used = [n for n in ns if appears(n.split(" as ")[-1].strip(), body)]
+            if used:
+                kept.append(f"use {m[1]}.{{{', '.join(used)}}}")
+        else:
+            kept.append(u)
+    with open(path, "w") as f:
+        f.write((head + "\n" if head else "") + "\n".join(kept + [own]) + "\n\n" + body)
+
+
+def appears(name, body):
+    if "◌" in name:
+        parts = [p for p in name.strip("«»").split("◌") if p]
+        return all(p in body for p in parts) or name in body
+    return re.search(r"(?<![^\s(){}.;,@\"«»\[\]|])" + re.escape(name.strip("«»")) + r"(?![^\s(){}.;,@\"«»\[\]|])", body) is not None
+
+
+if __name__ == "__main__":
+    main(sys.argv[1:])
