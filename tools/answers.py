@@ -48,6 +48,9 @@ def chunks(text):
 
 def steps_of(data):
     old = {}
+    for typed in data["typed"]:
+        for name, known in typed:
+            old[flat(known)] = (f"type_inv.{name}", None, None)
     for (place, before, names, _, _), clauses, arms in zip(data["places"], data["clauses"], data["arms"]):
         if names[0]:
             old.setdefault(flat(names[0]), (names[1], clauses, arms))
@@ -57,10 +60,14 @@ def steps_of(data):
 def renamed_paths(body, steps, crate_note):
     def one(m):
         head, parts = m[1], m[2][1:].split(".")
+        if all(p == "before" for p in parts):
+            return head if re.search(r"let \w+ = $", body[: m.start()]) else m[0]
         parts = [p for p in parts if p != "before"]
         if parts and flat(parts[0]) in steps:
             new, clauses, arms = steps[flat(parts[0])]
             parts[0] = new
+            if new.startswith("type_inv.") and parts[1:2] == ["given"]:
+                del parts[1]
             if clauses and "ensures" in parts:
                 i = parts.index("ensures")
                 fields = clauses["fields"]
@@ -199,10 +206,15 @@ def turn(crate, folder, rel, found):
         if not m:
             if re.search(r"statement\b|Measures|: In |\.Claims|→ In ", sig) or re.match(r"(abbrev )?uses\b", sig):
                 if "Measures" in sig:
-                    invs.append("-- " + d.sig + "\n-- " + "\n-- ".join(d.rest))
-                    lefts.append("measure " + sig[:60])
+                    invs.append(measure(d, rel, found, cycle))
                 continue
-            lines.append("\n".join(d.note + [d.sig] + d.rest) + "\n")
+            whole = "\n".join(d.note + [d.sig] + d.rest)
+            if "tie." in whole and only:
+                data = found[only]
+                spots = {flat(a[0]): b for a, b in zip(data["places"], data["places_by_name"])}
+                whole = re.sub(r"\btie\.((?:After|Then|Else|At|In)[^\s(){};,.]*)", lambda x: "goal." + spots.get(flat(x[1]), x[1]), whole)
+                whole = renamed_paths(whole, steps_of(data), None)
+            lines.append(whole + "\n")
             continue
         lts = alias.get(m[2], "Tie" if m[2] == "tie" else None)
         key = "Lts" if lts in ("Tie", None) else lts
@@ -213,8 +225,7 @@ def turn(crate, folder, rel, found):
         prefix = ""
         if cycle:
             fn = key[len("Lts-") :]
-            path = [p for p in rel.split("/")[:-1]]
-            prefix = "::".join(path + [fn]) + "-"
+            prefix = fn + "-"
         steps = steps_of(data)
         rest = "\n".join(d.rest)
         um = re.match(r"(unfolding [^\n]*(?:\n +[^\n]*)*\n)?(.*)", rest, re.S)
@@ -254,8 +265,6 @@ def turn(crate, folder, rel, found):
             lines.append("-- " + "\n-- ".join("\n".join(d.note + [d.sig] + d.rest).split("\n")) + "\n")
             continue
         cparam = [p for p in params if p not in ("κs",)]
-        if cparam and cparam[0] == "t" and len(cparam) == 2:
-            cparam = cparam[1:]
         body = renamed_paths(body, steps, None)
         if not unfold and is_plain(body):
             continue
@@ -269,7 +278,7 @@ def turn(crate, folder, rel, found):
                 n = f"{g}-clause-{f}"
                 if isinstance(b, tuple):
                     lines.append(f"pub {n} : goal.{n}\n{n} {p} = ap {b[1]} ({g}-clause-{fields[0]} {p})\n")
-                elif not is_plain(b):
+                elif not is_plain(b) or (f == fields[0] and any(isinstance(x, tuple) for _, x in parts)):
                     lines.append(f"{note}pub {n} : goal.{n}\n{unfold}{n} {p} = {b}\n")
             continue
         if fields:
@@ -294,6 +303,19 @@ def turn(crate, folder, rel, found):
             pass
     for l in lefts:
         print(f"left: {rel}: {l}")
+
+
+def measure(d, rel, found, cycle):
+    """A cycle's measure: an argument by its number becomes the argument by its name."""
+    params = {}
+    for data in found.values():
+        params |= data["params"]
+    fn = re.search(r"μ-(\S+)", d.sig)[1]
+    own = next((ps for f, ps in params.items() if flat(f.split("::")[-1]) == fn), None)
+    name = next(f.split("::")[-1] for f in params if flat(f.split("::")[-1]) == fn)
+    body = "\n".join(d.rest).split("=", 1)[1]
+    body = re.sub(r"\ba((?:\.1)*)(\.0)?(?![\w.])", lambda m: "l." + own[len(m[1]) // 2], body)
+    return f"abbrev pub decreases-{name} : goal.decreases-{name}\ndecreases-{name} l ={body}\n"
 
 
 def write(path, head, uses, own, parts):

@@ -93,7 +93,7 @@ module _ (t : Table) (s : List ℕ) (n : ℕ) where
   unfolding item_after
   refused_stays f e i =
       ap {B = Item} (λ (p : Position). p.item)
-      (runs.after-stays (i + 1) (opening_of t s n) (runs.refused-stays (opening_of t s n) f e)) ∙ e
+      (runs.after_stays (i + 1) (opening_of t s n) (runs.refused_stays (opening_of t s n) f e)) ∙ e
 
 -- ---- whole runs
 

@@ -25,4 +25,4 @@ decimal_back n h = decimal_read n h
 
 -- each name of this crate is the number that the rules have for it
 pub numbers_named : NumbersNamed
-numbers_named = numbered.numbers-named
+numbers_named = numbered.numbers_named

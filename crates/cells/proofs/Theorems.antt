@@ -24,10 +24,10 @@ stored_read_back = back.read_back
 
 -- Every upload fits at its beginning, and stays so with every portion.
 pub begun_fitting : (n : ℕ) → Fitting (begun n)
-begun_fitting = fitting.begun-fits
+begun_fitting = fitting.begun_fits
 
 pub taken_fitting : (u : Upload) (p : List ℕ) → Fitting u → Bytes p → Fitting (taken u p)
-taken_fitting = fitting.taken-fits
+taken_fitting = fitting.taken_fits
 
 -- So does the upload that any cells hold, if they are enough.
 pub held_fitting : (s : List ℕ) → upload_length ≤ length s → Each Short s → Fitting (upload_in s)
@@ -36,7 +36,7 @@ held_fitting = held.held_fits
 -- A length that is announced, then a portion: the status and the cells are those of the upload.
 pub begin_then_take : (n : ℕ) (s p : List ℕ) → upload_length ≤ length s
     → taken_in (begun_in n s).cells p ≡ storing (taken (begun n) p) s
-begin_then_take = held.begun-taken
+begin_then_take = held.begun_taken
 
 -- One portion after another is the two as one portion: it doesn't matter how the bytes are cut.
 pub take_then_take : (s p q : List ℕ) → Each Short s → Bytes p
@@ -45,7 +45,7 @@ take_then_take = held.portions
 
 -- The status and the answer at the end are those of the upload that was stored.
 pub status_of_stored : (u : Upload) → Fitting u → (s : List ℕ) → status_in (storing u s).cells ≡ status_of u
-status_of_stored = held.stored-status
+status_of_stored = held.stored_status
 
 pub end_of_stored : (u : Upload) → Fitting u → (s : List ℕ) → end_in (storing u s).cells ≡ ended u
-end_of_stored = held.stored-end
+end_of_stored = held.stored_end

@@ -65,19 +65,19 @@ module _ (s : List ℕ) where
 
 pub accepted_wordable : (f : List ℕ) → Bytes f → IsAccepted f → Wordable (table_from f)
 unfolding rows_in
-accepted_wordable f bytes a = go ((pkcs12.accepted-iff-follows f bytes).0 a)
+accepted_wordable f bytes a = go ((pkcs12.accepted_iff_follows f bytes).0 a)
   where
     go : ((x : Pfx) × Follows f x) → Wordable (table_from f)
     go p =
-        let l = pkcs12.ranges-within-parents f bytes p.0 p.1 in
-        let o = pkcs12.accepted-table-sound f bytes a in
+        let l = pkcs12.ranges_within_parents f bytes p.0 p.1 in
+        let o = pkcs12.accepted_table_sound f bytes a in
         record {
-          empty_past = pkcs12.rows-past-counts-empty f bytes a;
+          empty_past = pkcs12.rows_past_counts_empty f bytes a;
           safe_count_lem = o.safe_count_lem;
           bag_count = o.bag_count;
           attribute_count = o.attribute_count;
           bags = rows_fit f _ _ p.0 p.1.valid l;
-          elements = omega (arith, pkcs12.element-count-half f bytes a, p.1.size);
+          elements = omega (arith, pkcs12.element_count_half f bytes a, p.1.size);
         }
 
 pub empty_wordable : Wordable empty_table

@@ -28,14 +28,14 @@ stored_is_loaded = stored_loaded
 
 -- The table of an accepted file fits, and so it is loaded from its words.
 pub accepted_wordable : (f : List ℕ) → Bytes f → IsAccepted f → Wordable (table_from f)
-accepted_wordable = fitting.accepted-wordable
+accepted_wordable = fitting.accepted_wordable
 
 pub accepted_is_loaded : (f : List ℕ) → Bytes f → IsAccepted f → table_in (words_of (table_from f)) ≡ table_from f
 accepted_is_loaded f b a = ap table_in (sym (append-nil (words_of (table_from f)))) ∙ stored_is_loaded (table_from f) (accepted_wordable f b a) []
 
 -- The empty table fits too, and its words are all 0.
 pub empty_wordable : Wordable empty_table
-empty_wordable = fitting.empty-wordable
+empty_wordable = fitting.empty_wordable
 
 pub empty_is_zeros : words_of empty_table ≡ replicate table_words 0
 unfolding words_of rows_words empty_table table_of each

@@ -32,17 +32,17 @@ as_call x = called (read_number x.answer) x.memory (read_offset x.answer)
 
 pub short_is_10 : (f words : List ℕ) → length words < table_words → read_call f words ≡ called short_buffer words 0
 unfolding read_call answer_report
-short_is_10 f words h = ap as_call (reader.short-is-10 f words h)
+short_is_10 f words h = ap as_call (reader.short_is_10 f words h)
 
 module _ (f words : List ℕ) (h : table_words ≤ length words) where
   pub read_stores : IsAccepted f → read_call f words ≡ called ok (words_of (table_from f) ++ drop table_words words) 0
   unfolding read_call answer_report
-  read_stores a = ap as_call (reader.accepted-is-stored f words h a)
+  read_stores a = ap as_call (reader.accepted_is_stored f words h a)
 
   pub refused_is_cleared : (x : Fault) → (read_file f).answer ≡ Answer.Refused x
       → read_call f words ≡ called x.number (replicate table_words 0 ++ drop table_words words) x.offset
   unfolding read_call answer_report
-  refused_is_cleared x e = ap as_call (reader.refused-is-cleared f words h x e)
+  refused_is_cleared x e = ap as_call (reader.refused_is_cleared f words h x e)
 
   still_long : table_words ≤ length (read_call f words).memory
   unfolding read_call
@@ -53,7 +53,7 @@ module _ (f words : List ℕ) (h : table_words ≤ length words) where
   module _ (b : Bytes f) where
     pub read_is_loaded : table_in (read_call f words).memory ≡ table_from f
     unfolding read_call
-    read_is_loaded = reader.into-is-loaded f words h b
+    read_is_loaded = reader.into_is_loaded f words h b
 
     pub refused_is_11 : (x : Fault) → (read_file f).answer ≡ Answer.Refused x
         → (s : List ℕ) → Is11 (read_call f words).memory s

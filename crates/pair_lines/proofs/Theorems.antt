@@ -32,7 +32,7 @@ pairs_in s r buffer h = written (pairs_text s r) buffer (omega (arith, h, short 
 
 -- a line for each key bag: as many lines as there are bag rows of keys below the count
 pub lines_are_keys : (t : Table) (s : List ℕ) → lines_in (pair_lines t s) ≡ key_bags t
-lines_are_keys = counts.lines-are-keys
+lines_are_keys = counts.lines_are_keys
 
 -- a line of each kind, computed
 pub certificate_line : pair_line 1 (Certificate 0) ≡ ascii "key bag 1: certificate bag 0\n"

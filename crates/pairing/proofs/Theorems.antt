@@ -36,34 +36,34 @@ five_answers = proved.answers
 -- 11 exactly if an id does not lie in the bytes
 pub refused_11_iff : (s : List ℕ) (rows : List IdentityRow) (k : ℕ)
     → paired s rows k ≡ refused_by not_sound ↔ (IdsLie s rows → ⊥)
-refused_11_iff = proved.refused-11
+refused_11_iff = proved.refused_11
 
 -- and then there is a row whose id doesn't
 pub refused_11_where : (s : List ℕ) (rows : List IdentityRow) (k : ℕ) → paired s rows k ≡ refused_by not_sound
     → (j : ℕ) × (j < length rows) × ((get_or rows j no_identity).has_id ≡ true)
     × (Lies s (get_or rows j no_identity).id → ⊥)
-refused_11_where = proved.where-11
+refused_11_where = proved.where_11
 
 -- then 12 exactly if row k isn't there or is no key's
 pub refused_12_iff : (s : List ℕ) (rows : List IdentityRow) (k : ℕ)
     → paired s rows k ≡ refused_by no_row ↔ (IdsLie s rows × (IsKey rows k → ⊥))
-refused_12_iff = proved.refused-12
+refused_12_iff = proved.refused_12
 
 -- 13 exactly if no row matches the key, as where the key has no id
 pub refused_13_iff : (s : List ℕ) (rows : List IdentityRow) (k : ℕ)
     → paired s rows k ≡ refused_by no_certificate ↔ (IdsLie s rows × IsKey rows k × ((j : ℕ) → Matches s rows k j → ⊥))
-refused_13_iff = proved.refused-13
+refused_13_iff = proved.refused_13
 
 pub key_without_id : (s : List ℕ) (rows : List IdentityRow) (k : ℕ) → IdsLie s rows → IsKey rows k
     → (get_or rows k no_identity).has_id ≡ false
     → paired s rows k ≡ refused_by no_certificate
-key_without_id = proved.key-without-id
+key_without_id = proved.key_without_id
 
 -- 14 exactly if two rows match it
 pub refused_14_iff : (s : List ℕ) (rows : List IdentityRow) (k : ℕ)
     → paired s rows k ≡ refused_by more_certificates
     ↔ (IdsLie s rows × IsKey rows k × ((i : ℕ) × (j : ℕ) × (i < j) × Matches s rows k i × Matches s rows k j))
-refused_14_iff = proved.refused-14
+refused_14_iff = proved.refused_14
 
 -- ---- ids of length 0
 
@@ -72,4 +72,4 @@ pub empty_ids_equal : (s : List ℕ) (rows : List IdentityRow) (k j : ℕ) → j
     → (get_or rows k no_identity).has_id ≡ true → (get_or rows j no_identity).has_id ≡ true
     → length (bytes_in s (get_or rows k no_identity).id) ≡ 0
     → length (bytes_in s (get_or rows j no_identity).id) ≡ 0 → Matches s rows k j
-empty_ids_equal = proved.empty-ids
+empty_ids_equal = proved.empty_ids

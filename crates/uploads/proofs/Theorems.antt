@@ -44,16 +44,16 @@ use Rattle.uploads.proofs.Unique.{one_certain}
 
 -- It is `opaque` of `der` with 20 levels, and then `finish`.
 pub whole_is_opaque : (s : List ℕ) → length s ≤ file_bytes → forgotten (length s) (whole s) ≡ opaque_then_finish s
-whole_is_opaque = same.whole-opaque
+whole_is_opaque = same.whole_opaque
 
 -- It passes exactly what one tree of 20 levels at most is written as, with the number of the tree's
 -- elements and its depth.
 pub tree_passes : (x : Tree) → Formed x → depth x ≤ upload_levels → length (encode x) ≤ file_bytes
     → whole (encode x) ≡ Passed (record { elements = trees.elements x; level = depth x })
-tree_passes = grown.tree-passes
+tree_passes = grown.tree_passes
 
 pub passed_is_tree : (s : List ℕ) → Bytes s → (tl : Tally) → whole s ≡ Passed tl → PassedTree s tl
-passed_is_tree = grown.passes-tree
+passed_is_tree = grown.passes_tree
 
 -- ---- however it is cut (Rule 10.3)
 
@@ -76,7 +76,7 @@ pub however_cut : (ps : List (List ℕ)) → Bytes (joined ps)
 however_cut ps h =
     let b = joined ps in
     let n = length b in
-    ap (λ u. answer_of (ended u)) (only_joined (begun n) ps) ∙ ends.end-whole-is n b _ h refl (ends.end_is n b h)
+    ap (λ u. answer_of (ended u)) (only_joined (begun n) ps) ∙ ends.end_whole_is n b _ h refl (ends.end_is n b h)
 
 -- ---- reported at once, and never before (Rule 10.4)
 
@@ -85,7 +85,7 @@ however_cut ps h =
 pub reported_at_once : (n : ℕ) (p : List ℕ) (f : Fault) → Bytes p → length p ≤ n
     → (fault_of (status_of (taken (begun n) p)) ≡ some f) ↔ Certain n p f
 unfolding fault_of NoneCertain
-reported_at_once n p f h l = (λ e. to _ (judged.status-is n p h) e, λ c. from _ (judged.status-is n p h) c)
+reported_at_once n p f h l = (λ e. to _ (judged.status_is n p h) e, λ c. from _ (judged.status_is n p h) c)
   where
     certain_all : (g : Fault) (k : ℕ) → FirstFault n p g k → Certain n p g
     certain_all g k v =
@@ -108,17 +108,17 @@ reported_at_once n p f h l = (λ e. to _ (judged.status-is n p h) e, λ c. from 
 
 -- After portions that join to b the status is that of `StatusIs`, and no other one is.
 pub status_is : (n : ℕ) (b : List ℕ) → Bytes b → StatusIs n b (status_of (taken (begun n) b))
-status_is = judged.status-is
+status_is = judged.status_is
 
 pub status_one : (n : ℕ) (b : List ℕ) (s t : Status) → Bytes b → StatusIs n b s → StatusIs n b t → s ≡ t
-status_one = unique.status-one
+status_one = unique.status_one
 
 -- The answer at the end is that of `EndIs`, and no other one is.
 pub end_is : (n : ℕ) (b : List ℕ) → Bytes b → EndIs n b (ended (taken (begun n) b))
 end_is = ends.end_is
 
 pub end_one : (n : ℕ) (b : List ℕ) (s t : End) → Bytes b → EndIs n b s → EndIs n b t → s ≡ t
-end_one = unique.end-one
+end_one = unique.end_one
 
 -- A fault, 19 too, is kept by every further portion, whatever the upload is.
 pub fault_kept : (u : Upload) (f : Fault) (after : ℕ) (q : List ℕ) → status_of u ≡ Status.Refused f after
@@ -153,4 +153,4 @@ announced_too_long n b h =
 -- Uploads with every number written out, computed: M whole, early and with a byte too many, and each
 -- case in which a fault is certain before the check of the whole would meet it.
 pub bench_uploads : Holds bench_cases
-bench_uploads = bench.bench-uploads
+bench_uploads = bench.bench_uploads
