@@ -47,7 +47,13 @@ def chunks(text):
 
 
 def steps_of(data):
-    old = {}
+    old = {"arms": {}}
+    for arms in data["arms"]:
+        if arms:
+            for field, step, path in arms[2]:
+                if path and not field.endswith("-own"):
+                    field = "ensures" if field.endswith("-ensures") else field
+                    old["arms"].setdefault((flat(step), tuple(path)), (arms[0], field))
     for typed in data["typed"]:
         for name, known in typed:
             old[flat(known)] = (f"type_inv.{name}", None, None)
@@ -63,7 +69,11 @@ def renamed_paths(body, steps, crate_note):
         if all(p == "before" for p in parts):
             return head if re.search(r"let \w+ = $", body[: m.start()]) else m[0]
         parts = [p for p in parts if p != "before"]
-        if parts and flat(parts[0]) in steps:
+        for k in range(len(parts), 1, -1):
+            arm = steps["arms"].get((flat(parts[0]), tuple(parts[1:k]))) if parts else None
+            if arm:
+                return ".".join([head, arm[0], arm[1]] + parts[k:])
+        if parts and flat(parts[0]) in steps and parts[0] != "arms":
             new, clauses, arms = steps[flat(parts[0])]
             parts[0] = new
             if new.startswith("type_inv.") and parts[1:2] == ["given"]:
@@ -140,7 +150,7 @@ def commas(text):
         depth += (ch in "([{") - (ch in ")]}")
         cur += ch
     parts.append(cur.strip())
-    return parts
+    return parts if parts[-1] else parts[:-1]
 
 
 def is_plain(body):
@@ -262,7 +272,6 @@ def turn(crate, folder, rel, found):
             new = goals.get(pre)
         if new is None:
             lefts.append(f"{m[1]}: no goal {m[4]}")
-            lines.append("-- " + "\n-- ".join("\n".join(d.note + [d.sig] + d.rest).split("\n")) + "\n")
             continue
         cparam = [p for p in params if p not in ("κs",)]
         body = renamed_paths(body, steps, None)

@@ -1,0 +1,7 @@
+-- All digits of the number.
+use Rattle.buffer.specs.Text.{decimal}
+use Rattle.buffer.proofs.write.decimal.Goals as goal
+
+pub returns : goal.returns
+unfolding decimal
+returns c = c.digits.ensures
