@@ -161,9 +161,51 @@ def bare(word):
     return word[1:-1].strip() if word.startswith("(") and word.endswith(")") else word
 
 
+def without_plain_lets(body):
+    """Drops each 'let a = c in', and writes c for a."""
+    while True:
+        m = re.search(r"let (\w+) = (c|t|s)\s+in\s+", body)
+        if not m:
+            return body
+        rest = re.sub(r"(?<![^\s(){};,@\"«»\[\]|.])" + m[1] + r"(?=[.\s)},;])", m[2], body[m.end() :])
+        body = body[: m.start()] + rest
+
+
+def let_prefix(body):
+    """The lets in front of a body, and the rest."""
+    pre = ""
+    while body.startswith("let "):
+        depth, i = 0, 4
+        while i < len(body):
+            ch = body[i]
+            depth += (ch in "([{") - (ch in ")]}")
+            if depth == 0 and re.match(r"\sin\s", body[i : i + 4]):
+                break
+            i += 1
+        pre += body[: i + 3] + "\n    "
+        body = body[i + 3 :].strip()
+    return pre, body
+
+
 def split_clauses(body, fields):
     """Turns 'promised R X Y' and the like into one answer for each clause, or returns None."""
+    pre, body = let_prefix(body)
+    parts = split_clauses_of(body, fields)
+    if parts and pre:
+        bound = re.findall(r"let (\w+)", pre)
+        wants = lambda b: any(re.search(r"(?<![\w.-])" + x + r"(?![\w-])", b) for x in bound)
+        parts = [(f, b if isinstance(b, tuple) or is_plain(b) or not wants(b) else "\n    " + pre + b) for f, b in parts]
+    return parts
+
+
+def split_clauses_of(body, fields):
     words = split_top(body)
+    if words and words[0] == "reporting" and len(words) == 3 and len(fields) == 3:
+        return [(fields[0], words[2] + ".0"), (fields[1], ("ap", words[1])), (fields[2], words[2] + ".1")]
+    if words and words[0] == "reporting_with" and len(words) == 4 and len(fields) == 4:
+        return [(fields[0], words[2] + ".0"), (fields[1], ("ap", words[1])), (fields[2], words[2] + ".1"), (fields[3], bare(words[3]))]
+    if words and words[0] == "reported" and len(words) == 3 and len(fields) == 2:
+        return [(fields[0], bare(words[2])), (fields[1], ("ap", words[1]))]
     if words and words[0] == "promised" and len(words) == 4 and len(fields) == 3:
         return [(fields[0], bare(words[2])), (fields[1], ("ap", words[1])), (fields[2], bare(words[3]))]
     if words and words[0] == "reported" and len(words) == 3 and len(fields) == 2:
@@ -274,7 +316,7 @@ def turn(crate, folder, rel, found):
             lefts.append(f"{m[1]}: no goal {m[4]}")
             continue
         cparam = [p for p in params if p not in ("κs",)]
-        body = renamed_paths(body, steps, None)
+        body = without_plain_lets(renamed_paths(body, steps, None))
         if not unfold and is_plain(body):
             continue
         fields = (data.get("asked") or {}).get(next((a for a, b in data["needs"] if b == new), None)) or []

@@ -1,18 +1,27 @@
 -- Too few cells; else the upload is stored.
 use native.Mathlib.Omega.{arith}
-use Rattle.der.proofs.Promised.{reporting}
 use Rattle.stream.specs.Report.{status_report}
 use Rattle.cells.proofs.Outcomes.{begin_few, begin_stored}
 use borrow.Author.Rules.{rules}
+use mathlib.Core.Path.{ap}
 use Rattle.cells.proofs.begin.Goals as goal
 
-pub returns-then-count-lt-UPLOAD_LENGTH : goal.returns-then-count-lt-UPLOAD_LENGTH
-returns-then-count-lt-UPLOAD_LENGTH c = reporting status_report (begin_few _ _ _ (omega (arith, c.if-count-lt-UPLOAD_LENGTH.true)) c.refused.ensures)
+pub returns-then-count-lt-UPLOAD_LENGTH-clause-value : goal.returns-then-count-lt-UPLOAD_LENGTH-clause-value
+returns-then-count-lt-UPLOAD_LENGTH-clause-value c = (begin_few _ _ _ (omega (arith, c.if-count-lt-UPLOAD_LENGTH.true)) c.refused.ensures).0
 
-pub returns : goal.returns
-returns c =
-    let a = c in
-    let b = a in
-    reporting status_report
-    (begin_stored _ _ _ (omega (arith, b.if-count-lt-UPLOAD_LENGTH.false)) _ b.begin-u.ensures c.status.ensures.value
-    (search rules) _ _ a.upload-end.ensures)
+pub returns-then-count-lt-UPLOAD_LENGTH-clause-report : goal.returns-then-count-lt-UPLOAD_LENGTH-clause-report
+returns-then-count-lt-UPLOAD_LENGTH-clause-report c = ap status_report (returns-then-count-lt-UPLOAD_LENGTH-clause-value c)
+
+pub returns-then-count-lt-UPLOAD_LENGTH-clause-cells_after : goal.returns-then-count-lt-UPLOAD_LENGTH-clause-cells_after
+returns-then-count-lt-UPLOAD_LENGTH-clause-cells_after c = (begin_few _ _ _ (omega (arith, c.if-count-lt-UPLOAD_LENGTH.true)) c.refused.ensures).1
+
+pub returns-clause-value : goal.returns-clause-value
+returns-clause-value c = (begin_stored _ _ _ (omega (arith, c.if-count-lt-UPLOAD_LENGTH.false)) _ c.begin-u.ensures c.status.ensures.value
+    (search rules) _ _ c.upload-end.ensures).0
+
+pub returns-clause-report : goal.returns-clause-report
+returns-clause-report c = ap status_report (returns-clause-value c)
+
+pub returns-clause-cells_after : goal.returns-clause-cells_after
+returns-clause-cells_after c = (begin_stored _ _ _ (omega (arith, c.if-count-lt-UPLOAD_LENGTH.false)) _ c.begin-u.ensures c.status.ensures.value
+    (search rules) _ _ c.upload-end.ensures).1

@@ -5,6 +5,5 @@ use Rattle.cells.proofs.load.upload.Goals as goal
 
 pub returns : goal.returns
 returns c =
-    let d = c in
-    upload_read _ _ _ d.plain-p.ensures d.due_of-due.ensures (omega arith) (omega arith) (omega arith)
+    upload_read _ _ _ c.plain-p.ensures c.due_of-due.ensures (omega arith) (omega arith) (omega arith)
     (omega arith) c.ends-ends.ensures

@@ -10,10 +10,7 @@ loop-i-init c = lines_start _ _ _ _
 
 pub loop-i-preserved : goal.loop-i-preserved
 loop-i-preserved c =
-    let a = c in
-    let b = a in
-    let d = b in
-    lines_turn _ _ _ _ _ _ _ d.loop-i.invariant _ _ b.loop-i-test.true (search rules) a.cell-to.ensures
+    lines_turn _ _ _ _ _ _ _ c.loop-i.invariant _ _ c.loop-i-test.true (search rules) c.cell-to.ensures
 
 pub returns : goal.returns
 returns c = ends_stored _ _ _ _ _ _ c.loop-i.invariant (search rules) c.loop-i-test.false

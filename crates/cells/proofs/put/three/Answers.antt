@@ -4,7 +4,4 @@ use Rattle.cells.proofs.put.three.Goals as goal
 
 pub returns : goal.returns
 returns c =
-    let a = c in
-    let b = a in
-    let d = b in
-    ◌then◌ d.cell-second.ensures (◌then◌ b.cell-third.ensures a.cell.ensures)
+    ◌then◌ c.cell-second.ensures (◌then◌ c.cell-third.ensures c.cell.ensures)

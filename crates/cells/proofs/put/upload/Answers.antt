@@ -10,13 +10,9 @@ use Rattle.cells.proofs.put.upload.Goals as goal
 pub returns : goal.returns
 unfolding cells_of
 returns c =
-    let a = c in
-    let b = a in
-    let d = b in
-    let f = d in
-    let p = f.plain_of-p.ensures in
-    ◌then◌ (three_as (ap (λ (x : Plain). x.kind) p) (omega arith) (ap (λ (x : Plain). x.at) p) f.three-second.ensures)
+    let p = c.plain_of-p.ensures in
+    ◌then◌ (three_as (ap (λ (x : Plain). x.kind) p) (omega arith) (ap (λ (x : Plain). x.at) p) c.three-second.ensures)
     (◌then◌
     (three_as (ap (λ (x : Plain). x.tag) p) (ap (λ (x : Plain). x.low) p) (ap (λ (x : Plain). x.high) p)
-    d.three-third.ensures)
-    (◌then◌ (three_as (omega arith) (omega arith) (omega arith) b.three-last.ensures) a.ends.ensures))
+    c.three-third.ensures)
+    (◌then◌ (three_as (omega arith) (omega arith) (omega arith) c.three-last.ensures) c.ends.ensures))
