@@ -1,0 +1,27 @@
+-- Each way out is the definition's, by the tests and answers on the way.
+use borrow.Author.Rules.{rules}
+use Rattle.der.proofs.Choices.{choices, told_true, told_false}
+use Rattle.pkcs12.specs.Identifiers.{data_type}
+use Rattle.pkcs12.specs.Walk.{encrypted_info_at}
+use Rattle.parts.specs.Steps.{sealed_value_at, encrypted_parts_at}
+use Rattle.parts.proofs.Rules.{rooms}
+use Rattle.parts.proofs.read.encrypted_info.Goals as goal
+
+pub named-requires : goal.named-requires
+named-requires c = search (rules, rooms)
+
+pub returns-then-named : goal.returns-then-named
+unfolding encrypted_info_at encrypted_parts_at sealed_value_at data_type
+returns-then-named c = search (choices, told_true, told_false) depth 14
+
+pub returns-in-Refused : goal.returns-in-Refused
+unfolding encrypted_info_at encrypted_parts_at sealed_value_at data_type
+returns-in-Refused c = search (choices, told_true, told_false) depth 14
+
+pub returns-in-Refused-identifier : goal.returns-in-Refused-identifier
+unfolding encrypted_info_at encrypted_parts_at sealed_value_at data_type
+returns-in-Refused-identifier c = search (choices, told_true, told_false) depth 14
+
+pub returns-else-named : goal.returns-else-named
+unfolding encrypted_info_at encrypted_parts_at sealed_value_at data_type
+returns-else-named c = search (choices, told_true, told_false) depth 14
