@@ -191,6 +191,8 @@ def split_clauses(body, fields):
     """Turns 'promised R X Y' and the like into one answer for each clause, or returns None."""
     pre, body = let_prefix(body)
     parts = split_clauses_of(body, fields)
+    if parts:
+        parts = [(f, "search all_bytes" if f == "bytes" and isinstance(b, str) and b.endswith(".1") else b) for f, b in parts]
     if parts and pre:
         bound = re.findall(r"let (\w+)", pre)
         wants = lambda b: any(re.search(r"(?<![\w.-])" + x + r"(?![\w-])", b) for x in bound)
@@ -198,25 +200,56 @@ def split_clauses(body, fields):
     return parts
 
 
-def split_clauses_of(body, fields):
-    words = split_top(body)
-    if words and words[0] == "reporting" and len(words) == 3 and len(fields) == 3:
-        return [(fields[0], words[2] + ".0"), (fields[1], ("ap", words[1])), (fields[2], words[2] + ".1")]
-    if words and words[0] == "reporting_with" and len(words) == 4 and len(fields) == 4:
-        return [(fields[0], words[2] + ".0"), (fields[1], ("ap", words[1])), (fields[2], words[2] + ".1"), (fields[3], bare(words[3]))]
-    if words and words[0] == "reported" and len(words) == 3 and len(fields) == 2:
-        return [(fields[0], bare(words[2])), (fields[1], ("ap", words[1]))]
-    if words and words[0] == "promised" and len(words) == 4 and len(fields) == 3:
-        return [(fields[0], bare(words[2])), (fields[1], ("ap", words[1])), (fields[2], bare(words[3]))]
-    if words and words[0] == "reported" and len(words) == 3 and len(fields) == 2:
-        return [(fields[0], bare(words[2])), (fields[1], ("ap", words[1]))]
-    if len(words) == 1 and words[0].startswith("("):
-        parts = commas(bare(words[0]))
-        while len(parts) == 2 and len(fields) > len(parts) and parts[-1].startswith("("):
-            parts = parts[:-1] + commas(bare(parts[-1]))
+def pieces(term, fields):
+    """The fields of a nested pair, each by its projection."""
+    if len(fields) == 1:
+        return [(fields[0], term)]
+    inner = bare(term)
+    parts = commas(inner) if term.startswith("(") else []
+    if len(parts) < 2 and re.match(r"^\(?search ", term):
+        return [(f, bare(term)) for f in fields]
+    if len(parts) > 1:
+        if len(parts) == 2 and len(fields) > 2:
+            return [(fields[0], parts[0])] + pieces(parts[1], fields[1:])
         if len(parts) == len(fields):
             return list(zip(fields, parts))
-    return None
+    term = term if re.match(r"^[\w.]+$", term) or term.startswith("(") and not re.search(r"^\([^()]*\).*\(", term) and closed(term) else f"({term})"
+    out, at = [], term
+    for k, f in enumerate(fields):
+        if k == len(fields) - 1:
+            out.append((f, at))
+        else:
+            out.append((f, at + ".0"))
+            at += ".1"
+    return out
+
+
+def closed(term):
+    """Whether a term is one pair of brackets."""
+    depth = 0
+    for i, ch in enumerate(term):
+        depth += (ch in "([{") - (ch in ")]}")
+        if depth == 0:
+            return i == len(term) - 1
+    return False
+
+
+def split_clauses_of(body, fields):
+    words = split_top(body)
+    head = words[0] if words else ""
+    if head == "promised" and len(words) == 4 and len(fields) >= 3:
+        return [(fields[0], bare(words[2])), (fields[1], ("ap", words[1]))] + pieces(words[3], fields[2:])
+    if head == "reporting" and len(words) == 3 and len(fields) >= 3:
+        got = pieces(words[2], [fields[0]] + fields[2:])
+        return [got[0], (fields[1], ("ap", words[1]))] + got[1:]
+    if head == "reporting_with" and len(words) == 4 and len(fields) == 4:
+        got = pieces(words[2], [fields[0], fields[2]])
+        return [got[0], (fields[1], ("ap", words[1])), got[1], (fields[3], bare(words[3]))]
+    if head == "reported" and len(words) == 3 and len(fields) == 2:
+        return [(fields[0], bare(words[2])), (fields[1], ("ap", words[1]))]
+    if head in ("search", "omega", "rw", "simp", "grind"):
+        return [(f, body) for f in fields] if head != "rw" else None
+    return pieces(body if len(words) == 1 else f"({body})", fields)
 
 
 def main(argv):
@@ -321,6 +354,9 @@ def turn(crate, folder, rel, found):
             continue
         fields = (data.get("asked") or {}).get(next((a for a, b in data["needs"] if b == new), None)) or []
         parts = split_clauses(body.strip(), fields) if fields else None
+        if parts:
+            again = {"arms": {}} | {flat(v[0]): v for k, v in steps.items() if k != "arms"}
+            parts = [(f, b if isinstance(b, tuple) else renamed_paths(b, again, None)) for f, b in parts]
         note = "\n".join(d.note) + "\n" if d.note else ""
         p = " ".join(cparam)
         g = prefix + new
@@ -342,6 +378,8 @@ def turn(crate, folder, rel, found):
     need_ap = any(re.search(r"= ap ", x) for x in lines) and not any(re.search(r"[{, ]ap[,}]", u) for u in keep)
     if need_ap:
         keep.append("use mathlib.Core.Path.{ap}")
+    if any("search all_bytes" in x for x in lines) and not any("all_bytes" in u for u in keep):
+        keep.append("use Rattle.der.proofs.Promised.{all_bytes}")
     if lines:
         write(os.path.join(folder, "Answers.antt"), heading, keep, f"use {path}.Goals as goal", lines)
     if invs:

@@ -52,7 +52,7 @@ one_element = ids.one_element
 
 -- An id that is there lies in the bytes, whatever the table.
 pub id_lies_lem : (t : Table) (s : List ℕ) (n : ℕ) → (id_of t s n).present ≡ true → Lies s (id_of t s n).range
-id_lies_lem = ids.id_lies
+id_lies_lem = ids.id_lies_lem
 
 -- ---- the identity row of a bag
 

@@ -28,10 +28,10 @@ accepted_iff f = (refused.accepted_goes f, λ p. refused.goes_accepted f p.0 (le
 -- The number of a refusal is 1 to 9 or 15, and its offset is at most the file's length.
 pub refusal_number : (f : List ℕ) (n p : ℕ) → (read_file f).answer ≡ Answer.Refused (fault n p)
     → ((1 ≤ n) × (n ≤ 9)) ⊎ (n ≡ 15)
-refusal_number f n p e = (refused.refusal_of f n p e).0
+refusal_number f n p e = (refused.refusal_of_lem f n p e).0
 
 pub refusal_offset : (f : List ℕ) (n p : ℕ) → (read_file f).answer ≡ Answer.Refused (fault n p) → p ≤ length f
-refusal_offset f n p e = (refused.refusal_of f n p e).1
+refusal_offset f n p e = (refused.refusal_of_lem f n p e).1
 
 -- Rules 5.9, 5.37: the number is 9 if and only if the file has more than 65,535 bytes, and then the
 -- offset is 0.

@@ -74,7 +74,7 @@ import_short_buffer = outcomes.short_buffer_iff
 -- There is no other refusal, and each leaves the whole buffer as before.
 pub import_refusals : (t buffer : List ℕ) (f : Fault) → (imported t buffer).answer ≡ Written.Refused f
     → TextNumber f × ((imported t buffer).buffer ≡ buffer)
-import_refusals = outcomes.refused_by
+import_refusals = outcomes.refused_by_lem
 
 -- ---- export (Rule 11.8)
 
@@ -122,4 +122,4 @@ listed_encodes = bench.listed_encodes
 
 -- 27 texts, with every number written out
 pub bench_texts_lem : Holds bench_texts
-bench_texts_lem = bench.bench_texts
+bench_texts_lem = bench.bench_texts_lem
