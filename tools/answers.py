@@ -15,11 +15,11 @@ import sys
 import tempfile
 
 NAME = r'[^\s(){}.;,@"«»]+'
-PATH = re.compile(r'(?<![^\s(){};,@"«»\[\]|])([a-z]\w*)((?:\.[^\s(){}.;,@"«»\[\]]+)+)')
+PATH = re.compile(r'(?<![^\s(){};,@"«»\[\]|])([a-z]\w*)((?:\.(?:«[^»]*»|[^\s(){}.;,@"«»\[\]]+))+)')
 
 
 def flat(name):
-    return name.replace("_", "-")
+    return name.replace("_", "-").strip("«»")
 
 
 def run_names(crate):
@@ -112,7 +112,7 @@ def parse(text):
                 note.append(c)
         elif c.startswith("use "):
             uses.append(c)
-        elif re.match(r"(pub |abbrev |unfoldable |ruleset |data |record |mutual|module )*" + NAME + r"(?: " + NAME + r")*(?: \{[^}]*\})*\s*:", c) or re.match(r"(pub )?(module|mutual|data|record|ruleset|abbrev)", c):
+        elif re.match(r"(pub |abbrev |unfoldable |ruleset |data |record |mutual|module )*" + NAME + r"(?: " + NAME + r")*(?: \{[^}]*\})*\s*:", c) or re.match(r"(pub )?(module|mutual|data|record|ruleset|abbrev) ", c):
             d = Decl(c)
             d.note = note
             note = []
@@ -350,6 +350,10 @@ def turn(crate, folder, rel, found):
             continue
         cparam = [p for p in params if p not in ("κs",)]
         body = without_plain_lets(renamed_paths(body, steps, None))
+        if "+" in rel:
+            body = re.sub(r"\bc\.requires\.1(?=[.\s,)])", "c.requires", body)
+            body = re.sub(r"omega \(\s*arith,\s*c\.requires\.0,?\s*\)", "omega arith", body)
+        body = re.sub(r"\((?:off|on) _ (c\.[^\s()]+)\)", r"\1", body)
         if not unfold and is_plain(body):
             continue
         fields = (data.get("asked") or {}).get(next((a for a, b in data["needs"] if b == new), None)) or []

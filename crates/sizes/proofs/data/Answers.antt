@@ -7,4 +7,3 @@ use Rattle.sizes.proofs.data.Goals as goal
 pub returns : goal.returns
 unfolding data_size
 returns c = search (sizing, told_content_info) depth 14
-data-spec = tie.close (tie.spec element-requires element-requires-2 content-info-requires returns)

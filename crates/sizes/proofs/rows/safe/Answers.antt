@@ -1,9 +1,6 @@
 -- By the kind of the row.
 use Rattle.sizes.proofs.MeasuresSafes.{safe_none_sized, safe_plain_sized, safe_encrypted_sized}
-use borrow.Author.Rules.{rules}
 use Rattle.sizes.proofs.rows.safe.Goals as goal
-
-data-requires c κs = search rules
 
 pub returns-in-None : goal.returns-in-None
 returns-in-None c = safe_none_sized _ _ _ _ _ _ c.requires c.in-None.is
@@ -11,7 +8,7 @@ returns-in-None c = safe_none_sized _ _ _ _ _ _ c.requires c.in-None.is
 pub returns-in-Plain : goal.returns-in-Plain
 returns-in-Plain c =
     safe_plain_sized _ _ _ _ _ _ c.requires _ _ _ c.in-Plain.is
-    c.bags-taken.ensures c.before.«data».ensures c.element-size.ensures
+    c.bags-taken.ensures c.data-body.ensures c.element-size.ensures
 
 pub returns-in-Encrypted : goal.returns-in-Encrypted
 returns-in-Encrypted c =
