@@ -336,7 +336,7 @@ def turn(crate, folder, rel, found):
             after = [v for v, c in zip(vars_, changed) if c]
             for p, v in zip(params[len(vars_) :], after):
                 to[p] = f"l.{v}"
-            body = re.sub(r"(?<![^\s(){};,@\"«»])" + r"([^\s(){}.;,@\"«»]+)", lambda x: to.get(x[1], x[1]), body)
+            body = re.sub(r"(?<![^\s(){};,@\"«»])" + r"([^\s(){}.;,@\"«»]+)(?!\s+=\s)", lambda x: to.get(x[1], x[1]), body)
             word = m[3]
             invs.append(f"abbrev pub {word}-{prefix}{new} : goal.{word}-{prefix}{new}\n{unfold}{word}-{prefix}{new} l ={body}\n")
             continue
@@ -353,6 +353,8 @@ def turn(crate, folder, rel, found):
         if "+" in rel:
             body = re.sub(r"\bc\.requires\.1(?=[.\s,)])", "c.requires", body)
             body = re.sub(r"omega \(\s*arith,\s*c\.requires\.0,?\s*\)", "omega arith", body)
+        body = re.sub(r"let (\w+) = c\.well-formed\S* in\s+", "", body)
+        body = re.sub(r"\(arrays (?:_ )+g\S* g\S* g[^\s)]*\)", "(arrays c.args.table (omega arith) (omega arith) (omega arith))", body)
         body = re.sub(r"\((?:off|on) _ (c\.[^\s()]+)\)", r"\1", body)
         if not unfold and is_plain(body):
             continue
@@ -382,6 +384,8 @@ def turn(crate, folder, rel, found):
     need_ap = any(re.search(r"= ap ", x) for x in lines) and not any(re.search(r"[{, ]ap[,}]", u) for u in keep)
     if need_ap:
         keep.append("use mathlib.Core.Path.{ap}")
+    if any("omega arith" in x for x in lines) and not any("{arith}" in u or " arith" in u for u in keep):
+        keep.append("use native.Mathlib.Omega.{arith}")
     if any("search all_bytes" in x for x in lines) and not any("all_bytes" in u for u in keep):
         keep.append("use Rattle.der.proofs.Promised.{all_bytes}")
     if lines:
@@ -404,8 +408,9 @@ def measure(d, rel, found, cycle):
     for data in found.values():
         params |= data["params"]
     fn = re.search(r"μ-(\S+)", d.sig)[1]
-    own = next((ps for f, ps in params.items() if flat(f.split("::")[-1]) == fn), None)
-    name = next(f.split("::")[-1] for f in params if flat(f.split("::")[-1]) == fn)
+    mine = {f: ps for f, ps in params.items() if f.split("::")[1:-1] == rel.split("/")[:-1] and flat(f.split("::")[-1]) == fn}
+    full, own = next(iter(mine.items()))
+    name = full.split("::")[-1]
     body = "\n".join(d.rest).split("=", 1)[1]
     body = re.sub(r"\ba((?:\.1)*)(\.0)?(?![\w.])", lambda m: "l." + own[len(m[1]) // 2], body)
     return f"abbrev pub decreases-{name} : goal.decreases-{name}\ndecreases-{name} l ={body}\n"

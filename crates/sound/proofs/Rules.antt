@@ -152,10 +152,8 @@ module _ {A : Type 0} (test : A → Bool) (xs : List A) (n : ℕ) where
     pub enough : n ≤ length xs
     pub rest : all test (take n xs) ≡ all test (drop i (take n xs))
 
-  -- an array of k rows, as its type says
-  pub starts : (B : Type 0) (f : A → B) (k : ℕ) → length (map f xs) ≡ k → n ≤ k → Testing 0
-  starts B f k e h = let l : length (map f xs) ≡ length xs = length-map xs f in
-      record { enough = omega (arith, e, l, h); rest = refl }
+  pub starts : n ≤ length xs → Testing 0
+  starts h = record { enough = h; rest = refl }
 
   turn : (i : ℕ) (d : A) → Testing i → i < n
       → all test (take n xs) ≡ (if test (get_or xs i d) then all test (drop (suc i) (take n xs)) else false)

@@ -38,15 +38,9 @@ pub record Arrays (t : Table) : Type 0 where
   pub bags : length t.bags ≡ bag_rows
   pub attributes : length t.attributes ≡ attribute_rows
 
-pub arrays : (t : Table) (A B C : Type 0) (f : SafeRow → A) (g : BagRow → B) (h : AttributeRow → C)
-    → length (map f t.safes) ≡ safe_rows → length (map g t.bags) ≡ bag_rows
-    → length (map h t.attributes) ≡ attribute_rows → Arrays t
-arrays t A B C f g h p q r =
-    record {
-      safes = sym (length-map t.safes f) ∙ p;
-      bags = sym (length-map t.bags g) ∙ q;
-      attributes = sym (length-map t.attributes h) ∙ r;
-    }
+pub arrays : (t : Table) → length t.safes ≡ safe_rows → length t.bags ≡ bag_rows
+    → length t.attributes ≡ attribute_rows → Arrays t
+arrays t p q r = record { safes = p; bags = q; attributes = r }
 
 both_first : (t u : Bool) → both t u ≡ true → t ≡ true
 both_first true u e = refl
@@ -75,13 +69,13 @@ fits t s a k =
 
 -- u is what testing the rules returned
 module _ (t : Table) (s : List ℕ) (u : Bool) (p : u ≡ keeps_rules t s) where
-  pub breaks_rules : not u ≡ true → Unsound ≡ measured t s
+  pub breaks_rules : u ≡ false → Unsound ≡ measured t s
   unfolding measured file_of
-  breaks_rules q = rw (sym p ∙ not-true u q) refl
+  breaks_rules q = rw (sym p ∙ q) refl
 
-  module _ (q : not u ≡ false) (a : Arrays t) (all : Safes) (e : all ≡ safes_sized (safes_picked t s 0 0 0)) where
+  module _ (q : u ≡ true) (a : Arrays t) (all : Safes) (e : all ≡ safes_sized (safes_picked t s 0 0 0)) where
     keeps : keeps_rules t s ≡ true
-    keeps = sym p ∙ not-false u q
+    keeps = sym p ∙ q
 
     safe_is : all.safe ≡ (safes_picked t s 0 0 0).safe
     unfolding safes_sized
