@@ -67,8 +67,10 @@ def renamed_paths(body, steps, crate_note):
     def one(m):
         head, parts = m[1], m[2][1:].split(".")
         if all(p == "before" for p in parts):
-            return head if re.search(r"let \w+ = $", body[: m.start()]) else m[0]
+            return m[0]
         parts = [p for p in parts if p != "before"]
+        if head not in ("c", "s"):
+            return ".".join([head] + parts)
         for k in range(len(parts), 1, -1):
             arm = steps["arms"].get((flat(parts[0]), tuple(parts[1:k]))) if parts else None
             if arm:
@@ -167,8 +169,20 @@ def without_plain_lets(body):
         m = re.search(r"let (\w+) = (c|t|s)\s+in\s+", body)
         if not m:
             return body
-        rest = re.sub(r"(?<![^\s(){};,@\"«»\[\]|.])" + m[1] + r"(?=[.\s)},;])", m[2], body[m.end() :])
+        rest = re.sub(r"(?<![^\s(){};,@\"«»\[\]|])" + m[1] + r"(?=[.\s)},;])", m[2], body[m.end() :])
         body = body[: m.start()] + rest
+
+
+def without_befores(body):
+    """Drops 'before' from each path, but from one that has nothing else outside a let."""
+
+    def one(m):
+        parts = m[2][1:].split(".")
+        if all(p == "before" for p in parts):
+            return m[1] if re.search(r"let \w+ = $", body[: m.start()]) else m[0]
+        return ".".join([m[1]] + [p for p in parts if p != "before"])
+
+    return PATH.sub(one, body)
 
 
 def let_prefix(body):
@@ -298,7 +312,7 @@ def turn(crate, folder, rel, found):
                 data = found[only]
                 spots = {flat(a[0]): b for a, b in zip(data["places"], data["places_by_name"])}
                 whole = re.sub(r"\btie\.((?:After|Then|Else|At|In)[^\s(){};,.]*)", lambda x: "goal." + spots.get(flat(x[1]), x[1]), whole)
-                whole = renamed_paths(whole, steps_of(data), None)
+                whole = renamed_paths(without_plain_lets(without_befores(whole)), steps_of(data), None)
             lines.append(whole + "\n")
             continue
         lts = alias.get(m[2], "Tie" if m[2] == "tie" else None)
@@ -349,7 +363,7 @@ def turn(crate, folder, rel, found):
             lefts.append(f"{m[1]}: no goal {m[4]}")
             continue
         cparam = [p for p in params if p not in ("κs",)]
-        body = without_plain_lets(renamed_paths(body, steps, None))
+        body = renamed_paths(without_plain_lets(without_befores(body)), steps, None)
         if "+" in rel:
             body = re.sub(r"\bc\.requires\.1(?=[.\s,)])", "c.requires", body)
             body = re.sub(r"omega \(\s*arith,\s*c\.requires\.0,?\s*\)", "omega arith", body)

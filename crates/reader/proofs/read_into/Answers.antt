@@ -31,7 +31,7 @@ returns-then-memory-lt-TABLE_WORDS-clause-memory_after c =
     let z = into_short _ c.args.memory.now c.if-memory-lt-TABLE_WORDS.true in
     let x = sym (ap (λ (y : Into). y.answer)
     z) in
-    sym (ap (λ (y : Into). y.memory-1) z)
+    sym (ap (λ (y : Into). y.memory) z)
 
 pub returns-then-memory-lt-TABLE_WORDS-clause-bytes : goal.returns-then-memory-lt-TABLE_WORDS-clause-bytes
 returns-then-memory-lt-TABLE_WORDS-clause-bytes c = search all_bytes
@@ -49,7 +49,7 @@ returns-clause-value c =
     let z = into_whole _ c.args.memory.now c.if-memory-lt-TABLE_WORDS.false in
     let x = c.fill.ensures.value ∙ sym (ap (λ
     (y : Into). y.answer) z) in
-    let y = ap (λ (l : List ℕ). l ++ drop table_words c.args.memory.now) c.fill.ensures.memory_after ∙ sym (ap (λ (y : Into). y.memory-1) z) in
+    let y = ap (λ (l : List ℕ). l ++ drop table_words c.args.memory.now) c.fill.ensures.memory_after ∙ sym (ap (λ (y : Into). y.memory) z) in
     x
 
 pub returns-clause-report : goal.returns-clause-report
@@ -57,7 +57,7 @@ returns-clause-report c =
     let z = into_whole _ c.args.memory.now c.if-memory-lt-TABLE_WORDS.false in
     let x = c.fill.ensures.value ∙ sym (ap (λ
     (y : Into). y.answer) z) in
-    let y = ap (λ (l : List ℕ). l ++ drop table_words c.args.memory.now) c.fill.ensures.memory_after ∙ sym (ap (λ (y : Into). y.memory-1) z) in
+    let y = ap (λ (l : List ℕ). l ++ drop table_words c.args.memory.now) c.fill.ensures.memory_after ∙ sym (ap (λ (y : Into). y.memory) z) in
     ap answer_report x
 
 pub returns-clause-memory_after : goal.returns-clause-memory_after
@@ -65,7 +65,7 @@ returns-clause-memory_after c =
     let z = into_whole _ c.args.memory.now c.if-memory-lt-TABLE_WORDS.false in
     let x = c.fill.ensures.value ∙ sym (ap (λ
     (y : Into). y.answer) z) in
-    let y = ap (λ (l : List ℕ). l ++ drop table_words c.args.memory.now) c.fill.ensures.memory_after ∙ sym (ap (λ (y : Into). y.memory-1) z) in
+    let y = ap (λ (l : List ℕ). l ++ drop table_words c.args.memory.now) c.fill.ensures.memory_after ∙ sym (ap (λ (y : Into). y.memory) z) in
     y
 
 pub returns-clause-bytes : goal.returns-clause-bytes
