@@ -71,6 +71,8 @@ def renamed_paths(body, steps, crate_note):
         parts = [p for p in parts if p != "before"]
         if head not in ("c", "s"):
             return ".".join([head] + parts)
+        if parts[:2] == ["type-inv", "ensures"]:
+            parts[0] = "typed"
         for k in range(len(parts), 1, -1):
             arm = steps["arms"].get((flat(parts[0]), tuple(parts[1:k]))) if parts else None
             if arm:
@@ -305,7 +307,7 @@ def turn(crate, folder, rel, found):
         if not m:
             if re.search(r"statement\b|Measures|: In |\.Claims|→ In ", sig) or re.match(r"(abbrev )?uses\b", sig):
                 if "Measures" in sig:
-                    invs.append(measure(d, rel, found, cycle))
+                    invs.append(measure(d, crate, rel, found))
                 continue
             whole = "\n".join(d.note + [d.sig] + d.rest)
             if "tie." in whole and only:
@@ -416,13 +418,13 @@ def turn(crate, folder, rel, found):
         print(f"left: {rel}: {l}")
 
 
-def measure(d, rel, found, cycle):
+def measure(d, crate, rel, found):
     """A cycle's measure: an argument by its number becomes the argument by its name."""
     params = {}
     for data in found.values():
         params |= data["params"]
     fn = re.search(r"μ-(\S+)", d.sig)[1]
-    mine = {f: ps for f, ps in params.items() if f.split("::")[1:-1] == rel.split("/")[:-1] and flat(f.split("::")[-1]) == fn}
+    mine = {f: ps for f, ps in params.items() if f.split("::")[:-1] == [crate] + rel.split("/")[:-1] and flat(f.split("::")[-1]) == fn}
     full, own = next(iter(mine.items()))
     name = full.split("::")[-1]
     body = "\n".join(d.rest).split("=", 1)[1]

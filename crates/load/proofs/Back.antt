@@ -25,8 +25,8 @@ use Rattle.pkcs12.specs.declared.row.AttributeRow.{AttributeRow}
 use Rattle.pkcs12.specs.declared.row.Mac.{Mac}
 use Rattle.words.specs.Layout.{half_size}
 use Rattle.buffer.specs.Placed.{each}
-use Rattle.words.specs.Stored.{safe_number, bag_number, enclosing_number, set_number, rangeWords, partsWords}
-use Rattle.words.specs.Stored.{safe_words, bag_words, attributeWords, mac_words, rows_words}
+use Rattle.words.specs.Stored.{safe_number, bag_number, enclosing_number, set_number, range_words, parts_words}
+use Rattle.words.specs.Stored.{safe_words, bag_words, attribute_words, mac_words, rows_words}
 use Rattle.load.specs.Loaded.{word_at, enclosing_of, safe_kind_of, bag_kind_of, set_of}
 use Rattle.load.specs.Loaded.{range_loaded}
 use Rattle.load.specs.Loaded.{parts_loaded, safe_loaded, bag_loaded, attribute_loaded, mac_loaded, rows_from}
@@ -84,7 +84,7 @@ set_same true = refl
 -- ---- what is at an offset
 
 module _ (ws : List ℕ) where
-  pub range_back : (at : ℕ) (r : Range) → WordsAt ws at (rangeWords r) → range_loaded ws at ≡ r
+  pub range_back : (at : ℕ) (r : Range) → WordsAt ws at (range_words r) → range_loaded ws at ≡ r
   unfolding range_loaded
   range_back at r s =
       rw (
@@ -92,12 +92,12 @@ module _ (ws : List ℕ) where
         words_first ws (at + 1) r.end [] (words_back ws at (r.start ∷ []) (r.end ∷ []) s),
       )
 
-  pub parts_back : (at : ℕ) (p : Parts) → WordsAt ws at (partsWords p) → parts_loaded ws at ≡ p
+  pub parts_back : (at : ℕ) (p : Parts) → WordsAt ws at (parts_words p) → parts_loaded ws at ≡ p
   unfolding parts_loaded
   parts_back at p s =
-      let x : List ℕ = rangeWords p.identifier in
-      let y : List ℕ = rangeWords p.parameters in
-      let z : List ℕ = rangeWords p.value in
+      let x : List ℕ = range_words p.identifier in
+      let y : List ℕ = range_words p.parameters in
+      let z : List ℕ = range_words p.value in
       rw (
         range_back at p.identifier (words_front ws at x (y ++ z) s),
         range_back (at + 2) p.parameters (words_front ws (at + 2) y z (words_back ws at x (y ++ z) s)),
@@ -108,7 +108,7 @@ module _ (ws : List ℕ) where
   unfolding safe_loaded
   safe_back at r s =
       let n : ℕ = safe_number r.kind in
-      let x : List ℕ = partsWords r.parts in
+      let x : List ℕ = parts_words r.parts in
       rw (
         words_first ws at n x s,
         safe_kind_same r.kind,
@@ -121,7 +121,7 @@ module _ (ws : List ℕ) where
       let n : ℕ = bag_number r.kind in
       let e : ℕ = enclosing_number r.enclosing in
       let h : ℕ = set_number r.has_set in
-      let x : List ℕ = partsWords r.parts in
+      let x : List ℕ = parts_words r.parts in
       rw (
         words_first ws at n (r.safe ∷ e ∷ (x ++ (h ∷ []))) s,
         words_first ws (at + 1) r.safe (e ∷ (x ++ (h ∷ [])))
@@ -135,11 +135,11 @@ module _ (ws : List ℕ) where
         set_same r.has_set,
       )
 
-  pub attribute_back : (at : ℕ) (r : AttributeRow) → WordsAt ws at (attributeWords r) → attribute_loaded ws at ≡ r
+  pub attribute_back : (at : ℕ) (r : AttributeRow) → WordsAt ws at (attribute_words r) → attribute_loaded ws at ≡ r
   unfolding attribute_loaded
   attribute_back at r s =
-      let x : List ℕ = rangeWords r.identifier in
-      let y : List ℕ = rangeWords r.values in
+      let x : List ℕ = range_words r.identifier in
+      let y : List ℕ = range_words r.values in
       rw (
         words_first ws at r.bag (x ++ y) s,
         range_back (at + 1) r.identifier (words_front ws (at + 1) x y (words_back ws at (r.bag ∷ []) (x ++ y) s)),
@@ -149,8 +149,8 @@ module _ (ws : List ℕ) where
   pub mac_back : (at : ℕ) (m : Mac) → WordsAt ws at (mac_words m) → mac_loaded ws at ≡ m
   unfolding mac_loaded
   mac_back at m s =
-      let x : List ℕ = partsWords m.parts in
-      let y : List ℕ = rangeWords m.salt in
+      let x : List ℕ = parts_words m.parts in
+      let y : List ℕ = range_words m.salt in
       let l : ℕ = m.iterations % half_size in
       let h : ℕ = m.iterations / half_size in
       let both : l + half_size * h ≡ m.iterations = omega arith in

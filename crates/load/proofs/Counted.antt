@@ -18,7 +18,7 @@ use Rattle.pkcs12.specs.declared.row.BagRow.{BagRow}
 use Rattle.pkcs12.specs.declared.row.AttributeRow.{AttributeRow}
 use Rattle.words.specs.Layout.{safe_width, bag_width, attribute_width, safes_at, bags_at, attributes_at, mac_input_at}
 use Rattle.words.specs.Layout.{table_words}
-use Rattle.words.specs.Stored.{rangeWords, safe_words, bag_words, attributeWords}
+use Rattle.words.specs.Stored.{range_words, safe_words, bag_words, attribute_words}
 use Rattle.words.specs.InPlace.{safe_stored, bag_stored, attribute_stored, input_stored}
 use Rattle.words.specs.declared.Counts.{Counts}
 use Rattle.load.specs.Wordable.{BagFits}
@@ -132,7 +132,7 @@ module _ (m : List ℕ) (k : Counts) (h : Holds m (rows_at m k)) where
   -- an attribute
   module _ (m' : List ℕ) (r : AttributeRow) (j : ℕ) (few : k.attributes < attribute_rows)
       (p : m' ≡ attribute_stored m k.attributes r) where
-    attribute_put : m' ≡ sets m (attributes_at + k.attributes * attribute_width) (attributeWords r)
+    attribute_put : m' ≡ sets m (attributes_at + k.attributes * attribute_width) (attribute_words r)
     unfolding attribute_stored
     attribute_put = p ∙ rw (le-ltb (length m) table_words h.long, lt-leb attribute_rows k.attributes few)
 
@@ -158,7 +158,7 @@ module _ (m : List ℕ) (k : Counts) (h : Holds m (rows_at m k)) where
     held_with_attribute = held_of m' _ (with_attribute k j) attribute_held attribute_counts
 
     pub attribute_length : length m' ≡ length m
-    attribute_length = ap length attribute_put ∙ length-sets m _ (attributeWords r)
+    attribute_length = ap length attribute_put ∙ length-sets m _ (attribute_words r)
 
 -- the first memory: the MAC input is stored, and no row
 module _ (m : List ℕ) (r : Range) (long : table_words ≤ length m) (j : ℕ) where
@@ -168,7 +168,7 @@ module _ (m : List ℕ) (r : Range) (long : table_words ≤ length m) (j : ℕ) 
   abbrev first_rows : Rows
   first_rows = record { safes = []; bags = []; attributes = []; input = r; count = j }
 
-  first_put : input_stored m r ≡ sets m mac_input_at (rangeWords r)
+  first_put : input_stored m r ≡ sets m mac_input_at (range_words r)
   unfolding input_stored
   first_put = rw (le-ltb (length m) table_words long)
 
@@ -178,10 +178,10 @@ module _ (m : List ℕ) (r : Range) (long : table_words ≤ length m) (j : ℕ) 
   first_holds : Holds (input_stored m r) first_rows
   unfolding in_turn each Each
   first_holds =
-      let n : WordsAt (sets m mac_input_at (rangeWords r)) mac_input_at (rangeWords r) =
-      grown m mac_input_at [] (nothing_at m mac_input_at) mac_input_at (rangeWords r) (omega arith) (omega (arith, long)) in
+      let n : WordsAt (sets m mac_input_at (range_words r)) mac_input_at (range_words r) =
+      grown m mac_input_at [] (nothing_at m mac_input_at) mac_input_at (range_words r) (omega arith) (omega (arith, long)) in
       record {
-        long = rw first_put (omega (arith, long, length-sets m mac_input_at (rangeWords r)));
+        long = rw first_put (omega (arith, long, length-sets m mac_input_at (range_words r)));
         few_safes = omega arith;
         few_bags = omega arith;
         few_attributes = omega arith;

@@ -13,7 +13,7 @@ use Rattle.pkcs12.specs.Numbers.{safe_rows, bag_rows, attribute_rows}
 use Rattle.pkcs12.specs.Table.{Rows, no_safe, no_bag, no_attribute, padded, table_of, empty_table}
 use Rattle.pkcs12.specs.declared.row.Mac.{Mac}
 use Rattle.words.specs.Layout.{mac_input_at, safes_at, bags_at, attributes_at, table_words}
-use Rattle.words.specs.Stored.{safe_words, bag_words, attributeWords, words_of}
+use Rattle.words.specs.Stored.{safe_words, bag_words, attribute_words, words_of}
 use Rattle.words.specs.InPlace.{input_stored, finished, cleared}
 use Rattle.words.specs.Steps.{StoredAt}
 use Rattle.words.proofs.Whole.{words_length}
@@ -88,7 +88,7 @@ module _ (m : List ℕ) (st : Rows) (x : Mac) (h : Holds m st) (l : length m ≡
       record {
         words =
             sym
-            (rw (rows_words_lem attributeWords no_attribute attribute_rows st.attributes h.few_attributes)
+            (rw (rows_words_lem attribute_words no_attribute attribute_rows st.attributes h.few_attributes)
             (words_again m attributes_at _ (omega (arith, l)) h.attributes));
       }
 

@@ -17,7 +17,7 @@ use Rattle.pkcs12.specs.declared.row.BagRow.{BagRow}
 use Rattle.pkcs12.specs.declared.row.AttributeRow.{AttributeRow}
 use Rattle.pkcs12.proofs.Shown.{each_join}
 use Rattle.words.specs.Layout.{safe_width, bag_width, attribute_width, mac_input_at, safes_at, bags_at, attributes_at}
-use Rattle.words.specs.Stored.{safe_words, bag_words, attributeWords}
+use Rattle.words.specs.Stored.{safe_words, bag_words, attribute_words}
 use Rattle.words.specs.declared.Counts.{Counts}
 use Rattle.load.specs.Loaded.{safe_loaded, bag_loaded, attribute_loaded, safe_from, bag_from, attribute_from}
 use Rattle.load.specs.Wordable.{BagFits}
@@ -157,7 +157,7 @@ rows_back m st h =
     (λ p x u w. safe_back m p x w) st.safes (each_true st.safes) h.safes in
     let b = rows_read bag_words no_bag BagFits (bag_loaded m) bag_width m bags_at (λ x. refl)
     (λ p x u w. bag_back m p x u w) st.bags h.fits h.bags in
-    let c = rows_read attributeWords no_attribute (λ x. Unit {0}) (attribute_loaded m) attribute_width m attributes_at
+    let c = rows_read attribute_words no_attribute (λ x. Unit {0}) (attribute_loaded m) attribute_width m attributes_at
     (λ x. refl)
     (λ p x u w. attribute_back m p x w) st.attributes (each_true st.attributes) h.attributes in
     let d = range_back m mac_input_at st.input h.input in
@@ -192,9 +192,9 @@ module _ (m : List ℕ) (st : Rows) (h : Holds m st) where
   bags_long : length (in_turn bag_words no_bag st.bags) ≡ length st.bags * bag_width
   bags_long = in_turn_length bag_words no_bag bag_width (λ x. refl) st.bags
 
-  attributes_long : length (in_turn attributeWords no_attribute st.attributes)
+  attributes_long : length (in_turn attribute_words no_attribute st.attributes)
       ≡ length st.attributes * attribute_width
-  attributes_long = in_turn_length attributeWords no_attribute attribute_width (λ x. refl) st.attributes
+  attributes_long = in_turn_length attribute_words no_attribute attribute_width (λ x. refl) st.attributes
 
   -- n rows are there
   pub holds_safe : (r : SafeRow) (k n : ℕ) → length st.safes ≡ n → n < safe_rows
@@ -236,10 +236,10 @@ module _ (m : List ℕ) (st : Rows) (h : Holds m st) where
       }
 
   pub holds_attribute : (r : AttributeRow) (k n : ℕ) → length st.attributes ≡ n → n < attribute_rows
-      → Holds (sets m (attributes_at + n * attribute_width) (attributeWords r)) (add_attribute st r k)
+      → Holds (sets m (attributes_at + n * attribute_width) (attribute_words r)) (add_attribute st r k)
   holds_attribute r k n e f =
       let p : ℕ = attributes_at + n * attribute_width in
-      let y : List ℕ = attributeWords r in
+      let y : List ℕ = attribute_words r in
       record {
         long = omega (arith, h.long, length-sets m p y);
         few_safes = h.few_safes;
@@ -250,7 +250,7 @@ module _ (m : List ℕ) (st : Rows) (h : Holds m st) where
         safes = kept_before m safes_at _ h.safes p y (omega (arith, safes_long, h.few_safes));
         bags = kept_before m bags_at _ h.bags p y (omega (arith, bags_long, h.few_bags));
         attributes =
-            rw (in_turn_more attributeWords no_attribute st.attributes r)
+            rw (in_turn_more attribute_words no_attribute st.attributes r)
             (grown m attributes_at _ h.attributes p y (omega (arith, e, attributes_long))
             (omega (arith, f, h.long)));
       }

@@ -12,7 +12,7 @@ use Rattle.pkcs12.specs.declared.table.Table.{Table}
 use Rattle.words.specs.Layout.{safe_width, bag_width, attribute_width, elements_at, safe_count_at, bag_count_at}
 use Rattle.words.specs.Layout.{attribute_count_at, mac_input_at, mac_fields_at, safes_at, bags_at, attributes_at}
 use Rattle.words.specs.Layout.{greatest_word}
-use Rattle.words.specs.Stored.{count_word, count_words, rangeWords, mac_words, safe_words, bag_words, attributeWords}
+use Rattle.words.specs.Stored.{count_word, count_words, range_words, mac_words, safe_words, bag_words, attribute_words}
 use Rattle.words.specs.Stored.{head_words, safes_words, bags_words, attributes_words, words_of}
 use Rattle.load.specs.Loaded.{word_at, range_loaded, safe_loaded, bag_loaded, attribute_loaded, mac_loaded, safe_from}
 use Rattle.load.specs.Loaded.{bag_from}
@@ -71,20 +71,20 @@ module _ (t : Table) (w : Wordable t) (ws : List ℕ) (s : WordsAt ws 0 (words_o
 
   -- ---- the head
 
-  fields_there : WordsAt ws mac_input_at (rangeWords t.mac_input ++ mac_words t.mac)
+  fields_there : WordsAt ws mac_input_at (range_words t.mac_input ++ mac_words t.mac)
   fields_there =
       words_back ws 0 (count_words t.elements t.safe_count t.bag_count t.attribute_count)
-      (rangeWords t.mac_input ++ mac_words t.mac) head_there
+      (range_words t.mac_input ++ mac_words t.mac) head_there
 
   input_back : range_loaded ws mac_input_at ≡ t.mac_input
   input_back =
       range_back ws mac_input_at t.mac_input
-      (words_front ws mac_input_at (rangeWords t.mac_input) (mac_words t.mac) fields_there)
+      (words_front ws mac_input_at (range_words t.mac_input) (mac_words t.mac) fields_there)
 
   fields_back : mac_loaded ws mac_fields_at ≡ t.mac
   fields_back =
       mac_back ws mac_fields_at t.mac
-      (words_back ws mac_input_at (rangeWords t.mac_input) (mac_words t.mac) fields_there)
+      (words_back ws mac_input_at (range_words t.mac_input) (mac_words t.mac) fields_there)
 
   -- a count at its offset among the words
   count_back : (x : List ℕ) (n : ℕ) (y : List ℕ) → head_words t ≡ x ++ (count_word n ∷ y) → n ≤ greatest_word → word_at ws (0 + length x) ≡ n
@@ -138,7 +138,7 @@ module _ (t : Table) (w : Wordable t) (ws : List ℕ) (s : WordsAt ws 0 (words_o
 
   attributes_back : rows_from (attribute_from ws) no_attribute attribute_rows t.attribute_count ≡ t.attributes
   attributes_back =
-      rows_back attributeWords (attribute_loaded ws) attribute_width attribute_rows
+      rows_back attribute_words (attribute_loaded ws) attribute_width attribute_rows
       t.attribute_count no_attribute t.attributes ws attributes_at (λ x. refl)
       (λ i h p. attribute_back ws p (get_or t.attributes i no_attribute)) w.attribute_count
       attribute_number attribute_rows_lem past_bags

@@ -5,7 +5,7 @@ use Rattle.buffer.specs.Placed.{each}
 use Rattle.pkcs12.specs.Numbers.{safe_rows, bag_rows, attribute_rows}
 use Rattle.pkcs12.specs.Table.{Rows, no_safe, no_bag, no_attribute}
 use Rattle.words.specs.Layout.{mac_input_at, safes_at, bags_at, attributes_at, table_words}
-use Rattle.words.specs.Stored.{rangeWords, safe_words, bag_words, attributeWords}
+use Rattle.words.specs.Stored.{range_words, safe_words, bag_words, attribute_words}
 use Rattle.words.specs.declared.Counts.{Counts}
 use Rattle.load.specs.Loaded.{range_loaded, safe_from, bag_from, attribute_from}
 use Rattle.load.specs.Wordable.{BagFits}
@@ -26,10 +26,10 @@ pub record Holds (m : List ℕ) (st : Rows) : Type 0 where
   pub few_bags : length st.bags ≤ bag_rows
   pub few_attributes : length st.attributes ≤ attribute_rows
   pub fits : Each BagFits st.bags
-  pub input : WordsAt m mac_input_at (rangeWords st.input)
+  pub input : WordsAt m mac_input_at (range_words st.input)
   pub safes : WordsAt m safes_at (in_turn safe_words no_safe st.safes)
   pub bags : WordsAt m bags_at (in_turn bag_words no_bag st.bags)
-  pub attributes : WordsAt m attributes_at (in_turn attributeWords no_attribute st.attributes)
+  pub attributes : WordsAt m attributes_at (in_turn attribute_words no_attribute st.attributes)
 
 -- the rows that are counted
 unfoldable pub rows_at : List ℕ → Counts → Rows

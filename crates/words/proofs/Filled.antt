@@ -13,7 +13,7 @@ use Rattle.buffer.specs.Placed.{each}
 use Rattle.words.specs.declared.Counts.{Counts}
 use Rattle.words.specs.Layout.{safe_width, bag_width, attribute_width, elements_at, mac_input_at, mac_fields_at}
 use Rattle.words.specs.Layout.{safes_at, bags_at, attributes_at, table_words}
-use Rattle.words.specs.Stored.{rangeWords, safe_words, bag_words, attributeWords, mac_words, count_words}
+use Rattle.words.specs.Stored.{range_words, safe_words, bag_words, attribute_words, mac_words, count_words}
 use Rattle.words.specs.Stored.{rows_words, words_of}
 use Rattle.words.specs.InPlace.{input_stored, head_stored, rest_cleared, finished}
 use Rattle.words.specs.Steps.{StoredAt}
@@ -53,7 +53,7 @@ module _ (t : Table) where
 
   abbrev pub attributes_of : List ℕ
   attributes_of =
-      each (λ i. attributeWords (get_or t.attributes i no_attribute)) (min t.attribute_count attribute_rows)
+      each (λ i. attribute_words (get_or t.attributes i no_attribute)) (min t.attribute_count attribute_rows)
 
   abbrev attributes_end : ℕ
   attributes_end = attributes_at + min t.attribute_count attribute_rows * attribute_width
@@ -78,7 +78,7 @@ module _ (t : Table) where
   finished_is m h = rw (le-ltb (length m) table_words h)
 
   -- the parts make the words of the table
-  ended_all : (m : List ℕ) → ended (with_rows (sets m mac_input_at (rangeWords t.mac_input))) ≡ sets m 0 (words_of t)
+  ended_all : (m : List ℕ) → ended (with_rows (sets m mac_input_at (range_words t.mac_input))) ≡ sets m 0 (words_of t)
   unfolding words_of rows_words
   ended_all m =
       let u : length safes_of ≡ min t.safe_count safe_rows * safe_width =
@@ -91,7 +91,7 @@ module _ (t : Table) where
       length-replicate {A = ℕ} _ 0 in
       let y : length bags_rest ≡ (bag_rows - min t.bag_count bag_rows) * bag_width =
       length-replicate {A = ℕ} _ 0 in
-      all_stored m counts (rangeWords t.mac_input) (mac_words t.mac)
+      all_stored m counts (range_words t.mac_input) (mac_words t.mac)
       safes_of safes_rest bags_of bags_rest attributes_of attributes_rest
       mac_input_at mac_fields_at safes_at safes_end bags_at bags_end attributes_at attributes_end
       refl refl refl (omega (arith, u)) (omega (arith, x)) (omega (arith, v)) (omega (arith, y)) (omega (arith, w))
@@ -103,7 +103,7 @@ module _ (t : Table) where
   table_stored m a b d e f h p s₁ s₂ s₃ q =
       let s₀ = input_placed m a h t.mac_input p in
       let l : length e ≡ length m = stored_length s₃ ∙ stored_length s₂ ∙ stored_length s₁ ∙ stored_length s₀ in
-      let e_is : e ≡ with_rows (sets m mac_input_at (rangeWords t.mac_input)) =
+      let e_is : e ≡ with_rows (sets m mac_input_at (range_words t.mac_input)) =
       s₃.words ∙ ap (λ (k : List ℕ). sets k attributes_at attributes_of) (s₂.words
       ∙ ap (λ (k : List ℕ). sets k bags_at bags_of) (s₁.words
       ∙ ap (λ (k : List ℕ). sets k safes_at safes_of) s₀.words)) in

@@ -17,7 +17,7 @@ use Rattle.pkcs12.specs.declared.row.Mac.{Mac}
 use Rattle.words.specs.declared.Counts.{Counts}
 use Rattle.words.specs.Layout.{safe_width, bag_width, attribute_width, elements_at, mac_input_at, mac_fields_at}
 use Rattle.words.specs.Layout.{safes_at, bags_at, attributes_at, table_words}
-use Rattle.words.specs.Stored.{rangeWords, safe_words, bag_words, attributeWords, count_words, mac_words}
+use Rattle.words.specs.Stored.{range_words, safe_words, bag_words, attribute_words, count_words, mac_words}
 use Rattle.words.specs.Steps.{StoredAt}
 use Rattle.words.specs.InPlace.{in_table, safe_stored, bag_stored, attribute_stored, input_stored}
 use Rattle.words.specs.InPlace.{head_stored, rest_cleared, finished}
@@ -58,12 +58,12 @@ module _ (m : List ℕ) (n : ℕ) (e : List ℕ) (h : table_words ≤ length m) 
   bag_placed r k p = row_placed bag_rows n (bags_at + n * bag_width) m (bag_words r) e h k p
 
   pub attribute_placed : (r : AttributeRow) → n < attribute_rows → e ≡ attribute_stored m n r
-      → StoredAt m (attributes_at + n * attribute_width) (attributeWords r) e
+      → StoredAt m (attributes_at + n * attribute_width) (attribute_words r) e
   unfolding attribute_stored
-  attribute_placed r k p = row_placed attribute_rows n (attributes_at + n * attribute_width) m (attributeWords r) e h k p
+  attribute_placed r k p = row_placed attribute_rows n (attributes_at + n * attribute_width) m (attribute_words r) e h k p
 
 pub input_placed : (m e : List ℕ) → table_words ≤ length m → (r : Range) → e ≡ input_stored m r
-    → StoredAt m mac_input_at (rangeWords r) e
+    → StoredAt m mac_input_at (range_words r) e
 unfolding input_stored
 input_placed m e h r p = record { words = p ∙ rw (le-ltb (length m) table_words h) }
 

@@ -19,7 +19,7 @@ use Rattle.pkcs12.specs.declared.table.Table.{Table}
 use Rattle.buffer.specs.declared.Written.{Written}
 use Rattle.buffer.specs.declared.Written.TheVariants.{Length}
 use Rattle.words.specs.Layout.{safe_width, bag_width, attribute_width, table_words}
-use Rattle.words.specs.Stored.{head_words, safe_words, bag_words, attributeWords, safes_words, bags_words}
+use Rattle.words.specs.Stored.{head_words, safe_words, bag_words, attribute_words, safes_words, bags_words}
 use Rattle.words.specs.Stored.{attributes_words, words_of, stored, stored_row}
 use Rattle.words.specs.Steps.{StoredAt}
 use Rattle.words.proofs.Rows.{rows_length}
@@ -31,7 +31,7 @@ pub bags_length : (rows : List BagRow) (count : ℕ) → length (bags_words rows
 bags_length rows count = rows_length bag_words no_bag bag_width bag_rows rows count (λ x. refl)
 
 pub attributes_length : (rows : List AttributeRow) (count : ℕ) → length (attributes_words rows count) ≡ attribute_rows * attribute_width
-attributes_length rows count = rows_length attributeWords no_attribute attribute_width attribute_rows rows count (λ x. refl)
+attributes_length rows count = rows_length attribute_words no_attribute attribute_width attribute_rows rows count (λ x. refl)
 
 pub words_length : (t : Table) → length (words_of t) ≡ table_words
 unfolding words_of
@@ -96,16 +96,16 @@ module _ (t : Table) (memory : List ℕ) where
 
 -- an attribute row
 module _ (x : AttributeRow) (memory : List ℕ) where
-  is_row : stored_row x memory ≡ outcome (attributeWords x) attribute_width refl memory
+  is_row : stored_row x memory ≡ outcome (attribute_words x) attribute_width refl memory
   unfolding stored_row
   is_row = refl
 
   pub few_for_row : length memory < attribute_width → stored_row x memory ≡ refusal short_buffer memory
-  few_for_row = too_few (attributeWords x) attribute_width refl memory (stored_row x memory) is_row
+  few_for_row = too_few (attribute_words x) attribute_width refl memory (stored_row x memory) is_row
 
   pub row_answer : attribute_width ≤ length memory → (k : ℕ) → k ≡ attribute_width → Length k ≡ (stored_row x memory).answer
-  row_answer = stored_answer (attributeWords x) attribute_width refl memory (stored_row x memory) is_row
+  row_answer = stored_answer (attribute_words x) attribute_width refl memory (stored_row x memory) is_row
 
-  pub row_memory : attribute_width ≤ length memory → (e : List ℕ) → StoredAt memory 0 (attributeWords x) e
+  pub row_memory : attribute_width ≤ length memory → (e : List ℕ) → StoredAt memory 0 (attribute_words x) e
       → e ≡ (stored_row x memory).buffer
-  row_memory h = stored_memory (attributeWords x) attribute_width refl memory (stored_row x memory) is_row h
+  row_memory h = stored_memory (attribute_words x) attribute_width refl memory (stored_row x memory) is_row h

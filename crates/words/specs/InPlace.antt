@@ -11,7 +11,7 @@ use Rattle.pkcs12.specs.declared.row.AttributeRow.{AttributeRow}
 use Rattle.pkcs12.specs.declared.row.Mac.{Mac}
 use Rattle.words.specs.Layout.{safe_width, bag_width, attribute_width, elements_at, mac_input_at, mac_fields_at}
 use Rattle.words.specs.Layout.{safes_at, bags_at, attributes_at, table_words}
-use Rattle.words.specs.Stored.{rangeWords, safe_words, bag_words, attributeWords, mac_words, count_words}
+use Rattle.words.specs.Stored.{range_words, safe_words, bag_words, attribute_words, mac_words, count_words}
 use Rattle.words.specs.declared.Counts.{Counts}
 
 -- what is made of the memory of a table
@@ -28,12 +28,12 @@ bag_stored m n r = in_table m (if leb bag_rows n then m else sets m (bags_at + n
 
 unfoldable pub attribute_stored : List ℕ → ℕ → AttributeRow → List ℕ
 attribute_stored m n r =
-    in_table m (if leb attribute_rows n then m else sets m (attributes_at + n * attribute_width) (attributeWords r))
+    in_table m (if leb attribute_rows n then m else sets m (attributes_at + n * attribute_width) (attribute_words r))
 
 -- ---- what is before the rows
 
 unfoldable pub input_stored : List ℕ → Range → List ℕ
-input_stored m r = in_table m (sets m mac_input_at (rangeWords r))
+input_stored m r = in_table m (sets m mac_input_at (range_words r))
 
 -- the counts, and the MAC
 unfoldable pub head_stored : List ℕ → Counts → Mac → List ℕ

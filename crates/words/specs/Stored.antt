@@ -21,8 +21,8 @@ use Rattle.pkcs12.specs.declared.row.Mac.{Mac}
 use Rattle.pkcs12.specs.declared.table.Table.{Table}
 use Rattle.words.specs.Layout.{safe_width, bag_width, attribute_width, table_words, greatest_word, half_size}
 -- the words of these are the values that they report
-pub use Rattle.pkcs12.specs.Report.{bag_number, parts_values as partsWords, attribute_values as attributeWords}
-pub use Rattle.buffer.specs.Report.{range_values as rangeWords}
+pub use Rattle.pkcs12.specs.Report.{bag_number, parts_values as parts_words, attribute_values as attribute_words}
+pub use Rattle.buffer.specs.Report.{range_values as range_words}
 
 -- a count that doesn't fit a word is the greatest word
 abbrev pub count_word : ℕ → ℕ
@@ -43,21 +43,21 @@ set_number false = 0
 set_number true = 1
 
 abbrev pub safe_words : SafeRow → List ℕ
-safe_words r = safe_number r.kind ∷ partsWords r.parts
+safe_words r = safe_number r.kind ∷ parts_words r.parts
 
 abbrev pub bag_words : BagRow → List ℕ
-bag_words r = bag_number r.kind ∷ r.safe ∷ enclosing_number r.enclosing ∷ (partsWords r.parts ++ (set_number r.has_set ∷ []))
+bag_words r = bag_number r.kind ∷ r.safe ∷ enclosing_number r.enclosing ∷ (parts_words r.parts ++ (set_number r.has_set ∷ []))
 
 abbrev pub mac_words : Mac → List ℕ
 mac_words m =
-    partsWords m.parts ++ (rangeWords m.salt ++ (m.iterations % half_size ∷ m.iterations / half_size ∷ []))
+    parts_words m.parts ++ (range_words m.salt ++ (m.iterations % half_size ∷ m.iterations / half_size ∷ []))
 
 abbrev pub count_words : ℕ → ℕ → ℕ → ℕ → List ℕ
 count_words n i j k = count_word n ∷ count_word i ∷ count_word j ∷ count_word k ∷ []
 
 abbrev pub head_words : Table → List ℕ
 head_words t =
-    count_words t.elements t.safe_count t.bag_count t.attribute_count ++ (rangeWords t.mac_input ++ mac_words t.mac)
+    count_words t.elements t.safe_count t.bag_count t.attribute_count ++ (range_words t.mac_input ++ mac_words t.mac)
 
 -- rows of one kind: those that are counted and that there are, and zeros in place of the others
 unfoldable pub rows_words : {A : Type 0} → (A → List ℕ) → A → ℕ → ℕ → List A → ℕ → List ℕ
@@ -71,7 +71,7 @@ abbrev pub bags_words : List BagRow → ℕ → List ℕ
 bags_words rows count = rows_words bag_words no_bag bag_width bag_rows rows count
 
 abbrev pub attributes_words : List AttributeRow → ℕ → List ℕ
-attributes_words rows count = rows_words attributeWords no_attribute attribute_width attribute_rows rows count
+attributes_words rows count = rows_words attribute_words no_attribute attribute_width attribute_rows rows count
 
 unfoldable pub words_of : Table → List ℕ
 words_of t =
@@ -85,4 +85,4 @@ stored t memory = if ltb (length memory) table_words then refusal short_buffer m
 
 -- one attribute row by itself
 unfoldable pub stored_row : AttributeRow → List ℕ → Outcome
-stored_row r memory = if ltb (length memory) attribute_width then refusal short_buffer memory else success (attributeWords r) memory
+stored_row r memory = if ltb (length memory) attribute_width then refusal short_buffer memory else success (attribute_words r) memory

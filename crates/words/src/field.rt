@@ -1,7 +1,7 @@
 // Stores parts of rows, and zeros, at an offset of a memory that has room for them.
 ghost use Rattle.std.specs.Prelude.{[], ◌∷◌, ◌+◌, ◌-◌, ◌≤◌, ◌<◌, length, replicate};
 ghost use Rattle.words.specs.Layout.{range_width, parts_width, attribute_width};
-ghost use Rattle.words.specs.Stored.{rangeWords, partsWords, attributeWords};
+ghost use Rattle.words.specs.Stored.{range_words, parts_words, attribute_words};
 ghost use Rattle.words.specs.Steps.{StoredAt};
 
 use pkcs12::{AttributeRow, Parts};
@@ -16,7 +16,7 @@ pub(crate) fn word(memory: &mut [u16], at: usize, w: u16)
 
 pub(crate) fn range(memory: &mut [u16], at: usize, range: Range)
     requires { at + range_width ≤ length memory.old }
-    ensures { StoredAt memory.old at (rangeWords range) memory.new }
+    ensures { StoredAt memory.old at (range_words range) memory.new }
 {
     let second = at + 1;
     word(memory, at, range.start);
@@ -25,7 +25,7 @@ pub(crate) fn range(memory: &mut [u16], at: usize, range: Range)
 
 pub(crate) fn parts(memory: &mut [u16], at: usize, parts: Parts)
     requires { at + parts_width ≤ length memory.old }
-    ensures { StoredAt memory.old at (partsWords parts) memory.new }
+    ensures { StoredAt memory.old at (parts_words parts) memory.new }
 {
     let second = at + crate::RANGE_WIDTH;
     let third = second + crate::RANGE_WIDTH;
@@ -36,7 +36,7 @@ pub(crate) fn parts(memory: &mut [u16], at: usize, parts: Parts)
 
 pub(crate) fn attribute(memory: &mut [u16], at: usize, row: AttributeRow)
     requires { at + attribute_width ≤ length memory.old }
-    ensures { StoredAt memory.old at (attributeWords row) memory.new }
+    ensures { StoredAt memory.old at (attribute_words row) memory.new }
 {
     let second = at + 1;
     let third = second + crate::RANGE_WIDTH;

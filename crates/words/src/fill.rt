@@ -4,7 +4,7 @@ ghost use Rattle.buffer.specs.Placed.{each};
 ghost use Rattle.pkcs12.specs.Numbers.{safe_rows, bag_rows, attribute_rows};
 ghost use Rattle.pkcs12.specs.Table.{no_safe, no_bag, no_attribute};
 ghost use Rattle.words.specs.Layout.{safes_at, bags_at, attributes_at, table_words};
-ghost use Rattle.words.specs.Stored.{safe_words, bag_words, attributeWords};
+ghost use Rattle.words.specs.Stored.{safe_words, bag_words, attribute_words};
 ghost use Rattle.words.specs.Steps.{StoredAt};
 
 use crate::put;
@@ -45,7 +45,7 @@ pub(crate) fn attributes(
 )
     requires { table_words ≤ length memory.old }
     ensures { StoredAt memory.old attributes_at
-        (each (λ i. attributeWords (get_or rows i no_attribute)) (min count attribute_rows)) memory.new }
+        (each (λ i. attribute_words (get_or rows i no_attribute)) (min count attribute_rows)) memory.new }
 {
     let end = range::fewer(count, pkcs12::ATTRIBUTE_ROWS);
     let mut i: usize = 0;

@@ -1,0 +1,41 @@
+-- By the kind.
+use Rattle.pkcs12.specs.Encode.{leaf_bytes}
+use Rattle.pkcs12.specs.declared.kind.BagKind.{BagKind}
+use Rattle.pkcs12.specs.declared.kind.BagKind.TheVariants.{Key, ShroudedKey, Certificate, Crl, Secret, Nested}
+use Rattle.sizes.specs.Bodies.{typed_body, content_of}
+use Rattle.buffer.proofs.Placing.{put_nothing, put_as, sure}
+use Rattle.writer.proofs.Elements.{content_of_lem}
+use Rattle.writer.proofs.parts.content.Goals as goal
+
+pub returns-in-None : goal.returns-in-None
+unfolding content_of
+returns-in-None c = content_of_lem _ BagKind.None c.in-None.is _ _ _ _ _ _ (put_nothing _ _)
+
+pub returns-in-Nested : goal.returns-in-Nested
+unfolding content_of
+returns-in-Nested c = content_of_lem _ Nested c.in-Nested.is _ _ _ _ _ _ (put_nothing _ _)
+
+pub returns-in-Key : goal.returns-in-Key
+unfolding content_of leaf_bytes
+returns-in-Key c =
+    content_of_lem _ Key c.in-Key.is _ _ _ _ _ _ (put_as c.part.ensures (sure c.bytes.ensures))
+
+pub returns-in-ShroudedKey : goal.returns-in-ShroudedKey
+unfolding content_of leaf_bytes
+returns-in-ShroudedKey c =
+    content_of_lem _ ShroudedKey c.in-ShroudedKey.is _ _ _ _ _ _ c.sealed.ensures
+
+pub returns-in-Certificate : goal.returns-in-Certificate
+unfolding content_of leaf_bytes typed_body
+returns-in-Certificate c =
+    content_of_lem _ Certificate c.in-Certificate.is _ _ _ _ _ _ c.typed.ensures
+
+pub returns-in-Crl : goal.returns-in-Crl
+unfolding content_of leaf_bytes typed_body
+returns-in-Crl c =
+    content_of_lem _ Crl c.in-Crl.is _ _ _ _ _ _ c.typed-in-Crl.ensures
+
+pub returns-in-Secret : goal.returns-in-Secret
+unfolding content_of leaf_bytes typed_body
+returns-in-Secret c =
+    content_of_lem _ Secret c.in-Secret.is _ _ _ _ _ _ c.typed-in-Secret.ensures

@@ -1,0 +1,8 @@
+-- The headers and the identifier, one behind another.
+use Rattle.writer.proofs.Elements.{info_head_put}
+use Rattle.writer.proofs.parts.info_head.Goals as goal
+
+pub returns : goal.returns
+returns c =
+    info_head_put _ _ _ _ _ _ _ _ _ _ _ c.content_info-size.ensures c.header-body.ensures c.element-next.ensures
+    c.header.ensures

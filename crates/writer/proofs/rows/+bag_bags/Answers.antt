@@ -1,0 +1,65 @@
+-- A bag is written with the bags in it: the level falls. Each writes what its definition takes
+-- (Rowing).
+use mathlib.Core.Path.{refl}
+use Prim.Native.Nat.{◌-◌}
+use native.Mathlib.Omega.{arith}
+use borrow.Author.Rules.{rules}
+use Rattle.writer.proofs.Rowing.{leaf_form, bag_nothing, bag_of_leaf, bag_deep, nest_body, nest_put}
+use Rattle.writer.proofs.Rowing.{bags_begin, bags_done, bags_other_place, bags_no_bag}
+use Rattle.writer.proofs.Rowing.{bags_one_more}
+use Rattle.writer.proofs.rows.+bag_bags.Goals as goal
+
+pub bag-leaf-requires : goal.bag-leaf-requires
+bag-leaf-requires t c =
+    (c.requires.0, leaf_form _ c.args.row.kind c.form_of.ensures.value c.in-Leaf.is)
+
+pub bag-returns-then-level-eq0 : goal.bag-returns-then-level-eq0
+bag-returns-then-level-eq0 t c =
+    bag_deep _ _ _ _ _ _ _ c.requires.1 _ c.form_of.ensures.value c.in-Nested.is _ _
+    c.if-level-eq0.true
+
+pub bag-set-end-requires : goal.bag-set-end-requires
+bag-set-end-requires t c =
+    nest_body _ _ _ _ _ _ _ c.requires.1 _ c.form_of.ensures.value c.in-Nested.is _ c.bags-inner.ensures _
+    c.set-owned.ensures _ _ _ _ c.bags-all.ensures
+
+pub bag-returns-in-None : goal.bag-returns-in-None
+bag-returns-in-None t c =
+    bag_nothing _ _ c.args.level c.args.safe _ _ _ c.requires.1 _ c.form_of.ensures.value _ _
+    c.in-None.is
+
+pub bag-returns-in-Leaf : goal.bag-returns-in-Leaf
+bag-returns-in-Leaf t c =
+    bag_of_leaf _ _ c.args.level c.args.safe _ _ _ c.requires.1 _ c.form_of.ensures.value _ _ _ _
+    c.in-Leaf.is c.leaf.ensures
+
+pub bag-returns-else-level-eq0 : goal.bag-returns-else-level-eq0
+bag-returns-else-level-eq0 t c =
+    nest_put _ _ _ _ _ _ _ c.requires.1 _ c.form_of.ensures.value c.in-Nested.is _ c.bags-inner.ensures _
+    c.set-owned.ensures _ _ _ _ c.bags-all.ensures _ _ _ _ _ _ _ c.if-level-eq0.false c.element-content.ensures
+    c.bag_head-head.ensures c.header-body.ensures c.set-end.ensures
+
+pub bags-loop-so_far-init : goal.bags-loop-so_far-init
+bags-loop-so_far-init t c = bags_begin _ _ _ _ _ _ _ _ _ _ c.fewer-end.ensures
+
+pub bags-returns-then-not-belongs : goal.bags-returns-then-not-belongs
+bags-returns-then-not-belongs t c =
+    bags_other_place _ _ _ _ _ _ _ _ _ _ _ _ c.loop-so_far.invariant c.loop-so_far-test.true _ c.belongs.ensures
+    c.if-not-belongs.true
+
+pub bags-bag-so_far-requires : goal.bags-bag-so_far-requires
+bags-bag-so_far-requires t c =
+    (omega arith, (omega (arith, c.loop-so_far-test.true, c.loop-so_far.invariant.within), refl))
+
+pub bags-returns-then-so_far-n : goal.bags-returns-then-so_far-n
+bags-returns-then-so_far-n t c =
+    bags_no_bag _ _ _ _ _ _ _ _ _ _ _ _ c.loop-so_far.invariant c.loop-so_far-test.true _ c.belongs.ensures c.if-not-belongs.false _
+    _ c.bag-so_far.ensures c.if-so_far-n.true
+
+pub bags-loop-so_far-preserved : goal.bags-loop-so_far-preserved
+bags-loop-so_far-preserved t c =
+    bags_one_more _ _ _ _ _ _ _ _ _ _ _ _ c.loop-so_far.invariant c.loop-so_far-test.true _ c.belongs.ensures c.if-not-belongs.false
+    _ _ c.bag-so_far.ensures (search rules) c.if-so_far-n.false
+
+pub bags-returns : goal.bags-returns
+bags-returns t c = bags_done _ _ _ _ _ _ _ _ _ _ _ _ c.loop-so_far.invariant c.loop-so_far-test.false
