@@ -168,7 +168,7 @@ def bare(word):
 def without_plain_lets(body):
     """Drops each 'let a = c in', and writes c for a."""
     while True:
-        m = re.search(r"let (\w+) = (c|t|s)\s+in\s+", body)
+        m = re.search(r"let (\w+) = ((?:c|t|s)(?:\.[^\s(){},;]+)*)\s+in\s+", body)
         if not m:
             return body
         rest = re.sub(r"(?<![^\s(){};,@\"«»\[\]|])" + m[1] + r"(?=[.\s)},;])", m[2], body[m.end() :])

@@ -10,8 +10,7 @@ use Rattle.writer.proofs.write.Goals as goal
 
 pub returns-then-size-gt-FILE_BYTES-clause-value : goal.returns-then-size-gt-FILE_BYTES-clause-value
 returns-then-size-gt-FILE_BYTES-clause-value c =
-    let m = c.measure.ensures in
-    let o = refused_long _ _ _ _ m.0 _ c.in-Size.is c.if-size-gt-FILE_BYTES.true in
+    let o = refused_long _ _ _ _ c.measure.ensures.value _ c.in-Size.is c.if-size-gt-FILE_BYTES.true in
     refusal_answer _ _ _ o _ c.refused-then-size-gt-FILE_BYTES.ensures
 
 pub returns-then-size-gt-FILE_BYTES-clause-report : goal.returns-then-size-gt-FILE_BYTES-clause-report
@@ -19,8 +18,7 @@ returns-then-size-gt-FILE_BYTES-clause-report c = ap written_report (returns-the
 
 pub returns-then-size-gt-FILE_BYTES-clause-out_after : goal.returns-then-size-gt-FILE_BYTES-clause-out_after
 returns-then-size-gt-FILE_BYTES-clause-out_after c =
-    let m = c.measure.ensures in
-    let o = refused_long _ _ _ _ m.0 _ c.in-Size.is c.if-size-gt-FILE_BYTES.true in
+    let o = refused_long _ _ _ _ c.measure.ensures.value _ c.in-Size.is c.if-size-gt-FILE_BYTES.true in
     refusal_buffer _ _ _ o
 
 pub returns-then-size-gt-FILE_BYTES-clause-bytes : goal.returns-then-size-gt-FILE_BYTES-clause-bytes
@@ -28,8 +26,7 @@ returns-then-size-gt-FILE_BYTES-clause-bytes c = search all_bytes
 
 pub returns-then-out-size-clause-value : goal.returns-then-out-size-clause-value
 returns-then-out-size-clause-value c =
-    let m = c.measure.ensures in
-    let o = refused_short _ _ _ _ m.0 _ c.in-Size.is c.if-size-gt-FILE_BYTES.false c.if-out-size.true in
+    let o = refused_short _ _ _ _ c.measure.ensures.value _ c.in-Size.is c.if-size-gt-FILE_BYTES.false c.if-out-size.true in
     refusal_answer _ _ _ o _ c.refused-then-out-size.ensures
 
 pub returns-then-out-size-clause-report : goal.returns-then-out-size-clause-report
@@ -37,8 +34,7 @@ returns-then-out-size-clause-report c = ap written_report (returns-then-out-size
 
 pub returns-then-out-size-clause-out_after : goal.returns-then-out-size-clause-out_after
 returns-then-out-size-clause-out_after c =
-    let m = c.measure.ensures in
-    let o = refused_short _ _ _ _ m.0 _ c.in-Size.is c.if-size-gt-FILE_BYTES.false c.if-out-size.true in
+    let o = refused_short _ _ _ _ c.measure.ensures.value _ c.in-Size.is c.if-size-gt-FILE_BYTES.false c.if-out-size.true in
     refusal_buffer _ _ _ o
 
 pub returns-then-out-size-clause-bytes : goal.returns-then-out-size-clause-bytes
@@ -46,8 +42,7 @@ returns-then-out-size-clause-bytes c = search all_bytes
 
 pub returns-in-Unsound-clause-value : goal.returns-in-Unsound-clause-value
 returns-in-Unsound-clause-value c =
-    let m = c.measure.ensures in
-    let o = refused_unsound _ _ _ _ m.0 c.in-Unsound.is in
+    let o = refused_unsound _ _ _ _ c.measure.ensures.value c.in-Unsound.is in
     refusal_answer _ _ _ o _ c.refused.ensures
 
 pub returns-in-Unsound-clause-report : goal.returns-in-Unsound-clause-report
@@ -55,8 +50,7 @@ returns-in-Unsound-clause-report c = ap written_report (returns-in-Unsound-claus
 
 pub returns-in-Unsound-clause-out_after : goal.returns-in-Unsound-clause-out_after
 returns-in-Unsound-clause-out_after c =
-    let m = c.measure.ensures in
-    let o = refused_unsound _ _ _ _ m.0 c.in-Unsound.is in
+    let o = refused_unsound _ _ _ _ c.measure.ensures.value c.in-Unsound.is in
     refusal_buffer _ _ _ o
 
 pub returns-in-Unsound-clause-bytes : goal.returns-in-Unsound-clause-bytes
@@ -64,16 +58,14 @@ returns-in-Unsound-clause-bytes c = search all_bytes
 
 pub returns-else-out-size-clause-value : goal.returns-else-out-size-clause-value
 returns-else-out-size-clause-value c =
-    let m = c.measure.ensures in
-    written_answer _ _ _ _ m.0 _ c.in-Size.is c.if-size-gt-FILE_BYTES.false c.if-out-size.false
+    written_answer _ _ _ _ c.measure.ensures.value _ c.in-Size.is c.if-size-gt-FILE_BYTES.false c.if-out-size.false
 
 pub returns-else-out-size-clause-report : goal.returns-else-out-size-clause-report
 returns-else-out-size-clause-report c = ap written_report (returns-else-out-size-clause-value c)
 
 pub returns-else-out-size-clause-out_after : goal.returns-else-out-size-clause-out_after
 returns-else-out-size-clause-out_after c =
-    let m = c.measure.ensures in
-    written_buffer _ _ _ _ m.0 _ c.in-Size.is c.if-size-gt-FILE_BYTES.false c.if-out-size.false
+    written_buffer _ _ _ _ c.measure.ensures.value _ c.in-Size.is c.if-size-gt-FILE_BYTES.false c.if-out-size.false
     (arrays c.args.table (omega arith) (omega arith) (omega arith))
     _ _ c.file-end.ensures
 
