@@ -1,11 +1,11 @@
 -- The first row that passes a test: how a loop over rows finds it.
 use mathlib.Core.Path.{◌≡◌, refl, sym, ◌∙◌}
 use mathlib.Core.Bool.{Bool, true, false}
-use mathlib.Core.List.{List, [], ◌∷◌, map}
+use mathlib.Core.List.{List, [], ◌∷◌}
 use Prim.Native.Nat.{ℕ, zero, suc, ◌+◌, ◌≤◌, ◌<◌, min}
 use native.Mathlib.Numerals.{add-one}
 use native.Mathlib.Omega.{arith}
-use lib.ListN.{length, get_or, take, drop, drop_of_length-le, length-map, length-take}
+use lib.ListN.{length, get_or, take, drop, drop_of_length-le, length-take}
 use lib.Seq.{drop-cons, get_or-take}
 use Rattle.der.specs.Choice.{if◌then◌else◌}
 use borrow.Author.Tests.{eq-eqb, ne_eqb, lt-ltb, le-ltb}
@@ -23,11 +23,9 @@ get_d_in (x ∷ xs) zero d e h = refl
 get_d_in (x ∷ xs) (suc i) d e h = get_d_in xs i d e (omega arith)
 
 -- as many rows as are counted and there are; the array has k rows, as its type says
-pub counted_length : {A : Type 0} (B : Type 0) (f : A → B) (k n end : ℕ) (xs : List A) → length (map f xs) ≡ k
+pub counted_length : {A : Type 0} (k n end : ℕ) (xs : List A) → length xs ≡ k
     → end ≡ min n k → end ≡ length (take n xs)
-counted_length B f k n end xs e g =
-    let l : length (map f xs) ≡ length xs = length-map xs f in
-    omega (arith, length-take n xs, e, l, g)
+counted_length k n end xs e g = omega (arith, length-take n xs, e, g)
 
 pub at_most : (n k end : ℕ) → end ≡ min n k → end ≤ k
 at_most n k end e = omega (arith, e)
@@ -68,9 +66,8 @@ module _ (p : Position) (end : ℕ) where
   abbrev pub Next : ℕ → Type 0
   Next i = Looking (names p.bag) p.count p.rows p.at end i
 
-  pub next_start : (B : Type 0) (f : AttributeRow → B) (k : ℕ) → length (map f p.rows) ≡ k
-      → end ≡ min p.count k → Next p.at
-  next_start B f k e g = look_start _ _ _ _ end (counted_length B f k p.count end p.rows e g)
+  pub next_start : (k : ℕ) → length p.rows ≡ k → end ≡ min p.count k → Next p.at
+  next_start k e g = look_start _ _ _ _ end (counted_length k p.count end p.rows e g)
 
   module _ (i : ℕ) (d : AttributeRow) (g : Next i) where
     pub next_found : i < end → (get_or p.rows i d).bag ≡ p.bag → i ≡ next_row p
@@ -86,20 +83,20 @@ module _ (p : Position) (end : ℕ) where
 
 -- the row that was found, if there is one
 module _ (p : Position) (end i : ℕ) (e : i ≡ next_row p) where
-  pub moved_on : (B : Type 0) (f : AttributeRow → B) (k : ℕ) (d : AttributeRow) → length (map f p.rows) ≡ k
+  pub moved_on : (k : ℕ) (d : AttributeRow) → length p.rows ≡ k
       → end ≡ min p.count k → i < end
       → position p.rows p.count p.bag (i + 1) (Item.Attribute (get_or p.rows i d)) ≡ moved_to p (next_row p)
   unfolding moved_to
-  moved_on B f k d a b h =
-      let l = counted_length B f k p.count end p.rows a b in
+  moved_on k d a b h =
+      let l = counted_length k p.count end p.rows a b in
       let m : i < length (counted p) = omega (arith, l, h) in
       let o : i < length p.rows = omega (arith, length-take p.count p.rows, m) in
       rw (← e, lt-ltb i (length (counted p)) m, get_d_in p.rows i d no_attribute o)
 
-  pub moved_off : (B : Type 0) (f : AttributeRow → B) (k : ℕ) → length (map f p.rows) ≡ k
+  pub moved_off : (k : ℕ) → length p.rows ≡ k
       → end ≡ min p.count k → end ≤ i
       → position p.rows p.count p.bag i Done ≡ moved_to p (next_row p)
   unfolding moved_to
-  moved_off B f k a b h =
-      let l = counted_length B f k p.count end p.rows a b in
+  moved_off k a b h =
+      let l = counted_length k p.count end p.rows a b in
       rw (← e, le-ltb i (length (counted p)) (omega (arith, l, h)))

@@ -1,7 +1,6 @@
 -- What is proved of the attribute reader: `Theorems` states it. Below: rules for the code, the
 -- first row that passes a test, calls one after another, the elements of an attribute, the sets of
--- a reading and the rows that show them; lines that the walks of functions over a reader share
--- (`Reading`).
+-- a reading and the rows that show them.
 pub mod Theorems
 pub mod Rules
 pub mod First
@@ -10,4 +9,3 @@ pub mod Listed
 pub mod Sets
 pub mod Shown
 pub mod Own
-pub mod Reading

@@ -10,7 +10,7 @@ pub bounds-rows-i : goal.bounds-rows-i
 bounds-rows-i c = omega (arith, at_most _ _ _ c.fewer-end.ensures)
 
 pub returns-then-i-end : goal.returns-then-i-end
-returns-then-i-end c = search moved_on
+returns-then-i-end c = moved_on _ _ _ c.next_row-i.ensures _ _ (omega arith) c.fewer-end.ensures c.if-i-end.true
 
 pub returns : goal.returns
-returns c = search moved_off
+returns c = moved_off _ _ _ c.next_row-i.ensures _ (omega arith) c.fewer-end.ensures c.if-i-end.false

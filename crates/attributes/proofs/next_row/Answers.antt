@@ -1,19 +1,20 @@
 -- The loop looks for the next row that names the bag (First).
 use Prim.Native.Nat.{◌-◌}
+use native.Mathlib.Omega.{arith}
 use Rattle.attributes.proofs.First.{at_most, next_start, next_found, next_on, next_end}
 use Rattle.attributes.proofs.next_row.Goals as goal
 
 pub loop-i-init : goal.loop-i-init
-loop-i-init c = search (next_start, at_most)
+loop-i-init c = (next_start c.args.p _ _ (omega arith) c.fewer-end.ensures, at_most _ _ _ c.fewer-end.ensures)
 
 pub returns-then-owner-bag : goal.returns-then-owner-bag
 returns-then-owner-bag c =
-    next_found c.args.t1 _ _ _ c.loop-i.invariant.0
+    next_found c.args.p _ _ _ c.loop-i.invariant.0
     c.loop-i-test.true c.if-owner-bag.true
 
 pub loop-i-preserved : goal.loop-i-preserved
 loop-i-preserved c = (
-  next_on c.args.t1 _ _ _ c.loop-i.invariant.0
+  next_on c.args.p _ _ _ c.loop-i.invariant.0
       c.loop-i-test.true c.if-owner-bag.false,
   c.loop-i.invariant.1,
 )
