@@ -3,7 +3,7 @@
 use mathlib.Core.Path.{◌≡◌, refl, sym, ◌∙◌, ap}
 use mathlib.Core.Bool.{Bool, true, false}
 use mathlib.Core.List.{List, [], ◌∷◌}
-use Prim.Native.Nat.{ℕ, zero, suc, ◌+◌, ◌*◌, ◌≤◌, ◌<◌, ◌^◌}
+use Prim.Native.Nat.{ℕ, zero, suc, ◌+◌, ◌≤◌, ◌<◌}
 use native.Mathlib.Numerals.{add-one}
 use native.Mathlib.Omega.{arith}
 use lib.ListN.{length, get_or, drop, drop_of_length-le}
@@ -34,10 +34,6 @@ pub passed_all : (s : List ℕ) (i : ℕ) (rows : List IdentityRow) (st : Search
     → passed s i (drop i rows) st ≡ st
 unfolding passed
 passed_all s i rows st l = ap (λ (r : List IdentityRow). passed s i r st) (drop_of_length-le rows {i = i} l)
-
--- where a row of 6 bytes lies, as a number of 64 bits
-pub offset_fits : (i n : ℕ) → i < n → n * 6 < 2 ^ 63 → i * 6 < 2 ^ 64
-offset_fits i n l r = omega (arith, l, r)
 
 -- ---- two passes come to the only match
 

@@ -1,8 +1,7 @@
 -- What is proved of pairing: `Theorems` states it. Below: passes over the rows, rules for the code,
--- the only match, steps of walks.
+-- the only match.
 pub mod Numbered
 pub mod Folds
 pub mod Rules
 pub mod Only
 pub mod Theorems
-pub mod Walks

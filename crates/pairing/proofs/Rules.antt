@@ -63,12 +63,12 @@ visit_is s i r st p k t c l e f g h j = rw (h, j, e, f, g)
 
 -- the answer for a key of which the code counted the certificates
 module _ (st : Search) (u : Bool) (r : Paired) (sound : not st.sound ≡ false) (told : u ≡ is_key st.key.kind)
-    (key : not u ≡ false) where
+    (key : u ≡ true) where
   pub answered_none : st.count ≡ 0 → r ≡ refused_by no_certificate → r ≡ answered st
   unfolding answered
-  answered_none h e = rw (not-false st.sound sound, sym told ∙ not-false u key, eq-eqb st.count 0 h) e
+  answered_none h e = rw (not-false st.sound sound, sym told ∙ key, eq-eqb st.count 0 h) e
 
   pub answered_several : (st.count ≡ 0 → ⊥) → (st.count ≡ 1 → ⊥) → r ≡ refused_by more_certificates → r ≡ answered st
   unfolding answered
   answered_several h k e =
-      rw (not-false st.sound sound, sym told ∙ not-false u key, ne_eqb st.count 0 h, ne_eqb st.count 1 k) e
+      rw (not-false st.sound sound, sym told ∙ key, ne_eqb st.count 0 h, ne_eqb st.count 1 k) e

@@ -267,8 +267,7 @@ pub fn pair(rows: &[IdentityRow], bytes: &[u8], key: usize) -> Paired
     answer(second)
 }
 
-// The same of as many rows as a table has bags, by value: a caller of this is proved without a
-// walk.
+// The same of as many rows as a table has bags, by value.
 pub fn pair_all(rows: [IdentityRow; pkcs12::BAG_ROWS], bytes: &[u8], key: usize) -> Paired
     ensures value { result ≡ paired bytes.now rows key }
     ensures report { paired_report result ≡ paired_report (paired bytes.now rows key) }
