@@ -9,7 +9,7 @@ use native.Mathlib.Omega.{arith}
 use borrow.Author.Tests.{lt-ltb, le-ltb}
 use lib.ListN.{length, get_or, drop, drop_of_length-le, length-take, length-drop}
 use lib.Seq.{drop-cons, get_or-take}
-use Rattle.der.specs.Choice.{if◌then◌else◌}
+use Rattle.std.specs.Prelude.{if◌then◌else◌}
 use Rattle.der.proofs.Choices.{by_lt, never}
 use Rattle.der.specs.declared.Fault.{Fault}
 use Rattle.pkcs12.specs.Table.{no_attribute}

@@ -1,7 +1,7 @@
 -- What is due of the reader: the attributes of one bag, in the rows of a table and in its reading;
 -- the elements of an attribute by value.
 use Rattle.std.specs.Prelude.{◌≡◌, List, [], ◌∷◌, ℕ, zero, suc, ◌-◌, ◌≤◌, ◌<◌, ltb, eqb, length, get_or, take}
-use Rattle.der.specs.Choice.{if◌then◌else◌}
+use Rattle.std.specs.Prelude.{if◌then◌else◌}
 use Rattle.der.specs.Tree.{Trees, none, more, encode}
 use Rattle.pkcs12.specs.Syntax.{Attribute, Set, absent, present, Bags, bag, nest, Safe, plain, encrypted}
 use Rattle.pkcs12.specs.Syntax as syntax

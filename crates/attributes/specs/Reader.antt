@@ -2,7 +2,7 @@
 -- in turn.
 use Rattle.std.specs.Prelude.{Bool, true, false, List, [], ◌∷◌, ℕ, zero, suc, ◌+◌, ltb, eqb, length, get_or, take, drop, replicate}
 use Rattle.std.specs.Borrow.{Bor}
-use Rattle.der.specs.Choice.{if◌then◌else◌}
+use Rattle.std.specs.Prelude.{if◌then◌else◌}
 use Rattle.der.specs.Element.{fault}
 use Rattle.pkcs12.specs.Numbers.{attribute_rows, no_row}
 use Rattle.buffer.specs.Numbers.{not_sound}

@@ -1,6 +1,6 @@
 -- What a call that writes into a caller's buffer leaves: its answer, and the buffer afterwards.
 use Rattle.std.specs.Prelude.{List, ◌++◌, ℕ, ltb, length, drop}
-use Rattle.der.specs.Choice.{if◌then◌else◌}
+use Rattle.std.specs.Prelude.{if◌then◌else◌}
 use Rattle.der.specs.Element.{fault}
 use Rattle.buffer.specs.Numbers.{short_buffer}
 use Rattle.buffer.specs.declared.Written.{Written}

@@ -1,6 +1,6 @@
 -- The cells of an upload, the upload that cells hold, and what each call makes of them.
 use Rattle.std.specs.Prelude.{List, ◌∷◌, ◌++◌, ℕ, ◌+◌, ◌*◌, ◌/◌, ◌%◌, ltb, eqb, length, get_or, take, drop}
-use Rattle.der.specs.Choice.{if◌then◌else◌}
+use Rattle.std.specs.Prelude.{if◌then◌else◌}
 use Rattle.der.specs.Element.{fault}
 use Rattle.buffer.specs.Numbers.{short_buffer, not_sound}
 use Rattle.header.specs.declared.Due.{Due}

@@ -8,7 +8,7 @@ use native.Mathlib.Omega.{arith}
 use lib.Dec.{leb, ltb, eqb}
 use lib.ListN.{length, get_or}
 use borrow.Author.Tests.{lt-ltb, le-ltb, le-leb, lt-leb, eq-eqb, ne_eqb}
-use Rattle.der.specs.Choice.{if◌then◌else◌}
+use Rattle.std.specs.Prelude.{if◌then◌else◌}
 use Rattle.der.specs.Numbers.{missing, tag_form, length_form, overrun}
 use Rattle.der.specs.Element.{Extent, Body, cursor, fault, no_byte_left, within, one_octet, two_octets}
 use Rattle.der.specs.Element.{extent_at, element_at, on_extent}

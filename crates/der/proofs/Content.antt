@@ -14,7 +14,7 @@ use lib.ListN.{length, get_or, take, length-take, drop_of_length-le}
 use lib.Seq.{slice, slice-cons, length-slice, take-length, get_or-take, get_or-drop}
 use borrow.Author.Tests.{ltb-true, ltb-false, leb-true, leb-false, eqb-true, eqb-false}
 use borrow.Author.Tests.{lt-ltb, le-ltb, le-leb, lt-leb, eq-eqb, ne_eqb}
-use Rattle.der.specs.Choice.{if◌then◌else◌}
+use Rattle.std.specs.Prelude.{if◌then◌else◌}
 use Rattle.der.proofs.Choices.{never}
 use Rattle.der.specs.Content.{breaks, parts, identifier_body, bytes_of, integer_body}
 use Rattle.der.specs.Content.{and_digit, integer_value, IntegerAt}

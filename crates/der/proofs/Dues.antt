@@ -10,7 +10,7 @@ use mir.Val.{Fits}
 use lib.Dec.{ltb, eqb}
 use lib.ListN.{length, get_or}
 use borrow.Author.Tests.{lt-ltb, le-ltb, eq-eqb, ne_eqb}
-use Rattle.der.specs.Choice.{if◌then◌else◌}
+use Rattle.std.specs.Prelude.{if◌then◌else◌}
 use Rattle.der.specs.Numbers.{missing, other_tag, content, identifier_tag, integer_tag}
 use Rattle.der.specs.Element.{cursor, fault, no_byte_left, extent_at, element_at, expect_at, on_element}
 use Rattle.der.specs.Content.{identifier_at, integer_body, integer_value, integer_at, IntegerAt}

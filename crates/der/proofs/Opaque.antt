@@ -8,7 +8,7 @@ use lib.Dec.{eqb, eqb-suc-zero}
 use lib.ListN.{length}
 use mir.Val.{Fits}
 use mir.Syntax.{w64}
-use Rattle.der.specs.Choice.{if◌then◌else◌}
+use Rattle.std.specs.Prelude.{if◌then◌else◌}
 use Rattle.der.specs.Element.{cursor, fault, element_at, on_element}
 use Rattle.der.specs.Numbers.{too_many}
 use Rattle.der.specs.Opaque.{on_checked, counted, go_on, at_end, run, opaque_at, elements_at}

@@ -9,7 +9,7 @@ use lib.ListN.{length, get_or}
 use mir.Val.{Fits}
 use mir.Syntax.{w64}
 use borrow.Author.Tests.{eq-eqb, ne_eqb}
-use Rattle.der.specs.Choice.{if◌then◌else◌}
+use Rattle.std.specs.Prelude.{if◌then◌else◌}
 use Rattle.der.specs.Numbers.{too_many}
 use Rattle.der.specs.Element.{cursor, fault, no_byte_left, element_at}
 use Rattle.der.specs.Opaque.{on_checked, opaque_at, elements_at}

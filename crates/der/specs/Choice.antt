@@ -1,10 +1,5 @@
--- A choice between two values by a test.
-use Rattle.std.specs.Prelude.{Bool, true, false}
-
-infixr 2 if◌then◌else◌
-abbrev pub if◌then◌else◌ : {A : Type 0} → Bool → A → A → A
-if true then a else b = a
-if false then a else b = b
+-- Two tests. A choice between two values by a test is the library's `if`.
+use Rattle.std.specs.Prelude.{Bool, false, if◌then◌else◌}
 
 -- both of two tests
 abbrev pub both : Bool → Bool → Bool

@@ -1,7 +1,7 @@
 -- The bodies of OBJECT IDENTIFIER (Rule 2.8) and INTEGER (Rule 2.9).
 use Rattle.std.specs.Prelude.{Bool, true, false, List, [], ◌∷◌, ℕ, ◌+◌, ◌*◌, ◌≤◌, ◌<◌, leb, ltb, eqb, length, get_or}
 use Rattle.std.proofs.Math.Seq.{slice}
-use Rattle.der.specs.Choice.{if◌then◌else◌}
+use Rattle.std.specs.Prelude.{if◌then◌else◌}
 use Rattle.der.specs.Numbers.{content, identifier_tag, integer_tag}
 use Rattle.der.specs.Element.{fault, expect_at, on_element}
 use Rattle.der.specs.declared.Fault.{Fault}

@@ -1,6 +1,6 @@
 -- One element: a tag byte, a length and a body (Rule 2.1), read at a cursor of a list of bytes.
 use Rattle.std.specs.Prelude.{Bool, true, List, ℕ, ◌+◌, ◌*◌, ◌%◌, leb, ltb, eqb, length, get_or}
-use Rattle.der.specs.Choice.{if◌then◌else◌}
+use Rattle.std.specs.Prelude.{if◌then◌else◌}
 use Rattle.der.specs.Numbers.{missing, overrun, tag_form, length_form, other_tag, left_over, no_tag}
 use Rattle.der.specs.declared.Fault.{Fault}
 use Rattle.der.specs.declared.Cursor.{Cursor}

@@ -1,6 +1,6 @@
 -- What X.690 writes: the length octets, an element, the contents of an INTEGER. All of any size.
 use Rattle.std.specs.Prelude.{◌≡◌, List, [], ◌∷◌, ◌++◌, ℕ, zero, suc, ◌+◌, ◌-◌, ◌*◌, ◌/◌, ◌%◌, ◌≤◌, ◌<◌, ltb, length, get_or}
-use Rattle.der.specs.Choice.{if◌then◌else◌}
+use Rattle.std.specs.Prelude.{if◌then◌else◌}
 use Rattle.der.specs.Numbers.{integer_tag, octet_string_tag, identifier_tag, sequence_tag}
 
 -- the digits of n to the base 256, most significant first, with no leading zero but for n = 0; the

@@ -1,6 +1,6 @@
 -- An opaque element, checked in all its levels (Rules 2.6, 2.7).
 use Rattle.std.specs.Prelude.{List, ℕ, zero, suc, ◌+◌, ◌-◌, ◌/◌, ◌%◌, eqb}
-use Rattle.der.specs.Choice.{if◌then◌else◌}
+use Rattle.std.specs.Prelude.{if◌then◌else◌}
 use Rattle.der.specs.Numbers.{too_many}
 use Rattle.der.specs.Element.{cursor, fault, element_at, on_element}
 use Rattle.der.specs.Many.{many}

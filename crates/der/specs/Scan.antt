@@ -1,7 +1,7 @@
 -- What the code passes on between its own functions: an element, or a run of them, as one number,
 -- and what is read back from that number. What is due is one number too.
 use Rattle.std.specs.Prelude.{◌≡◌, Bool, true, List, ℕ, ◌+◌, ◌-◌, ◌%◌, leb, ltb, eqb, get_or}
-use Rattle.der.specs.Choice.{if◌then◌else◌}
+use Rattle.std.specs.Prelude.{if◌then◌else◌}
 use Rattle.der.specs.Numbers.{missing, overrun, content, identifier_tag}
 use Rattle.der.specs.Element.{fault, Extent, Body, expect_at, on_element, no_byte_left}
 use Rattle.der.specs.Opaque.{elements_at}

@@ -1,6 +1,6 @@
 -- The elements of one attribute, one behind another in the body of its SET (Rule 3.20).
 use Rattle.std.specs.Prelude.{List, [], ◌∷◌, ℕ, zero, suc, ◌-◌, ltb, eqb, length, get_or}
-use Rattle.der.specs.Choice.{if◌then◌else◌}
+use Rattle.std.specs.Prelude.{if◌then◌else◌}
 use Rattle.der.specs.Element.{cursor, element_at, on_element}
 use Rattle.range.specs.Range.{range, no_range}
 use Rattle.range.specs.declared.Range.{Range}

@@ -1,6 +1,6 @@
 -- Sizes of what is written.
 use Rattle.std.specs.Prelude.{ℕ, ◌+◌, leb, length}
-use Rattle.der.specs.Choice.{if◌then◌else◌}
+use Rattle.std.specs.Prelude.{if◌then◌else◌}
 use Rattle.der.specs.Octets.{length_octets}
 use Rattle.buffer.specs.Numbers.{file_bytes}
 

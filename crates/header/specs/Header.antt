@@ -2,7 +2,7 @@
 -- the tests of `element_at` of `der` (Rules 2.2 to 2.4), each made with the first byte that decides
 -- it.
 use Rattle.std.specs.Prelude.{Bool, ℕ, ◌+◌, ◌*◌, ◌%◌, leb, ltb, eqb}
-use Rattle.der.specs.Choice.{if◌then◌else◌}
+use Rattle.std.specs.Prelude.{if◌then◌else◌}
 use Rattle.der.specs.Numbers.{tag_form, length_form, too_many, overrun}
 use Rattle.header.specs.declared.Due.{Due}
 use Rattle.header.specs.declared.Due.TheVariants.{Tag, Length, One, First, Second, Body, Nothing}

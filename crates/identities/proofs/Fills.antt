@@ -12,7 +12,7 @@ use borrow.Author.Tests.{leb-true, ltb-false}
 use lib.Dec.{leb, ltb}
 use lib.ListN.{length, get_or, set, drop, length-append, length-drop, get_or-append}
 use lib.Seq.{drop-cons, get_or_at, set-append_seam}
-use Rattle.der.specs.Choice.{if◌then◌else◌}
+use Rattle.std.specs.Prelude.{if◌then◌else◌}
 use Rattle.der.proofs.Choices.{never, by_test, either}
 use Rattle.pkcs12.specs.Numbers.{safe_rows, bag_rows}
 use Rattle.buffer.specs.Numbers.{not_sound, short_buffer}

@@ -12,7 +12,8 @@ use borrow.Author.Tests.{lt-ltb, le-ltb, le-leb}
 use lib.Dec.{ltb, leb}
 use lib.ListN.{length, get_or, length-take}
 use lib.Seq.{get_or-take}
-use Rattle.der.specs.Choice.{if◌then◌else◌, both}
+use Rattle.std.specs.Prelude.{if◌then◌else◌}
+use Rattle.der.specs.Choice.{both}
 use Rattle.der.specs.Numbers.{octet_string_tag, length_bound}
 use Rattle.der.specs.Octets.{tlv}
 use Rattle.der.specs.Element.{cursor, expect_at, on_element}

@@ -79,17 +79,16 @@ module _ (s : List ℕ) (bag : ℕ) (r : AttributeRow) where
 
 -- Past the end of an array is what is taken for a row that isn't there; the array has k rows, as
 -- its type says.
-pub past_array : {A : Type 0} (B : Type 0) (f : A → B) (k i : ℕ) (xs : List A) (d : A) → length (map f xs) ≡ k → k ≤ i → d ≡ get_or xs i d
-past_array B f k i xs d e h = let l : length (map f xs) ≡ length xs = length-map xs f in sym (get_or-eq_default xs d {n = i} (omega (arith, e, l, h)))
+pub past_array : {A : Type 0} (k i : ℕ) (xs : List A) (d : A) → length xs ≡ k → k ≤ i → d ≡ get_or xs i d
+past_array k i xs d e h = sym (get_or-eq_default xs d {n = i} (omega (arith, e, h)))
 
 -- the loop over a table's attribute rows, for the first localKeyID of a bag
 module _ (t : Table) (s : List ℕ) (bag end : ℕ) where
   abbrev pub Keys : ℕ → Type 0
   Keys i = Looking (is_local_key s bag) t.attribute_count t.attributes 0 end i
 
-  pub keys_start : (B : Type 0) (f : AttributeRow → B) (k : ℕ) → length (map f t.attributes) ≡ k
-      → end ≡ min t.attribute_count k → Keys 0
-  keys_start B f k e g = look_start _ _ _ _ end (counted_length B f k t.attribute_count end t.attributes e g)
+  pub keys_start : (k : ℕ) → length t.attributes ≡ k → end ≡ min t.attribute_count k → Keys 0
+  keys_start k e g = look_start _ _ _ _ end (counted_length k t.attribute_count end t.attributes e g)
 
   module _ (i : ℕ) (g : Keys i) where
     module _ (d : AttributeRow) (u : Bool) (h : i < end) (e : u ≡ is_local_key s bag (get_or t.attributes i d)) where
@@ -105,10 +104,10 @@ module _ (t : Table) (s : List ℕ) (bag end : ℕ) where
     keys_end h = look_end _ _ _ _ end i g h
 
 -- the id of a bag: in its first localKeyID, if it has one
-module _ (t : Table) (s : List ℕ) (bag end i : ℕ) (e : i ≡ key_row t s bag) (B : Type 0) (f : AttributeRow → B) (k : ℕ)
-    (a : length (map f t.attributes) ≡ k) (g : end ≡ min t.attribute_count k) where
+module _ (t : Table) (s : List ℕ) (bag end i : ℕ) (e : i ≡ key_row t s bag) (k : ℕ)
+    (a : length t.attributes ≡ k) (g : end ≡ min t.attribute_count k) where
   counted : end ≡ length (attributes_of t)
-  counted = counted_length B f k t.attribute_count end t.attributes a g
+  counted = counted_length k t.attribute_count end t.attributes a g
 
   pub id_found : (d : AttributeRow) (r : Id) → i < end
       → r ≡ id_in s (get_or t.attributes i d).values → r ≡ id_of t s bag

@@ -1,7 +1,7 @@
 -- Storing the identity rows of a table in a caller's rows. No rule is about this; 11, 10 and what a
 -- refusal leaves are those of the writer (Rules 6.8 to 6.10).
 use Rattle.std.specs.Prelude.{List, ◌++◌, ℕ, ltb, length, drop, replicate}
-use Rattle.der.specs.Choice.{if◌then◌else◌}
+use Rattle.std.specs.Prelude.{if◌then◌else◌}
 use Rattle.der.specs.Element.{fault}
 use Rattle.pkcs12.specs.Numbers.{bag_rows}
 use Rattle.buffer.specs.Numbers.{short_buffer, not_sound}

@@ -1,6 +1,7 @@
 -- The identity rows of a table's bags (Rules 7.3, 7.4).
 use Rattle.std.specs.Prelude.{Bool, true, false, List, [], ◌∷◌, ◌++◌, ℕ, zero, suc, min, leb, ltb, length, get_or}
-use Rattle.der.specs.Choice.{if◌then◌else◌, both}
+use Rattle.std.specs.Prelude.{if◌then◌else◌}
+use Rattle.der.specs.Choice.{both}
 use Rattle.der.specs.Numbers.{octet_string_tag}
 use Rattle.der.specs.Element.{cursor, expect_at, on_element}
 use Rattle.der.specs.declared.Fault.{Fault}

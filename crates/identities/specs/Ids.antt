@@ -2,7 +2,7 @@
 use Rattle.std.specs.Prelude.{true, false, ◌↔◌, ◌⊎◌, ◌≡◌, List, [], ◌∷◌, ℕ, get_or}
 use Rattle.std.proofs.Math.Option.{Option, some}
 use Rattle.std.proofs.Math.Option as option
-use Rattle.der.specs.Choice.{if◌then◌else◌}
+use Rattle.std.specs.Prelude.{if◌then◌else◌}
 use Rattle.der.specs.Numbers.{octet_string_tag}
 use Rattle.der.specs.Octets.{tlv}
 use Rattle.range.specs.Bytes.{same_bytes}

@@ -1,6 +1,6 @@
 -- What each case of an answer reports (Rule 9.2). `Report` is that of `der`.
 use Rattle.std.specs.Prelude.{◌∷◌}
-use Rattle.der.specs.Choice.{if◌then◌else◌}
+use Rattle.std.specs.Prelude.{if◌then◌else◌}
 use Rattle.der.specs.Report.{Report, passing, refusing}
 use Rattle.pkcs12.specs.Report.{bag_number}
 use Rattle.buffer.specs.Report.{range_values}

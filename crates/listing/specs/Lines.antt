@@ -1,7 +1,7 @@
 -- The listing of a file: three lines and one for each row, or the line of a refusal. The lines in
 -- quotes are those of Rules 8.2 and 8.3, and for rows those of docs/USING.md.
 use Rattle.std.specs.Prelude.{Bool, true, false, List, [], ◌++◌, ℕ, zero, suc, ◌+◌, eqb, get_or}
-use Rattle.der.specs.Choice.{if◌then◌else◌}
+use Rattle.std.specs.Prelude.{if◌then◌else◌}
 use Rattle.pkcs12.specs.Table.{no_safe, no_bag, no_attribute, safes_counted, bags_counted, attributes_counted}
 use Rattle.buffer.specs.Placed.{each}
 use Rattle.pkcs12.specs.declared.answers.Answer.{Answer}

@@ -1,6 +1,6 @@
 // The lines of a table's rows. A count past its array counts as the array's rows.
 ghost use Rattle.std.specs.Prelude.{◌≡◌, eqb};
-ghost use Rattle.der.specs.Choice.{if◌then◌else◌};
+ghost use Rattle.std.specs.Prelude.{if◌then◌else◌};
 ghost use Rattle.buffer.specs.Placed.{each};
 ghost use Rattle.pkcs12.specs.Table.{safes_counted, bags_counted, attributes_counted};
 ghost use Rattle.listing.specs.Lines.{own, safe_row_line, bag_row_line, attribute_row_line};

@@ -1,6 +1,6 @@
 -- The table that is loaded from words; words that aren't there count as 0.
 use Rattle.std.specs.Prelude.{Bool, true, false, List, [], ◌∷◌, ℕ, ◌+◌, ◌-◌, ◌*◌, min, eqb, leb, get_or}
-use Rattle.der.specs.Choice.{if◌then◌else◌}
+use Rattle.std.specs.Prelude.{if◌then◌else◌}
 use Rattle.pkcs12.specs.Numbers.{safe_rows, bag_rows, attribute_rows}
 use Rattle.range.specs.Range.{range}
 use Rattle.pkcs12.specs.Table.{parts, safe_row, no_safe, bag_row, no_bag, attribute_row, no_attribute, mac_fields, padded}

@@ -1,7 +1,7 @@
 -- What the calls for C return and store, in terms of the definitions of the crates below. A call's
 -- number is 0, that of the refusal, or `done`.
 use Rattle.std.specs.Prelude.{◌≡◌, List, ℕ, ltb, length, get_or}
-use Rattle.der.specs.Choice.{if◌then◌else◌}
+use Rattle.std.specs.Prelude.{if◌then◌else◌}
 use Rattle.buffer.specs.Numbers.{not_sound}
 use Rattle.pkcs12.specs.Report.{answer_report}
 use Rattle.buffer.specs.Report.{written_report}

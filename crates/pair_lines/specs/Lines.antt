@@ -1,7 +1,7 @@
 -- The pairs of a file as text: a line for each key bag, or the line of a refusal. docs/USING.md,
 -- section 'The pairs', has the lines; those in quotes are from there.
 use Rattle.std.specs.Prelude.{List, [], ◌++◌, ℕ, get_or}
-use Rattle.der.specs.Choice.{if◌then◌else◌}
+use Rattle.std.specs.Prelude.{if◌then◌else◌}
 use Rattle.pkcs12.specs.Table.{no_bag}
 use Rattle.buffer.specs.Placed.{each}
 use Rattle.pkcs12.specs.declared.answers.Answer.{Answer}

@@ -9,7 +9,8 @@ use native.Mathlib.Omega.{arith}
 use lib.ListN.{length, get_or, drop, drop_of_length-le}
 use lib.Seq.{drop-cons}
 use borrow.Author.Tests.{eq-eqb, ne_eqb}
-use Rattle.der.specs.Choice.{if◌then◌else◌, both}
+use Rattle.std.specs.Prelude.{if◌then◌else◌}
+use Rattle.der.specs.Choice.{both}
 use Rattle.buffer.specs.Numbers.{not_sound}
 use Rattle.pkcs12.specs.Numbers.{no_row}
 use Rattle.pkcs12.specs.Checks.{all}

@@ -5,7 +5,8 @@ use mathlib.Core.Bool.{Bool, true, false, not}
 use mathlib.Core.List.{List}
 use Prim.Native.Nat.{ℕ}
 use borrow.Author.Tests.{not-true, not-false, eq-eqb, ne_eqb}
-use Rattle.der.specs.Choice.{if◌then◌else◌, both}
+use Rattle.std.specs.Prelude.{if◌then◌else◌}
+use Rattle.der.specs.Choice.{both}
 use Rattle.der.proofs.Choices.{told_true, told_false, denied, granted, at_lt, at_not_lt, at_le, at_not_le, at_eq}
 use Rattle.der.proofs.Choices.{at_ne, same}
 use Rattle.pairing.specs.Numbers.{no_certificate, more_certificates}

@@ -1,6 +1,7 @@
 -- Pairing of keys with certificates over a list of identity rows (Rules 7.3 to 7.8).
 use Rattle.std.specs.Prelude.{Bool, true, false, List, [], ◌∷◌, ℕ, ◌+◌, get_or}
-use Rattle.der.specs.Choice.{if◌then◌else◌, both}
+use Rattle.std.specs.Prelude.{if◌then◌else◌}
+use Rattle.der.specs.Choice.{both}
 use Rattle.der.specs.Element.{fault}
 use Rattle.buffer.specs.Numbers.{not_sound}
 use Rattle.pkcs12.specs.Numbers.{no_row}

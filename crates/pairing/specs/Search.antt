@@ -1,7 +1,8 @@
 -- What the private functions of pairing compute. Nobody has to believe these: `pair` promises
 -- `paired`, and they are proved to come to that.
 use Rattle.std.specs.Prelude.{Bool, true, List, [], ◌∷◌, ℕ, ◌+◌, eqb}
-use Rattle.der.specs.Choice.{if◌then◌else◌, both}
+use Rattle.std.specs.Prelude.{if◌then◌else◌}
+use Rattle.der.specs.Choice.{both}
 use Rattle.buffer.specs.Numbers.{not_sound}
 use Rattle.pkcs12.specs.Numbers.{no_row}
 use Rattle.pairing.specs.Numbers.{no_certificate, more_certificates}

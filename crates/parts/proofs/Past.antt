@@ -6,7 +6,7 @@ use mathlib.Core.List.{List}
 use Prim.Native.Nat.{ℕ, ◌+◌, ◌≤◌, ◌<◌}
 use native.Mathlib.Omega.{arith}
 use lib.ListN.{length}
-use Rattle.der.specs.Choice.{if◌then◌else◌}
+use Rattle.std.specs.Prelude.{if◌then◌else◌}
 use Rattle.der.specs.Numbers.{octet_string_tag, opaque_levels, integer_tag, sequence_tag, context_tag}
 use Rattle.der.specs.Element.{element_at, expect_at, on_element}
 use Rattle.der.specs.Content.{bytes_of, identifier_at, integer_body, integer_at, on_integer}

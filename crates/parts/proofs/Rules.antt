@@ -10,7 +10,7 @@ use lib.ListN.{length}
 use borrow.Author.Tests.{leb-true, lt-ltb, le-ltb}
 use mir.Val.{Fits}
 use mir.Syntax.{w64}
-use Rattle.der.specs.Choice.{if◌then◌else◌}
+use Rattle.std.specs.Prelude.{if◌then◌else◌}
 use Rattle.der.specs.Element.{fault, expect_at, element_at, on_element}
 use Rattle.der.specs.Content.{bytes_of, identifier_at}
 use Rattle.der.specs.Numbers.{octet_string_tag, opaque_levels, sequence_tag, context_tag}

@@ -1,6 +1,6 @@
 -- What is read at a cursor over any bytes: of bytes that are longer than a file nothing is read.
 use Rattle.std.specs.Prelude.{List, ℕ, ltb, length}
-use Rattle.der.specs.Choice.{if◌then◌else◌}
+use Rattle.std.specs.Prelude.{if◌then◌else◌}
 use Rattle.der.specs.Element.{fault}
 use Rattle.buffer.specs.Numbers.{file_bytes, too_long}
 use Rattle.pkcs12.specs.declared.answers.PartsAt.{PartsAt}

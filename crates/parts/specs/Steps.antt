@@ -2,7 +2,7 @@
 -- believed: contracts of public functions name the definitions of `pkcs12`, and each piece is
 -- proved to be a part of one.
 use Rattle.std.specs.Prelude.{Bool, List, ℕ, ◌+◌, leb, ltb}
-use Rattle.der.specs.Choice.{if◌then◌else◌}
+use Rattle.std.specs.Prelude.{if◌then◌else◌}
 use Rattle.der.specs.Numbers.{opaque_levels}
 use Rattle.der.specs.Element.{fault, finish_at, expect_at, on_element}
 use Rattle.der.specs.Opaque.{on_checked, opaque_at}

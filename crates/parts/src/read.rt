@@ -1,7 +1,7 @@
 // Parts of a file that make no row: algorithms, ciphertexts, and the values of bags. Each function
 // returns the ranges of what is at the cursor with the number of its elements, or the first fault.
 ghost use Rattle.std.specs.Prelude.{false, ◌≡◌, ◌≤◌, length};
-ghost use Rattle.der.specs.Choice.{if◌then◌else◌};
+ghost use Rattle.std.specs.Prelude.{if◌then◌else◌};
 ghost use Rattle.der.specs.Content.{bytes_of};
 ghost use Rattle.buffer.specs.Numbers.{file_bytes};
 ghost use Rattle.range.specs.Bytes.{same_bytes};

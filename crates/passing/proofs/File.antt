@@ -6,7 +6,7 @@ use mathlib.Core.Path.{refl}
 use mathlib.Core.List.{List, [], ◌∷◌}
 use Prim.Native.Nat.{ℕ, suc}
 use lib.Dec.{eqb}
-use Rattle.der.specs.Choice.{if◌then◌else◌}
+use Rattle.std.specs.Prelude.{if◌then◌else◌}
 use Rattle.der.specs.Numbers.{integer_tag, octet_string_tag, identifier_tag, sequence_tag, context_tag}
 use Rattle.der.specs.Octets.{integer_octets, integer, octet_string, identifier, sequence}
 use Rattle.pkcs12.specs.Numbers.{pfx_version, default_iterations}

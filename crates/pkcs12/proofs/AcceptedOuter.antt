@@ -7,7 +7,7 @@ use native.Mathlib.Omega.{arith}
 use lib.Dec.{eqb}
 use borrow.Author.Tests.{ne_eqb}
 use lib.ListN.{length}
-use Rattle.der.specs.Choice.{if◌then◌else◌}
+use Rattle.std.specs.Prelude.{if◌then◌else◌}
 use Rattle.der.specs.Numbers.{octet_string_tag, identifier_tag, integer_tag, integer_bound, sequence_tag}
 use Rattle.der.specs.Element.{tag_at}
 use Rattle.der.specs.Content.{bytes_of}

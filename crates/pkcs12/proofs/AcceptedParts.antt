@@ -5,7 +5,7 @@ use mathlib.Core.Path.{◌≡◌, refl, sym}
 use mathlib.Core.List.{List, [], ◌++◌}
 use Prim.Native.Nat.{ℕ, ◌+◌, ◌≤◌}
 use lib.ListN.{get_or}
-use Rattle.der.specs.Choice.{if◌then◌else◌}
+use Rattle.std.specs.Prelude.{if◌then◌else◌}
 use Rattle.der.specs.Numbers.{octet_string_tag, opaque_levels, sequence_tag, context_tag}
 use Rattle.der.specs.Content.{bytes_of}
 use Rattle.der.specs.Octets.{tlv, identifier, octet_string}

@@ -11,7 +11,8 @@ use native.Mathlib.Omega.{arith}
 use lib.Dec.{leb, ltb, eqb}
 use lib.ListN.{length, get_or, take, length-append, length-take, length-map}
 use borrow.Author.Tests.{ltb-true, leb-true, eqb-true, lt-ltb, le-leb, eq-eqb, ne_eqb}
-use Rattle.der.specs.Choice.{if◌then◌else◌, both}
+use Rattle.std.specs.Prelude.{if◌then◌else◌}
+use Rattle.der.specs.Choice.{both}
 use Rattle.der.specs.Numbers.{opaque_levels}
 use Rattle.der.specs.Element.{cursor, whole_of}
 use Rattle.der.specs.Octets.{IdentifierRule}

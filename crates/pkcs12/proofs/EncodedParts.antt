@@ -8,7 +8,7 @@ use native.Mathlib.Omega.{arith}
 use lib.Dec.{eqb}
 use lib.ListN.{length, get_or}
 use borrow.Author.Tests.{lt-ltb, le-ltb, lt-leb}
-use Rattle.der.specs.Choice.{if◌then◌else◌}
+use Rattle.std.specs.Prelude.{if◌then◌else◌}
 use Rattle.der.specs.Numbers.{octet_string_tag, identifier_tag, integer_tag, integer_bound, opaque_levels, sequence_tag}
 use Rattle.der.specs.Numbers.{context_tag}
 use Rattle.der.specs.Element.{cursor, tag_at, finish_at, expect_at}

@@ -5,7 +5,7 @@ use Prim.Native.Nat.{ℕ, ◌≤◌}
 use native.Mathlib.Omega.{arith}
 use lib.ListN.{length, get_or, length-append}
 use lib.Dec.{eqb}
-use Rattle.der.specs.Choice.{if◌then◌else◌}
+use Rattle.std.specs.Prelude.{if◌then◌else◌}
 use Rattle.der.specs.Octets.{tlv, number, integer, identifier, sequence}
 use Rattle.der.proofs.Choices.{by_eq}
 use Rattle.der.proofs.Octets.{tlv_unique, tlv_long, integer_number}

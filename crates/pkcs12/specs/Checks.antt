@@ -2,7 +2,8 @@
 -- requires that order, they are proved to be `Sound` (see Sound.antt, and `file_iff_sound` among
 -- the theorems).
 use Rattle.std.specs.Prelude.{Bool, true, false, List, [], ◌∷◌, ℕ, leb, ltb, eqb, length, get_or}
-use Rattle.der.specs.Choice.{if◌then◌else◌, both}
+use Rattle.std.specs.Prelude.{if◌then◌else◌}
+use Rattle.der.specs.Choice.{both}
 use Rattle.der.specs.Numbers.{octet_string_tag, integer_bound, opaque_levels, sequence_tag}
 use Rattle.der.specs.Element.{whole_of}
 use Rattle.der.specs.Content.{identifier_body}

@@ -1,7 +1,7 @@
 -- The number of elements of a reading (Rule 4.5): those that section 3 of the rules names, opaque
 -- ones with every element checked in them, and those in the OCTET STRINGs of type data.
 use Rattle.std.specs.Prelude.{List, [], ◌∷◌, ℕ, ◌+◌, eqb}
-use Rattle.der.specs.Choice.{if◌then◌else◌}
+use Rattle.std.specs.Prelude.{if◌then◌else◌}
 use Rattle.der.specs.Numbers.{opaque_levels}
 use Rattle.der.specs.Element.{whole_of}
 use Rattle.der.specs.Opaque.{on_checked, elements_at}

@@ -1,7 +1,7 @@
 -- What a reading is written as (Rules 3.3 to 3.23; RFC 7292, section 4; X.690). For values of any
 -- size.
 use Rattle.std.specs.Prelude.{List, [], ◌∷◌, ◌++◌, ℕ, eqb}
-use Rattle.der.specs.Choice.{if◌then◌else◌}
+use Rattle.std.specs.Prelude.{if◌then◌else◌}
 use Rattle.der.specs.Numbers.{set_tag, context_tag}
 use Rattle.der.specs.Octets.{tlv, integer, octet_string, identifier, sequence}
 use Rattle.pkcs12.specs.Numbers.{ciphertext_tag, pfx_version, encrypted_version, default_iterations}

@@ -2,7 +2,7 @@
 use Rattle.std.specs.Prelude.{Bool, true, false, List, [], ◌∷◌, ◌++◌, ℕ, zero, suc, ◌+◌, eqb, length}
 use Rattle.std.proofs.Math.Option.{Option, some}
 use Rattle.std.proofs.Math.Option as option
-use Rattle.der.specs.Choice.{if◌then◌else◌}
+use Rattle.std.specs.Prelude.{if◌then◌else◌}
 use Rattle.pkcs12.specs.Numbers.{levels}
 use Rattle.pkcs12.specs.Syntax.{Sealed, Leaf, Attribute, Set, absent, present, Bags, none, bag, nest, Safe}
 use Rattle.pkcs12.specs.Syntax.{plain, encrypted, MacData, Pfx}

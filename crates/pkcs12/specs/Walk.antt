@@ -2,7 +2,7 @@
 -- the whole table (sections 3 and 5 of the rules). A part that is met is entered at once
 -- (Rule 5.31); each parent is finished when its last element was met.
 use Rattle.std.specs.Prelude.{Bool, true, false, List, [], ◌∷◌, ◌++◌, ℕ, zero, suc, ◌+◌, ◌-◌, leb, ltb, eqb, length}
-use Rattle.der.specs.Choice.{if◌then◌else◌}
+use Rattle.std.specs.Prelude.{if◌then◌else◌}
 use Rattle.der.specs.Numbers.{content, too_many, octet_string_tag, integer_tag, opaque_levels, sequence_tag, set_tag}
 use Rattle.der.specs.Numbers.{context_tag}
 use Rattle.der.specs.Element.{cursor, fault, whole_of, tag_at, finish_at, expect_at, on_element}

@@ -1,6 +1,6 @@
 -- Strings of bytes.
 use Rattle.std.specs.Prelude.{Bool, true, false, List, [], ◌∷◌, ℕ, eqb}
-use Rattle.der.specs.Choice.{if◌then◌else◌}
+use Rattle.std.specs.Prelude.{if◌then◌else◌}
 
 -- whether two strings of bytes are the same
 unfoldable pub same_bytes : List ℕ → List ℕ → Bool

@@ -1,7 +1,8 @@
 -- Ranges of bytes.
 use Rattle.std.specs.Prelude.{Bool, List, ℕ, min, leb, ltb, length}
 use Rattle.std.proofs.Math.Seq.{slice}
-use Rattle.der.specs.Choice.{if◌then◌else◌, both}
+use Rattle.std.specs.Prelude.{if◌then◌else◌}
+use Rattle.der.specs.Choice.{both}
 use Rattle.der.specs.declared.Cursor.{Cursor}
 use Rattle.range.specs.declared.Range.{Range}
 

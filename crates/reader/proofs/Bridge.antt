@@ -7,7 +7,7 @@ use mathlib.Core.List.{List}
 use Prim.Native.Nat.{ℕ}
 use lib.Dec.{leb, eqb}
 use lib.ListN.{length}
-use Rattle.der.specs.Choice.{if◌then◌else◌}
+use Rattle.std.specs.Prelude.{if◌then◌else◌}
 use Rattle.der.specs.Numbers.{opaque_levels, sequence_tag, set_tag}
 use Rattle.der.specs.Element.{tag_at, finish_at, expect_at, on_element}
 use Rattle.der.specs.Content.{identifier_at, on_integer}

@@ -6,7 +6,7 @@ use mathlib.Core.List.{List}
 use Prim.Native.Nat.{ℕ}
 use lib.Dec.{leb, ltb, eqb}
 use lib.ListN.{length}
-use Rattle.der.specs.Choice.{if◌then◌else◌}
+use Rattle.std.specs.Prelude.{if◌then◌else◌}
 use Rattle.der.specs.Numbers.{octet_string_tag, sequence_tag, context_tag}
 use Rattle.der.specs.Element.{fault, whole_of, finish_at, expect_at, on_element}
 use Rattle.der.specs.Content.{bytes_of, identifier_at, integer_at}

@@ -9,7 +9,7 @@ use lib.ListN.{length}
 use borrow.Author.Tests.{leb-true, eq-eqb, ne_eqb}
 use mir.Val.{Fits}
 use mir.Syntax.{w64}
-use Rattle.der.specs.Choice.{if◌then◌else◌}
+use Rattle.std.specs.Prelude.{if◌then◌else◌}
 use Rattle.der.specs.Numbers.{opaque_levels, set_tag}
 use Rattle.der.specs.Element.{fault, tag_at, finish_at, element_at, expect_at, on_element}
 use Rattle.der.specs.Opaque.{on_checked, elements_at}

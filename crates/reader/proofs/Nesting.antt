@@ -8,7 +8,7 @@ use lib.ListN.{length}
 use borrow.Author.Tests.{eq-eqb, ne_eqb}
 use mir.Val.{Fits}
 use mir.Syntax.{w64}
-use Rattle.der.specs.Choice.{if◌then◌else◌}
+use Rattle.std.specs.Prelude.{if◌then◌else◌}
 use Rattle.der.specs.Numbers.{too_many, sequence_tag}
 use Rattle.der.specs.Element.{cursor, fault, expect_at, on_element}
 use Rattle.der.specs.declared.Fault.{Fault}

@@ -1,7 +1,7 @@
 -- What the walk requires of the memory, and what its answer and the memory say of the walk. Nothing
 -- here has to be believed but `read_into`: the other calls' contracts name `read_file`.
 use Rattle.std.specs.Prelude.{true, ◌≡◌, List, ◌++◌, ℕ, ◌+◌, ◌≤◌, ◌<◌, ltb, length, drop}
-use Rattle.der.specs.Choice.{if◌then◌else◌}
+use Rattle.std.specs.Prelude.{if◌then◌else◌}
 use Rattle.der.specs.Element.{cursor, fault}
 use Rattle.der.specs.declared.Fault.{Fault}
 use Rattle.buffer.specs.Numbers.{file_bytes, short_buffer}

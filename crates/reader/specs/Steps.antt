@@ -2,7 +2,7 @@
 -- believed: the reading call's contract names `read_file`, and each piece is proved to be a part of
 -- it.
 use Rattle.std.specs.Prelude.{Bool, true, false, List, ℕ, ◌+◌, ◌≤◌, length, leb, eqb}
-use Rattle.der.specs.Choice.{if◌then◌else◌}
+use Rattle.std.specs.Prelude.{if◌then◌else◌}
 use Rattle.der.specs.Numbers.{content, too_many, opaque_levels, octet_string_tag, sequence_tag, set_tag, context_tag}
 use Rattle.der.specs.Element.{fault, tag_at, finish_at, expect_at, on_element}
 use Rattle.der.specs.Content.{bytes_of, identifier_at, integer_at, on_integer}

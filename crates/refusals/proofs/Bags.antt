@@ -7,7 +7,7 @@ use native.Mathlib.Omega.{arith}
 use lib.Dec.{leb, ltb, eqb}
 use lib.ListN.{length, length-append}
 use lib.Seq.{length-slice}
-use Rattle.der.specs.Choice.{if◌then◌else◌}
+use Rattle.std.specs.Prelude.{if◌then◌else◌}
 use Rattle.der.specs.Element.{cursor, tag_at, finish_at, expect_at, on_element}
 use Rattle.der.specs.Content.{bytes_of}
 use Rattle.der.specs.Opaque.{on_checked, elements_at}

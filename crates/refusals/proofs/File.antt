@@ -8,7 +8,7 @@ use lib.Dec.{leb, ltb, eqb}
 use lib.ListN.{length}
 use lib.Seq.{slice, take-length}
 use borrow.Author.Tests.{ltb-false}
-use Rattle.der.specs.Choice.{if◌then◌else◌}
+use Rattle.std.specs.Prelude.{if◌then◌else◌}
 use Rattle.der.specs.Element.{whole_of, finish_at}
 use Rattle.der.specs.Content.{bytes_of}
 use Rattle.der.specs.Octets.{number}

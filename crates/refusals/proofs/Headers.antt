@@ -10,7 +10,7 @@ use lib.Dec.{leb, ltb, eqb}
 use lib.ListN.{length, get_or, take, drop}
 use lib.Seq.{slice, slice-cons, length-slice, drop-drop, take-take}
 use borrow.Author.Tests.{lt-ltb, le-ltb, le-leb, lt-leb, ltb-false}
-use Rattle.der.specs.Choice.{if◌then◌else◌}
+use Rattle.std.specs.Prelude.{if◌then◌else◌}
 use Rattle.der.specs.Element.{cursor, no_byte_left, within, one_octet, two_octets, extent_at, element_at, on_extent}
 use Rattle.der.specs.Content.{bytes_of}
 use Rattle.der.specs.declared.Fault.{Fault}

@@ -9,7 +9,7 @@ use native.Mathlib.Omega.{arith}
 use lib.Dec.{leb, ltb, eqb}
 use lib.ListN.{length, get_or, take, drop}
 use borrow.Author.Tests.{lt-ltb, le-ltb, le-leb, lt-leb, eqb-true}
-use Rattle.der.specs.Choice.{if◌then◌else◌}
+use Rattle.std.specs.Prelude.{if◌then◌else◌}
 use Rattle.der.specs.Numbers.{identifier_tag, integer_tag}
 use Rattle.der.specs.Element.{cursor, tag_at, finish_at, element_at, expect_at, on_element}
 use Rattle.der.specs.Content.{bytes_of, identifier_body, identifier_at, integer_body, integer_value, integer_at, on_integer}

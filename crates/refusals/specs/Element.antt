@@ -1,7 +1,7 @@
 -- One rule for every element, on byte lists (sections 2 and 5 of the rules). What is left of a
 -- parent is a list of bytes and the offset of the first of them.
 use Rattle.std.specs.Prelude.{Bool, true, false, List, [], ◌∷◌, ℕ, zero, suc, ◌+◌, ◌*◌, ◌/◌, ◌%◌, ltb, eqb, length, take, drop}
-use Rattle.der.specs.Choice.{if◌then◌else◌}
+use Rattle.std.specs.Prelude.{if◌then◌else◌}
 
 pub record Left : Type 0 where
   pub offset : ℕ

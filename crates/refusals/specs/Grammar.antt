@@ -1,7 +1,7 @@
 -- The grammar of a file, said with the one rule for elements (section 3 of the rules), and the
 -- account of a file.
 use Rattle.std.specs.Prelude.{Bool, true, false, List, [], ℕ, zero, suc, leb, ltb, length}
-use Rattle.der.specs.Choice.{if◌then◌else◌}
+use Rattle.std.specs.Prelude.{if◌then◌else◌}
 use Rattle.range.specs.Bytes.{same_bytes}
 use Rattle.refusals.specs.Element.{left, Made, Account, stops, Rule, closed, walked, judged, element, ◌before◌}
 use Rattle.refusals.specs.Element.{each, if_any, served, if_tag, is, any, never, always, constructed, primitive}

@@ -8,7 +8,8 @@ use Prim.Native.Nat.{ℕ, zero, suc, ◌+◌, ◌-◌, ◌≤◌, ◌<◌}
 use native.Mathlib.Omega.{arith}
 use lib.Dec.{eqb, ltb}
 use borrow.Author.Tests.{lt-ltb, le-ltb, eq-eqb, ne_eqb, ltb-true}
-use Rattle.der.specs.Choice.{if◌then◌else◌, both}
+use Rattle.std.specs.Prelude.{if◌then◌else◌}
+use Rattle.der.specs.Choice.{both}
 use Rattle.der.proofs.Choices.{by_test, by_lt}
 use Rattle.pkcs12.specs.Syntax.{Leaf, Bags, none, bag, nest}
 use Rattle.pkcs12.specs.Encode.{bags_bytes}

@@ -10,7 +10,7 @@ use lib.Dec.{leb, eqb, eqb-zero-suc, eqb-suc-zero}
 use lib.ListN.{length, get_or, take, drop, drop_of_length-le, length-map, get_or-eq_default}
 use lib.Seq.{drop-cons, length-take-le, get_or-take}
 use borrow.Author.Tests.{not-true, not-false, eq-eqb, ne_eqb, leb-true}
-use Rattle.der.specs.Choice.{if◌then◌else◌}
+use Rattle.std.specs.Prelude.{if◌then◌else◌}
 use Rattle.der.specs.Numbers.{opaque_levels, sequence_tag}
 use Rattle.der.specs.Element.{whole_of}
 use Rattle.der.specs.Content.{identifier_body}

@@ -1,6 +1,6 @@
 -- What the bytes are that a program read: a file, or a text that wraps one.
 use Rattle.std.specs.Prelude.{List, ◌++◌, ℕ, eqb, ltb, take}
-use Rattle.der.specs.Choice.{if◌then◌else◌}
+use Rattle.std.specs.Prelude.{if◌then◌else◌}
 use Rattle.der.specs.Element.{fault}
 use Rattle.der.specs.declared.Fault.{Fault}
 use Rattle.buffer.specs.Numbers.{too_long}

@@ -1,6 +1,6 @@
 -- How many bytes of a buffer are handed on.
 use Rattle.std.specs.Prelude.{List, ℕ, ltb, length}
-use Rattle.der.specs.Choice.{if◌then◌else◌}
+use Rattle.std.specs.Prelude.{if◌then◌else◌}
 use Rattle.buffer.specs.declared.Written.{Written}
 use Rattle.buffer.specs.declared.Written.TheVariants.{Length}
 use Rattle.text.specs.Text.{refused_line}

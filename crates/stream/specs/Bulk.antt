@@ -1,7 +1,7 @@
 -- How bytes are passed at once. Nobody has to believe this: `take` is `taken`, which takes them
 -- one by one.
 use Rattle.std.specs.Prelude.{ℕ, ◌-◌, ltb}
-use Rattle.der.specs.Choice.{if◌then◌else◌}
+use Rattle.std.specs.Prelude.{if◌then◌else◌}
 use Rattle.header.specs.declared.Due.{Due}
 use Rattle.header.specs.declared.Due.TheVariants.{Tag, Length, One, First, Second, Body, Nothing}
 use Rattle.stream.specs.declared.Upload.{Upload}

@@ -1,7 +1,7 @@
 -- An upload: what each call makes of it. `ends` has the ends of the open elements, the outermost
 -- first, and `depth` of them count.
 use Rattle.std.specs.Prelude.{Bool, true, false, List, [], ◌∷◌, ℕ, zero, suc, ◌+◌, ◌/◌, ◌%◌, max, leb, ltb, eqb, get_or, set}
-use Rattle.der.specs.Choice.{if◌then◌else◌}
+use Rattle.std.specs.Prelude.{if◌then◌else◌}
 use Rattle.der.specs.Element.{fault}
 use Rattle.der.specs.Numbers.{missing, left_over, too_many}
 use Rattle.der.specs.declared.Fault.{Fault}

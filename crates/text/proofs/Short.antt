@@ -6,7 +6,7 @@ use native.Mathlib.Nat.{suc-mul}
 use native.Mathlib.Omega.{arith}
 use lib.Dec.{ltb}
 use lib.ListN.{length, length-append}
-use Rattle.der.specs.Choice.{if◌then◌else◌}
+use Rattle.std.specs.Prelude.{if◌then◌else◌}
 use Rattle.der.specs.declared.Fault.{Fault}
 use Rattle.buffer.specs.Placed.{each}
 use Rattle.buffer.specs.Text.{ascii, digit, digits, decimal}

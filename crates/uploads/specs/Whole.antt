@@ -1,7 +1,7 @@
 -- The check of the whole (Rule 10.2): one opaque element of 20 levels at most, and no byte after
 -- it. A check that passes returns the number of elements and the greatest level.
 use Rattle.std.specs.Prelude.{List, ℕ, zero, suc, ◌+◌, ◌-◌, ◌/◌, ◌%◌, max, ltb, eqb, length}
-use Rattle.der.specs.Choice.{if◌then◌else◌}
+use Rattle.std.specs.Prelude.{if◌then◌else◌}
 use Rattle.der.specs.Numbers.{left_over, too_many}
 use Rattle.der.specs.Element.{cursor, fault, element_at, on_element}
 use Rattle.der.specs.Many.{many}

@@ -7,7 +7,7 @@ use borrow.Author.Tests.{lt-ltb, le-ltb, le-leb, lt-leb}
 use lib.Dec.{leb}
 use lib.ListN.{length, replicate}
 use lib.Seq.{sets}
-use Rattle.der.specs.Choice.{if◌then◌else◌}
+use Rattle.std.specs.Prelude.{if◌then◌else◌}
 use Rattle.pkcs12.specs.Numbers.{safe_rows, bag_rows, attribute_rows}
 use Rattle.range.specs.declared.Range.{Range}
 use Rattle.pkcs12.specs.declared.row.SafeRow.{SafeRow}

@@ -8,7 +8,7 @@ use lib.Dec.{ltb, leb-suc-suc}
 use lib.ListN.{length, take, drop, take-append-drop, drop_of_length-le}
 use lib.Seq.{drop-cons, take-take}
 use borrow.Author.Tests.{lt-ltb}
-use Rattle.der.specs.Choice.{if◌then◌else◌}
+use Rattle.std.specs.Prelude.{if◌then◌else◌}
 use Rattle.der.proofs.Choices.{by_lt, by_eq, either}
 use Rattle.pem.specs.Judged.{agreeing, closed_by, bytes_of}
 use Rattle.pem.specs.declared.Judged.{Judged}

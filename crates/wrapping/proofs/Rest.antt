@@ -8,7 +8,7 @@ use native.Mathlib.Omega.{arith}
 use lib.Dec.{eqb}
 use lib.ListN.{length}
 use borrow.Author.Tests.{eq-eqb, ne_eqb}
-use Rattle.der.specs.Choice.{if◌then◌else◌}
+use Rattle.std.specs.Prelude.{if◌then◌else◌}
 use Rattle.der.proofs.Choices.{either}
 use Rattle.buffer.specs.Text.{ascii}
 use Rattle.base64_chars.specs.Alphabet.{alphabet, index_of, value_of}
