@@ -356,7 +356,7 @@ def turn(crate, folder, rel, found):
             word = m[3]
             invs.append(f"abbrev pub {word}-{prefix}{new} : goal.{word}-{prefix}{new}\n{unfold}{word}-{prefix}{new} l ={body}\n")
             continue
-        goals = {flat(a): b for a, b in data["needs"]}
+        goals = {flat(b): b for a, b in data["needs"]} | {flat(a): b for a, b in data["needs"]}
         new = goals.get(flat(m[4]))
         if new is None:
             pre = re.sub(r"^overflow-", "", flat(m[4]))
