@@ -261,6 +261,8 @@ def split_clauses_of(body, fields):
     if head == "reporting_with" and len(words) == 4 and len(fields) == 4:
         got = pieces(words[2], [fields[0], fields[2]])
         return [got[0], (fields[1], ("ap", words[1])), got[1], (fields[3], bare(words[3]))]
+    if head in ("two_and", "three_and", "one_and") and len(words) == 3:
+        return pieces(words[1], fields[:-1]) + [(fields[-1], bare(words[2]))]
     if head == "reported" and len(words) == 3 and len(fields) == 2:
         return [(fields[0], bare(words[2])), (fields[1], ("ap", words[1]))]
     if head in ("search", "omega", "rw", "simp", "grind"):

@@ -1,0 +1,13 @@
+-- The number that the answer reports.
+use mathlib.Core.Path.{sym, ap}
+use Rattle.pairing.specs.declared.Paired.{Paired}
+use Rattle.pairing.specs.Report.{paired_report}
+use Rattle.p12.proofs.paired_number.Goals as goal
+
+pub returns-in-Certificate : goal.returns-in-Certificate
+unfolding paired_report
+returns-in-Certificate c = ap (λ (x : Paired). (paired_report x).number) (sym c.in-Certificate.is)
+
+pub returns-in-Refused : goal.returns-in-Refused
+unfolding paired_report
+returns-in-Refused c = ap (λ (x : Paired). (paired_report x).number) (sym c.in-Refused.is)
