@@ -254,7 +254,13 @@ fn bag_name(rt: &impl Print, bag: usize) -> io::Result<()> {
 }
 
 // The part that the type of a bag's first attribute names.
-fn first_type(rt: &impl Print, table: Table, file: &[u8], bag: usize, first: Item) -> io::Result<()> {
+fn first_type(
+    rt: &impl Print,
+    table: Table,
+    file: &[u8],
+    bag: usize,
+    first: Item,
+) -> io::Result<()> {
     match first {
         Item::Ready => Ok(()),
         Item::Attribute(row) => {
@@ -266,7 +272,13 @@ fn first_type(rt: &impl Print, table: Table, file: &[u8], bag: usize, first: Ite
     }
 }
 
-fn bag_lines(rt: &impl Print, table: Table, file: &[u8], bag: usize, stored: IdentityRow) -> io::Result<()> {
+fn bag_lines(
+    rt: &impl Print,
+    table: Table,
+    file: &[u8],
+    bag: usize,
+    stored: IdentityRow,
+) -> io::Result<()> {
     let given = three_calls(table, file, bag);
     let first = given.first;
     bag_name(rt, bag)?;
@@ -300,7 +312,11 @@ fn over_lines(rt: &impl Print, table: Table, lent: &[u8]) -> io::Result<()> {
     lent_name(rt, lent)?;
     calls_line(rt, three_calls(table, lent, 0))?;
     lent_name(rt, lent)?;
-    id_line(rt, identities::identity_of(table, lent, 0), row_at(filled, 0))?;
+    id_line(
+        rt,
+        identities::identity_of(table, lent, 0),
+        row_at(filled, 0),
+    )?;
     lent_name(rt, lent)?;
     fill_line(rt, filled)
 }

@@ -325,7 +325,12 @@ fn table_frame(rt: &impl Print, s: &[u8], out: &mut [u8]) -> io::Result<bool> {
 }
 
 // One frame, and whether to go on.
-fn frame(rt: &impl Print, input: &mut impl Read, buffer: &mut [u8], out: &mut [u8]) -> io::Result<bool> {
+fn frame(
+    rt: &impl Print,
+    input: &mut impl Read,
+    buffer: &mut [u8],
+    out: &mut [u8],
+) -> io::Result<bool> {
     let frame = stdio::read_frame(input, buffer)?;
     match frame {
         Frame::End => Ok(false),
@@ -336,7 +341,12 @@ fn frame(rt: &impl Print, input: &mut impl Read, buffer: &mut [u8], out: &mut [u
 
 // Nothing says that the input ends, so the frames are counted down, from a number that no input
 // has.
-fn frames(rt: &impl Print, input: &mut impl Read, buffer: &mut [u8], out: &mut [u8]) -> io::Result<()> {
+fn frames(
+    rt: &impl Print,
+    input: &mut impl Read,
+    buffer: &mut [u8],
+    out: &mut [u8],
+) -> io::Result<()> {
     let mut left = u64::MAX;
     while left > 0 && frame(rt, input, buffer, out)? {
         left = left - 1;
