@@ -2,15 +2,19 @@
 // one byte more than the longest text has is read, so that it is refused as such.
 #![tactic(auto)]
 
-fn list(file: &[u8]) {
-    let mut text = io::large_buffer();
+use std::io;
+
+fn list(rt: &impl Print, file: &[u8]) -> io::Result<()> {
+    let mut text = [0u8; stdio::LARGE];
     let written = listing::list(file.len(), reader::read(file), &mut text);
-    stdio::write_result(&text, written);
+    stdio::write_result(rt, &text, written)?;
+    Ok(())
 }
 
-fn main() {
+fn main(rt: HostRuntime) -> io::Result<()> {
     let mut buffer = [0u8; source::READ_BYTES];
-    let mut unwrapped = io::large_buffer();
-    let n = stdio::read_all(&mut buffer);
-    list(source::file(&buffer[..n], &mut unwrapped));
+    let mut unwrapped = [0u8; stdio::LARGE];
+    let n = stdio::read_all(&mut rt.stdin(), &mut buffer)?;
+    let file = source::file(&rt.stderr(), &buffer[..n], &mut unwrapped)?;
+    list(&rt, file)
 }

@@ -2,15 +2,19 @@
 // holds its certificate. A file that is refused is answered by the line of its refusal.
 #![tactic(auto)]
 
-fn pairs(file: &[u8]) {
+use std::io;
+
+fn pairs(rt: &impl Print, file: &[u8]) -> io::Result<()> {
     let mut text = [0u8; pair_lines::PAIRS_BYTES];
     let written = pair_lines::list(file, reader::read(file), &mut text);
-    stdio::write_result(&text, written);
+    stdio::write_result(rt, &text, written)?;
+    Ok(())
 }
 
-fn main() {
+fn main(rt: HostRuntime) -> io::Result<()> {
     let mut buffer = [0u8; source::READ_BYTES];
-    let mut unwrapped = io::large_buffer();
-    let n = stdio::read_all(&mut buffer);
-    pairs(source::file(&buffer[..n], &mut unwrapped));
+    let mut unwrapped = [0u8; stdio::LARGE];
+    let n = stdio::read_all(&mut rt.stdin(), &mut buffer)?;
+    let file = source::file(&rt.stderr(), &buffer[..n], &mut unwrapped)?;
+    pairs(&rt, file)
 }

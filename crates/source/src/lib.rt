@@ -2,13 +2,15 @@
 // first, READ_BYTES at most.
 #![tactic(auto)]
 
-ghost use Rattle.std.specs.Prelude.{◌≡◌, length};
+ghost use Rattle.std.specs.Prelude.{◌≡◌, length, IfOk};
 ghost use Rattle.buffer.specs.Placed.{Placed};
 ghost use Rattle.buffer.specs.Report.{written_report};
 ghost use Rattle.source.specs.Source.{file_in, unwrapped_line, so_far, imported_so_far};
 
 use buffer::{Written, write};
 use der::Fault;
+use std::io;
+use std::io::Stderr;
 
 // The most bytes that a program reads: one more than the longest text has that is imported.
 pub const READ_BYTES: usize = pem::TEXT_BYTES + 1;
@@ -22,26 +24,27 @@ fn unwrapped_line(out: &mut [u8], at: usize, n: usize) -> usize
 }
 
 // Writes the line to standard error. Returns the number of bytes handed on.
-fn say_unwrapped(n: usize) -> usize
-    ensures { result ≡ length (unwrapped_line n) }
+fn say_unwrapped(errors: &Stderr, n: usize) -> io::Result<usize>
+    ensures { IfOk result (λ k. k ≡ length (unwrapped_line n)) }
 {
     let mut line = [0u8; 128];
     let end = unwrapped_line(&mut line, 0, n);
-    stdio::write_error(range::part(&line, 0, end))
+    stdio::write_error(errors, range::part(&line, 0, end))
 }
 
 // The bytes of the file: those that a text wraps, at the front of the buffer, and standard error
-// says so; or all that were read, if these aren't a text that is imported.
-pub fn file<'a>(read: &'a [u8], out: &'a mut [u8]) -> &'a [u8]
-    ensures { result.now ≡ file_in read.now out.old }
+// says so; or all that were read, if these aren't a text that is imported. The only error is one of
+// writing to standard error.
+pub fn file<'a>(errors: &Stderr, read: &'a [u8], out: &'a mut [u8]) -> io::Result<&'a [u8]>
+    ensures { IfOk result (λ bytes. bytes.now ≡ file_in read.now out.old) }
 {
     let written = pem::import(read, out);
     match written {
         Written::Length(n) => {
-            say_unwrapped(n);
-            range::part(out, 0, n)
+            say_unwrapped(errors, n)?;
+            Ok(range::part(out, 0, n))
         }
-        Written::Refused(_) => read,
+        Written::Refused(_) => Ok(read),
     }
 }
 

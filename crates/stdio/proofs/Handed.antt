@@ -1,6 +1,6 @@
 -- How many bytes are handed on: of what a call left in a buffer, of the line of a refusal, and of a
 -- byte in hexadecimal.
-use mathlib.Core.Path.{◌≡◌, ◌∙◌, refl, sym, subst}
+use mathlib.Core.Path.{◌≡◌, ◌∙◌, sym, subst}
 use mathlib.Core.List.{List}
 use Prim.Native.Nat.{ℕ, ◌≤◌, ◌<◌, ◌^◌, ◌-◌}
 use native.Mathlib.Nat.{pow-le-pow_right}
@@ -16,8 +16,14 @@ use Rattle.buffer.specs.declared.Written.{Written}
 use Rattle.buffer.specs.declared.Written.TheVariants.{Length}
 use Rattle.text.specs.Text.{refused_line}
 use Rattle.text.proofs.Short.{refused_line_lem}
+use Rattle.std.specs.Prelude.{Result, Ok, Err, IfOk}
 use Rattle.io.specs.Digits.{IsDigitCount}
 use Rattle.stdio.specs.Handed.{front, handed}
+
+-- what follows of a value follows of the value that a call returned, if it did
+pub at_ok : {T E : Type 0} (r : Result T E) (P Q : T → Type 0) → ((x : T) → P x → Q x) → IfOk r P → IfOk r Q
+at_ok (Ok x) P Q f h = f x h
+at_ok (Err e) P Q f h = h
 
 module _ (buffer : List ℕ) (result : Written) where
   pub of_length : (n r : ℕ) → result ≡ Length n → r ≡ front buffer n → r ≡ handed buffer result

@@ -1,17 +1,25 @@
-// What programs do with standard input, output and error. No contract can say what the operating
-// system read or wrote: a function that reads promises to stay within the buffer, and one that
-// writes how many bytes it handed on.
+// What programs do with standard input, output and error. A function that reads promises to stay
+// within the buffer, and one that writes how many bytes it handed on, if it returns `Ok`. The only
+// error is one of the input or the output, returned as it came. Of what was to be written some
+// bytes may have been handed on before it.
 #![tactic(auto)]
 
-ghost use Rattle.std.specs.Prelude.{◌≡◌, length};
-ghost use Rattle.io.specs.Counts.{IsPrefixLen};
+ghost use Rattle.std.specs.Prelude.{◌≡◌, ◌<◌, length, take, IfOk, OnErr};
+ghost use Rattle.std.specs.Io.{ReadsAtMost};
+ghost use Rattle.std.specs.Io.KnownBytes.{Consumes, IsAtEnd};
 ghost use Rattle.io.specs.Digits.{IsDigitCount};
 ghost use Rattle.stdio.specs.Frame.{InBuffer};
 ghost use Rattle.stdio.specs.Handed.{front, handed};
+ghost use Rattle.stdio.specs.Taken.{AtFront};
 ghost use Rattle.text.specs.Text.{refused_line};
 
 use buffer::{Written, read};
 use der::Fault;
+use std::io::{Read, Result, Stderr};
+
+// The size of a large buffer: one byte more than the longest file has, and as many as the longest
+// listing may have.
+pub const LARGE: usize = 65536;
 
 // The bytes of a frame's length.
 const LENGTH: usize = 4;
@@ -27,117 +35,129 @@ pub enum Frame {
     Bytes(usize),
 }
 
-// Reads standard input until it ends or the buffer is full. Returns the number of bytes read.
-pub fn read_all(buffer: &mut [u8]) -> usize
-    ensures { IsPrefixLen result buffer.new }
+// Reads an input until it ends or the buffer is full. Returns the number of bytes read. After an
+// error the bytes that were read before it are at the front of the buffer.
+pub fn read_all<R: Read>(input: &mut R, buffer: &mut [u8]) -> Result<usize>
+    ensures bound { ReadsAtMost result buffer.new }
+    ensures bytes { IfOk result (λ n. Consumes (R.remaining input.old) (R.remaining input.new) (take n buffer.new)) }
+    ensures end { IfOk result (λ n. n < length buffer.new → IsAtEnd (R.remaining input.new)) }
+    ensures err { OnErr result (AtFront (R.remaining input.old) (R.remaining input.new) buffer.new) }
 {
-    io::read_full(libc::STDIN_FILENO, buffer)
+    let mut done = 0;
+    while done < buffer.len() {
+        let n = input.read(&mut buffer[done..])?;
+        if n == 0 {
+            break;
+        }
+        done += n;
+    }
+    Ok(done)
 }
 
 // Reads the bytes of a frame of this size to the front of a buffer.
-fn read_body(buffer: &mut [u8], size: usize) -> Frame
-    ensures { InBuffer buffer.new result }
+fn read_body<R: Read>(input: &mut R, buffer: &mut [u8], size: usize) -> Result<Frame>
+    ensures { IfOk result (λ frame. InBuffer buffer.new frame) }
 {
     if buffer.len() < size {
-        return Frame::Cut;
+        return Ok(Frame::Cut);
     }
-    let got = io::read_full(libc::STDIN_FILENO, &mut buffer[0..size]);
+    let got = read_all(input, &mut buffer[0..size])?;
     if got < size {
-        return Frame::Cut;
+        return Ok(Frame::Cut);
     }
-    Frame::Bytes(size)
+    Ok(Frame::Bytes(size))
 }
 
-// Reads the next frame of standard input: its bytes to the front of a buffer.
-pub fn read_frame(buffer: &mut [u8]) -> Frame
-    ensures { InBuffer buffer.new result }
+// Reads the next frame of an input: its bytes to the front of a buffer.
+pub fn read_frame<R: Read>(input: &mut R, buffer: &mut [u8]) -> Result<Frame>
+    ensures { IfOk result (λ frame. InBuffer buffer.new frame) }
 {
     let mut header = [0u8; LENGTH];
-    let got = io::read_full(libc::STDIN_FILENO, &mut header);
+    let got = read_all(input, &mut header)?;
     if got == 0 {
-        return Frame::End;
+        return Ok(Frame::End);
     }
     if got < LENGTH {
-        return Frame::Cut;
+        return Ok(Frame::Cut);
     }
-    read_body(buffer, read::u32_be(&header, 0) as usize)
+    read_body(input, buffer, read::u32_be(&header, 0) as usize)
 }
 
 // Writes the first n bytes of a buffer, none if it has fewer. Returns the number of bytes handed
 // on.
-pub fn write_front(buffer: &[u8], n: usize) -> usize
-    ensures { result ≡ front buffer.now n }
+pub fn write_front<W: Print>(output: &W, buffer: &[u8], n: usize) -> Result<usize>
+    ensures { IfOk result (λ k. k ≡ front buffer.now n) }
 {
     if buffer.len() < n {
-        return 0;
+        return Ok(0);
     }
-    io::write_all(libc::STDOUT_FILENO, &buffer[0..n]);
-    n
+    output.write_all(&buffer[0..n])?;
+    Ok(n)
 }
 
 // Writes the line of a refusal. Returns the number of bytes handed on.
-pub fn write_refused(fault: Fault) -> usize
-    ensures { result ≡ length (refused_line fault) }
+pub fn write_refused<W: Print>(output: &W, fault: Fault) -> Result<usize>
+    ensures { IfOk result (λ k. k ≡ length (refused_line fault)) }
 {
     let mut line = [0u8; 64];
     let n = text::refused(&mut line, 0, fault);
-    write_front(&line, n)
+    write_front(output, &line, n)
 }
 
 // Writes what a call left at the front of a buffer, or the line of its refusal. Returns the number
 // of bytes handed on.
-pub fn write_result(buffer: &[u8], res: Written) -> usize
-    ensures { result ≡ handed buffer.now res }
+pub fn write_result<W: Print>(output: &W, buffer: &[u8], res: Written) -> Result<usize>
+    ensures { IfOk result (λ k. k ≡ handed buffer.now res) }
 {
     match res {
-        Written::Length(n) => write_front(buffer, n),
-        Written::Refused(fault) => write_refused(fault),
+        Written::Length(n) => write_front(output, buffer, n),
+        Written::Refused(fault) => write_refused(output, fault),
     }
 }
 
 // Writes a text to one of the outputs. Returns the number of bytes handed on.
-fn write_to(output: i32, text: &[u8]) -> usize
-    ensures { result ≡ length text.now }
+fn write_to<W: Print>(output: &W, text: &[u8]) -> Result<usize>
+    ensures { IfOk result (λ k. k ≡ length text.now) }
 {
-    io::write_all(output, text);
-    text.len()
+    output.write_all(text)?;
+    Ok(text.len())
 }
 
 // Writes a text. Returns the number of bytes handed on.
-pub fn write_text(text: &[u8]) -> usize
-    ensures { result ≡ length text.now }
+pub fn write_text<W: Print>(output: &W, text: &[u8]) -> Result<usize>
+    ensures { IfOk result (λ k. k ≡ length text.now) }
 {
-    write_to(libc::STDOUT_FILENO, text)
+    write_to(output, text)
 }
 
 // Writes a text to standard error. Returns the number of bytes handed on.
-pub fn write_error(text: &[u8]) -> usize
-    ensures { result ≡ length text.now }
+pub fn write_error(errors: &Stderr, text: &[u8]) -> Result<usize>
+    ensures { IfOk result (λ k. k ≡ length text.now) }
 {
-    write_to(libc::STDERR_FILENO, text)
+    write_to(errors, text)
 }
 
 // Writes a number in decimal, without leading zeros. Returns the number of digits handed on.
-pub fn write_decimal(n: usize) -> usize
-    ensures { IsDigitCount 10 1 n result }
+pub fn write_decimal<W: Print>(output: &W, n: usize) -> Result<usize>
+    ensures { IfOk result (λ k. IsDigitCount 10 1 n k) }
 {
     let mut digits = [0u8; 20];
     let count = io::decimal(n as u64, &mut digits);
-    write_text(&digits[..count])
+    write_text(output, &digits[..count])
 }
 
 // Writes a byte as two hexadecimal digits, in lower case. Returns the number of digits handed on.
-pub fn write_hex(b: u8) -> usize
-    ensures { result ≡ 2 }
+pub fn write_hex<W: Print>(output: &W, b: u8) -> Result<usize>
+    ensures { IfOk result (λ k. k ≡ 2) }
 {
     let mut digits = [0u8; 16];
     let two = io::hex(b as u64, 2, &mut digits);
-    write_text(&digits[..two])
+    write_text(output, &digits[..two])
 }
 
 // Writes the line `cut`. Returns the number of bytes handed on.
-pub fn write_cut() -> usize
-    ensures { result ≡ 4 }
+pub fn write_cut<W: Print>(output: &W) -> Result<usize>
+    ensures { IfOk result (λ k. k ≡ 4) }
 {
-    write_text(b"cut\n")
+    write_text(output, b"cut\n")
 }

@@ -8,6 +8,8 @@ mod runs;
 
 use buffer::Written;
 use pkcs12::{Answer, Reading, Table};
+use std::io;
+use std::io::Read;
 use stdio::Frame;
 
 // Whether the first n bytes of what was written are the file.
@@ -19,75 +21,90 @@ fn same_front(out: &[u8], n: usize, file: &[u8]) -> bool {
 }
 
 // Writes the file of a table, and says whether it is this one.
-fn write_back(table: Table, file: &[u8], out: &mut [u8]) {
+fn write_back(rt: &impl Print, table: Table, file: &[u8], out: &mut [u8]) -> io::Result<()> {
     let written = writer::write(table, file, out);
     let same = match written {
         Written::Length(n) => same_front(out, n, file),
         Written::Refused(_) => false,
     };
     if same {
-        stdio::write_text(b"written back, the same\n");
+        stdio::write_text(rt, b"written back, the same\n")?;
+        Ok(())
     } else {
-        stdio::write_text(b"written back, another\n");
+        stdio::write_text(rt, b"written back, another\n")?;
+        Ok(())
     }
 }
 
 // Writes the listing of a file: all of it, since the buffer holds any.
-fn show_listing(size: usize, reading: Reading) {
-    let mut text = io::large_buffer();
+fn show_listing(rt: &impl Print, size: usize, reading: Reading) -> io::Result<()> {
+    let mut text = [0u8; stdio::LARGE];
     let written = listing::list(size, reading, &mut text);
-    stdio::write_result(&text, written);
+    stdio::write_result(rt, &text, written)?;
+    Ok(())
 }
 
 // Writes the pairs of a file: all of them, since the buffer holds any.
-fn show_pairs(file: &[u8], reading: Reading) {
+fn show_pairs(rt: &impl Print, file: &[u8], reading: Reading) -> io::Result<()> {
     let mut text = [0u8; pair_lines::PAIRS_BYTES];
     let written = pair_lines::list(file, reading, &mut text);
-    stdio::write_result(&text, written);
+    stdio::write_result(rt, &text, written)?;
+    Ok(())
 }
 
 // Lists a file and, if it is accepted, pairs its keys and writes it back.
-fn list(file: &[u8], out: &mut [u8]) {
+fn list(rt: &impl Print, file: &[u8], out: &mut [u8]) -> io::Result<()> {
     let reading = reader::read(file);
-    show_listing(file.len(), reading);
+    show_listing(rt, file.len(), reading)?;
     let answer = reading.answer;
     match answer {
         Answer::Accepted => {
-            show_pairs(file, reading);
-            runs::show(reading.table, file);
-            write_back(reading.table, file, out);
+            show_pairs(rt, file, reading)?;
+            runs::show(rt, reading.table, file)?;
+            write_back(rt, reading.table, file, out)
         }
-        Answer::Refused(_) => {}
+        Answer::Refused(_) => Ok(()),
     }
 }
 
 // One frame, and whether to go on.
-fn frame(buffer: &mut [u8], out: &mut [u8]) -> bool {
-    let frame = stdio::read_frame(buffer);
+fn frame(
+    rt: &impl Print,
+    input: &mut impl Read,
+    buffer: &mut [u8],
+    out: &mut [u8],
+) -> io::Result<bool> {
+    let frame = stdio::read_frame(input, buffer)?;
     match frame {
-        Frame::End => false,
+        Frame::End => Ok(false),
         Frame::Cut => {
-            stdio::write_cut();
-            false
+            stdio::write_cut(rt)?;
+            Ok(false)
         }
         Frame::Bytes(n) => {
-            list(&buffer[..n], out);
-            true
+            list(rt, &buffer[..n], out)?;
+            Ok(true)
         }
     }
 }
 
 // Nothing says that the input ends, so the frames are counted down, from a number that no input
 // has.
-fn frames(buffer: &mut [u8], out: &mut [u8]) {
+fn frames(
+    rt: &impl Print,
+    input: &mut impl Read,
+    buffer: &mut [u8],
+    out: &mut [u8],
+) -> io::Result<()> {
     let mut left = u64::MAX;
-    while left > 0 && frame(buffer, out) {
+    while left > 0 && frame(rt, input, buffer, out)? {
         left = left - 1;
     }
+    Ok(())
 }
 
-fn main() {
-    let mut buffer = io::large_buffer();
-    let mut out = io::large_buffer();
-    frames(&mut buffer, &mut out);
+fn main(rt: HostRuntime) -> io::Result<()> {
+    let mut buffer = [0u8; stdio::LARGE];
+    let mut out = [0u8; stdio::LARGE];
+    frames(&rt, &mut rt.stdin(), &mut buffer, &mut out)
 }

@@ -9,6 +9,7 @@ use identities::Identity;
 use pairing::IdentityRow;
 use pkcs12::{AttributeRow, BagKind, Table};
 use range::Range;
+use std::io;
 use stdio::{write_decimal, write_text};
 
 // A prime, the largest of 16 bits.
@@ -130,164 +131,194 @@ fn rest_unused(filled: Filled, start: usize) -> bool {
     true
 }
 
-fn span(r: Range) {
-    write_decimal(r.start as usize);
-    write_text(b"..");
-    write_decimal(r.end as usize);
+fn span(rt: &impl Print, r: Range) -> io::Result<()> {
+    write_decimal(rt, r.start as usize)?;
+    write_text(rt, b"..")?;
+    write_decimal(rt, r.end as usize)?;
+    Ok(())
 }
 
-fn refusal(fault: Fault) {
-    write_text(b"refused ");
-    write_decimal(fault.number as usize);
+fn refusal(rt: &impl Print, fault: Fault) -> io::Result<()> {
+    write_text(rt, b"refused ")?;
+    write_decimal(rt, fault.number as usize)?;
+    Ok(())
 }
 
-fn attribute(row: AttributeRow) {
-    write_text(b"attribute ");
-    span(row.identifier);
-    write_text(b" values ");
-    span(row.values);
+fn attribute(rt: &impl Print, row: AttributeRow) -> io::Result<()> {
+    write_text(rt, b"attribute ")?;
+    span(rt, row.identifier)?;
+    write_text(rt, b" values ")?;
+    span(rt, row.values)
 }
 
-fn outcome(item: Item) {
+fn outcome(rt: &impl Print, item: Item) -> io::Result<()> {
     match item {
         Item::Ready => {
-            write_text(b"nothing");
+            write_text(rt, b"nothing")?;
+            Ok(())
         }
-        Item::Attribute(row) => attribute(row),
+        Item::Attribute(row) => attribute(rt, row),
         Item::Done => {
-            write_text(b"done");
+            write_text(rt, b"done")?;
+            Ok(())
         }
-        Item::Refused(fault) => refusal(fault),
+        Item::Refused(fault) => refusal(rt, fault),
     }
 }
 
-fn calls_line(given: Three) {
+fn calls_line(rt: &impl Print, given: Three) -> io::Result<()> {
     let first = given.first;
     let second = given.second;
     let third = given.third;
-    write_text(b"calls: ");
-    outcome(first);
-    write_text(b", ");
-    outcome(second);
-    write_text(b", ");
-    outcome(third);
-    write_text(b"\n");
+    write_text(rt, b"calls: ")?;
+    outcome(rt, first)?;
+    write_text(rt, b", ")?;
+    outcome(rt, second)?;
+    write_text(rt, b", ")?;
+    outcome(rt, third)?;
+    write_text(rt, b"\n")?;
+    Ok(())
 }
 
-fn type_line(found: Summary) {
-    write_text(b"type: ");
-    write_decimal(found.bytes);
-    write_text(b" bytes, remainder ");
-    write_decimal(found.remainder);
-    write_text(b"\n");
+fn type_line(rt: &impl Print, found: Summary) -> io::Result<()> {
+    write_text(rt, b"type: ")?;
+    write_decimal(rt, found.bytes)?;
+    write_text(rt, b" bytes, remainder ")?;
+    write_decimal(rt, found.remainder)?;
+    write_text(rt, b"\n")?;
+    Ok(())
 }
 
 // An identity row, and whether that is the one that was stored.
-fn identity(row: IdentityRow, stored: IdentityRow) {
+fn identity(rt: &impl Print, row: IdentityRow, stored: IdentityRow) -> io::Result<()> {
     let kind = row.kind;
     if row.has_id {
-        span(row.id);
+        span(rt, row.id)?;
     } else {
-        write_text(b"none");
+        write_text(rt, b"none")?;
     }
-    write_text(b", kind ");
-    write_decimal(kind_number(kind));
+    write_text(rt, b", kind ")?;
+    write_decimal(rt, kind_number(kind))?;
     if same_row(row, stored) {
-        write_text(b", filled");
+        write_text(rt, b", filled")?;
+        Ok(())
     } else {
-        write_text(b", filled otherwise");
+        write_text(rt, b", filled otherwise")?;
+        Ok(())
     }
 }
 
-fn id_line(answer: Identity, stored: IdentityRow) {
-    write_text(b"id: ");
+fn id_line(rt: &impl Print, answer: Identity, stored: IdentityRow) -> io::Result<()> {
+    write_text(rt, b"id: ")?;
     match answer {
-        Identity::Row(row) => identity(row, stored),
-        Identity::Refused(fault) => refusal(fault),
+        Identity::Row(row) => identity(rt, row, stored)?,
+        Identity::Refused(fault) => refusal(rt, fault)?,
     }
-    write_text(b"\n");
+    write_text(rt, b"\n")?;
+    Ok(())
 }
 
 // The answer of filling, and how many rows are stored.
-fn stored_rows(answer: Written) -> usize {
+fn stored_rows(rt: &impl Print, answer: Written) -> io::Result<usize> {
     match answer {
         Written::Length(n) => {
-            write_text(b"rows ");
-            write_decimal(n);
-            n
+            write_text(rt, b"rows ")?;
+            write_decimal(rt, n)?;
+            Ok(n)
         }
         Written::Refused(fault) => {
-            refusal(fault);
-            0
+            refusal(rt, fault)?;
+            Ok(0)
         }
     }
 }
 
-fn fill_line(filled: Filled) {
+fn fill_line(rt: &impl Print, filled: Filled) -> io::Result<()> {
     let answer = filled.answer;
-    write_text(b"fill: ");
-    let n = stored_rows(answer);
+    write_text(rt, b"fill: ")?;
+    let n = stored_rows(rt, answer)?;
     if rest_unused(filled, n) {
-        write_text(b", rest as before\n");
+        write_text(rt, b", rest as before\n")?;
+        Ok(())
     } else {
-        write_text(b", rest changed\n");
+        write_text(rt, b", rest changed\n")?;
+        Ok(())
     }
 }
 
-fn bag_name(bag: usize) {
-    write_text(b"bag ");
-    write_decimal(bag);
-    write_text(b" ");
+fn bag_name(rt: &impl Print, bag: usize) -> io::Result<()> {
+    write_text(rt, b"bag ")?;
+    write_decimal(rt, bag)?;
+    write_text(rt, b" ")?;
+    Ok(())
 }
 
 // The part that the type of a bag's first attribute names.
-fn first_type(table: Table, file: &[u8], bag: usize, first: Item) {
+fn first_type(
+    rt: &impl Print,
+    table: Table,
+    file: &[u8],
+    bag: usize,
+    first: Item,
+) -> io::Result<()> {
     match first {
-        Item::Ready => {}
+        Item::Ready => Ok(()),
         Item::Attribute(row) => {
-            bag_name(bag);
-            type_line(part_of(table, file, bag, row.identifier));
+            bag_name(rt, bag)?;
+            type_line(rt, part_of(table, file, bag, row.identifier))
         }
-        Item::Done => {}
-        Item::Refused(_) => {}
+        Item::Done => Ok(()),
+        Item::Refused(_) => Ok(()),
     }
 }
 
-fn bag_lines(table: Table, file: &[u8], bag: usize, stored: IdentityRow) {
+fn bag_lines(
+    rt: &impl Print,
+    table: Table,
+    file: &[u8],
+    bag: usize,
+    stored: IdentityRow,
+) -> io::Result<()> {
     let given = three_calls(table, file, bag);
     let first = given.first;
-    bag_name(bag);
-    calls_line(given);
-    first_type(table, file, bag, first);
-    bag_name(bag);
-    id_line(identities::identity_of(table, file, bag), stored);
+    bag_name(rt, bag)?;
+    calls_line(rt, given)?;
+    first_type(rt, table, file, bag, first)?;
+    bag_name(rt, bag)?;
+    id_line(rt, identities::identity_of(table, file, bag), stored)
 }
 
 // A bag after another, and the first row that isn't there.
-fn all_bags(table: Table, file: &[u8], filled: Filled) {
+fn all_bags(rt: &impl Print, table: Table, file: &[u8], filled: Filled) -> io::Result<()> {
     let end = range::fewer(table.bag_count, pkcs12::BAG_ROWS);
     let mut i: usize = 0;
     while i <= end {
-        bag_lines(table, file, i, row_at(filled, i));
+        bag_lines(rt, table, file, i, row_at(filled, i))?;
         i = i + 1;
     }
+    Ok(())
 }
 
-fn lent_name(lent: &[u8]) {
-    write_text(b"over ");
-    write_decimal(lent.len());
-    write_text(b" bytes ");
+fn lent_name(rt: &impl Print, lent: &[u8]) -> io::Result<()> {
+    write_text(rt, b"over ")?;
+    write_decimal(rt, lent.len())?;
+    write_text(rt, b" bytes ")?;
+    Ok(())
 }
 
 // The same calls for bag 0 over other bytes than the file's.
-fn over_lines(table: Table, lent: &[u8]) {
+fn over_lines(rt: &impl Print, table: Table, lent: &[u8]) -> io::Result<()> {
     let filled = fill_rows(table, lent, [UNUSED; pkcs12::BAG_ROWS]);
-    lent_name(lent);
-    calls_line(three_calls(table, lent, 0));
-    lent_name(lent);
-    id_line(identities::identity_of(table, lent, 0), row_at(filled, 0));
-    lent_name(lent);
-    fill_line(filled);
+    lent_name(rt, lent)?;
+    calls_line(rt, three_calls(table, lent, 0))?;
+    lent_name(rt, lent)?;
+    id_line(
+        rt,
+        identities::identity_of(table, lent, 0),
+        row_at(filled, 0),
+    )?;
+    lent_name(rt, lent)?;
+    fill_line(rt, filled)
 }
 
 fn all_but_last(file: &[u8]) -> &[u8] {
@@ -300,10 +331,10 @@ fn all_but_last(file: &[u8]) -> &[u8] {
 }
 
 // All lines of a file.
-pub(crate) fn show(table: Table, file: &[u8]) {
+pub(crate) fn show(rt: &impl Print, table: Table, file: &[u8]) -> io::Result<()> {
     let filled = fill_rows(table, file, [UNUSED; pkcs12::BAG_ROWS]);
-    all_bags(table, file, filled);
-    fill_line(filled);
-    over_lines(table, &file[0..0]);
-    over_lines(table, all_but_last(file));
+    all_bags(rt, table, file, filled)?;
+    fill_line(rt, filled)?;
+    over_lines(rt, table, &file[0..0])?;
+    over_lines(rt, table, all_but_last(file))
 }

@@ -14,6 +14,8 @@ use pkcs12::{
     SafeKind, SafeRow, Table,
 };
 use range::Range;
+use std::io;
+use std::io::Read;
 use stdio::{Frame, write_decimal, write_hex, write_text};
 
 // Bytes of a frame's parts: what is in front of the rows, a row of each kind, the MAC fields.
@@ -247,98 +249,113 @@ fn unchanged(out: &[u8], from: usize) -> bool {
 }
 
 // Says whether the buffer is as it was filled, and ends the line.
-fn show_rest(out: &[u8], from: usize) {
+fn show_rest(rt: &impl Print, out: &[u8], from: usize) -> io::Result<()> {
     if unchanged(out, from) {
-        write_text(b" as before\n");
+        write_text(rt, b" as before\n")?;
+        Ok(())
     } else {
-        write_text(b" changed\n");
+        write_text(rt, b" changed\n")?;
+        Ok(())
     }
 }
 
 // The bytes in hex, on one line.
-fn show_bytes(s: &[u8]) {
+fn show_bytes(rt: &impl Print, s: &[u8]) -> io::Result<()> {
     let mut i = 0;
     while i < s.len() {
-        write_hex(s[i]);
+        write_hex(rt, s[i])?;
         i = i + 1;
     }
-    write_text(b"\n");
+    write_text(rt, b"\n")?;
+    Ok(())
 }
 
-fn show_file(out: &[u8], n: usize) {
-    write_text(b"length ");
-    write_decimal(n);
-    write_text(b", rest");
-    show_rest(out, n);
+fn show_file(rt: &impl Print, out: &[u8], n: usize) -> io::Result<()> {
+    write_text(rt, b"length ")?;
+    write_decimal(rt, n)?;
+    write_text(rt, b", rest")?;
+    show_rest(rt, out, n)?;
     if n <= out.len() {
-        show_bytes(&out[0..n]);
+        show_bytes(rt, &out[0..n])?;
     }
+    Ok(())
 }
 
-fn show_refusal(out: &[u8], fault: Fault) {
-    write_text(b"refused ");
-    write_decimal(fault.number as usize);
-    write_text(b" at ");
-    write_decimal(fault.offset);
-    write_text(b", buffer");
-    show_rest(out, 0);
+fn show_refusal(rt: &impl Print, out: &[u8], fault: Fault) -> io::Result<()> {
+    write_text(rt, b"refused ")?;
+    write_decimal(rt, fault.number as usize)?;
+    write_text(rt, b" at ")?;
+    write_decimal(rt, fault.offset)?;
+    write_text(rt, b", buffer")?;
+    show_rest(rt, out, 0)
 }
 
 // One call of the writer, and what came of it.
-fn run(table: Table, bytes: &[u8], out: &mut [u8]) {
+fn run(rt: &impl Print, table: Table, bytes: &[u8], out: &mut [u8]) -> io::Result<()> {
     fill(out);
     let written = writer::write(table, bytes, out);
     match written {
-        Written::Length(n) => show_file(out, n),
-        Written::Refused(fault) => show_refusal(out, fault),
+        Written::Length(n) => show_file(rt, out, n),
+        Written::Refused(fault) => show_refusal(rt, out, fault),
     }
 }
 
 // Writes the line `cut`. Answers that nothing more is read.
-fn cut() -> bool {
-    stdio::write_cut();
-    false
+fn cut(rt: &impl Print) -> io::Result<bool> {
+    stdio::write_cut(rt)?;
+    Ok(false)
 }
 
 // Runs the writer over a frame's table. Answers whether the frame holds one.
-fn table_frame(s: &[u8], out: &mut [u8]) -> bool {
+fn table_frame(rt: &impl Print, s: &[u8], out: &mut [u8]) -> io::Result<bool> {
     let rows = Rows::of(s);
     let start = rows.bytes_at();
     let size = u32_be(s, 0) as usize;
     if s.len() < start {
-        return cut();
+        return cut(rt);
     }
     if out.len() < size {
-        return cut();
+        return cut(rt);
     }
     if !rows.fit() {
-        return cut();
+        return cut(rt);
     }
-    run(table_of(s, rows), &s[start..], &mut out[0..size]);
-    true
+    run(rt, table_of(s, rows), &s[start..], &mut out[0..size])?;
+    Ok(true)
 }
 
 // One frame, and whether to go on.
-fn frame(buffer: &mut [u8], out: &mut [u8]) -> bool {
-    let frame = stdio::read_frame(buffer);
+fn frame(
+    rt: &impl Print,
+    input: &mut impl Read,
+    buffer: &mut [u8],
+    out: &mut [u8],
+) -> io::Result<bool> {
+    let frame = stdio::read_frame(input, buffer)?;
     match frame {
-        Frame::End => false,
-        Frame::Cut => cut(),
-        Frame::Bytes(n) => table_frame(&buffer[..n], out),
+        Frame::End => Ok(false),
+        Frame::Cut => cut(rt),
+        Frame::Bytes(n) => table_frame(rt, &buffer[..n], out),
     }
 }
 
 // Nothing says that the input ends, so the frames are counted down, from a number that no input
 // has.
-fn frames(buffer: &mut [u8], out: &mut [u8]) {
+fn frames(
+    rt: &impl Print,
+    input: &mut impl Read,
+    buffer: &mut [u8],
+    out: &mut [u8],
+) -> io::Result<()> {
     let mut left = u64::MAX;
-    while left > 0 && frame(buffer, out) {
+    while left > 0 && frame(rt, input, buffer, out)? {
         left = left - 1;
     }
+    Ok(())
 }
 
-fn main() {
-    let mut buffer = io::large_buffer();
-    let mut out = io::large_buffer();
-    frames(&mut buffer, &mut out);
+fn main(rt: HostRuntime) -> io::Result<()> {
+    let mut buffer = [0u8; stdio::LARGE];
+    let mut out = [0u8; stdio::LARGE];
+    frames(&rt, &mut rt.stdin(), &mut buffer, &mut out)
 }

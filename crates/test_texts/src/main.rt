@@ -8,6 +8,8 @@
 
 use buffer::{Written, read};
 use der::Fault;
+use std::io;
+use std::io::Read;
 use stdio::{Frame, write_decimal, write_text};
 
 // The bytes in front of the text or the bytes: the call and the length of the buffer.
@@ -16,6 +18,9 @@ const HEAD: usize = 5;
 const IMPORT: u8 = 0;
 
 const EXPORT: u8 = 1;
+
+// The most bytes that a buffer has.
+const MEMORY: usize = 4096;
 
 // What the buffer is full of.
 const UNTOUCHED: u8 = 0xA5;
@@ -41,38 +46,41 @@ fn is_kept(buffer: &[u8], from: usize) -> bool {
 }
 
 // The end of a line: whether every byte from an offset on is as before the call.
-fn show_kept(buffer: &[u8], from: usize) {
+fn show_kept(rt: &impl Print, buffer: &[u8], from: usize) -> io::Result<()> {
     if is_kept(buffer, from) {
-        write_text(b"kept\n");
+        write_text(rt, b"kept\n")?;
+        Ok(())
     } else {
-        write_text(b"changed\n");
+        write_text(rt, b"changed\n")?;
+        Ok(())
     }
 }
 
-fn show_hex(bytes: &[u8]) {
+fn show_hex(rt: &impl Print, bytes: &[u8]) -> io::Result<()> {
     let mut i = 0;
     while i < bytes.len() {
-        stdio::write_hex(bytes[i]);
+        stdio::write_hex(rt, bytes[i])?;
         i = i + 1;
     }
+    Ok(())
 }
 
 // The first n bytes of a buffer are given.
-fn show_given(buffer: &[u8], n: usize) {
-    write_decimal(n);
-    write_text(b": ");
-    show_hex(range::part(buffer, 0, n));
-    write_text(b", rest ");
-    show_kept(buffer, n);
+fn show_given(rt: &impl Print, buffer: &[u8], n: usize) -> io::Result<()> {
+    write_decimal(rt, n)?;
+    write_text(rt, b": ")?;
+    show_hex(rt, range::part(buffer, 0, n))?;
+    write_text(rt, b", rest ")?;
+    show_kept(rt, buffer, n)
 }
 
-fn show_refused(buffer: &[u8], fault: Fault) {
-    write_text(b"refused ");
-    write_decimal(fault.number as usize);
-    write_text(b" at ");
-    write_decimal(fault.offset);
-    write_text(b", ");
-    show_kept(buffer, 0);
+fn show_refused(rt: &impl Print, buffer: &[u8], fault: Fault) -> io::Result<()> {
+    write_text(rt, b"refused ")?;
+    write_decimal(rt, fault.number as usize)?;
+    write_text(rt, b" at ")?;
+    write_decimal(rt, fault.offset)?;
+    write_text(rt, b", ")?;
+    show_kept(rt, buffer, 0)
 }
 
 fn call(kind: u8, bytes: &[u8], buffer: &mut [u8]) -> Written {
@@ -83,59 +91,70 @@ fn call(kind: u8, bytes: &[u8], buffer: &mut [u8]) -> Written {
 }
 
 // One call, and its line.
-fn run(kind: u8, bytes: &[u8], buffer: &mut [u8]) {
+fn run(rt: &impl Print, kind: u8, bytes: &[u8], buffer: &mut [u8]) -> io::Result<()> {
     fill(buffer);
     let written = call(kind, bytes, buffer);
     match written {
-        Written::Length(n) => show_given(buffer, n),
-        Written::Refused(fault) => show_refused(buffer, fault),
+        Written::Length(n) => show_given(rt, buffer, n),
+        Written::Refused(fault) => show_refused(rt, buffer, fault),
     }
 }
 
 // Writes the line `cut`. Answers that nothing more is read.
-fn cut() -> bool {
-    stdio::write_cut();
-    false
+fn cut(rt: &impl Print) -> io::Result<bool> {
+    stdio::write_cut(rt)?;
+    Ok(false)
 }
 
 // The call of a frame, with a buffer in the memory. Answers whether the frame holds one.
-fn call_frame(s: &[u8], memory: &mut [u8]) -> bool {
+fn call_frame(rt: &impl Print, s: &[u8], memory: &mut [u8]) -> io::Result<bool> {
     if s.len() < HEAD {
-        return cut();
+        return cut(rt);
     }
     let kind = s[0];
     if EXPORT < kind {
-        return cut();
+        return cut(rt);
     }
     let n = read::u32_be(s, 1) as usize;
     if memory.len() < n {
-        return cut();
+        return cut(rt);
     }
-    run(kind, &s[HEAD..], &mut memory[0..n]);
-    true
+    run(rt, kind, &s[HEAD..], &mut memory[0..n])?;
+    Ok(true)
 }
 
 // One frame, and whether to go on.
-fn frame(buffer: &mut [u8], memory: &mut [u8]) -> bool {
-    let frame = stdio::read_frame(buffer);
+fn frame(
+    rt: &impl Print,
+    input: &mut impl Read,
+    buffer: &mut [u8],
+    memory: &mut [u8],
+) -> io::Result<bool> {
+    let frame = stdio::read_frame(input, buffer)?;
     match frame {
-        Frame::End => false,
-        Frame::Cut => cut(),
-        Frame::Bytes(n) => call_frame(&buffer[..n], memory),
+        Frame::End => Ok(false),
+        Frame::Cut => cut(rt),
+        Frame::Bytes(n) => call_frame(rt, &buffer[..n], memory),
     }
 }
 
 // Nothing says that the input ends, so the frames are counted down, from a number that no input
 // has.
-fn frames(buffer: &mut [u8], memory: &mut [u8]) {
+fn frames(
+    rt: &impl Print,
+    input: &mut impl Read,
+    buffer: &mut [u8],
+    memory: &mut [u8],
+) -> io::Result<()> {
     let mut left = u64::MAX;
-    while left > 0 && frame(buffer, memory) {
+    while left > 0 && frame(rt, input, buffer, memory)? {
         left = left - 1;
     }
+    Ok(())
 }
 
-fn main() {
-    let mut buffer = io::large_buffer();
-    let mut memory = io::buffer();
-    frames(&mut buffer, &mut memory);
+fn main(rt: HostRuntime) -> io::Result<()> {
+    let mut buffer = [0u8; stdio::LARGE];
+    let mut memory = [0u8; MEMORY];
+    frames(&rt, &mut rt.stdin(), &mut buffer, &mut memory)
 }

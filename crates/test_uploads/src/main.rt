@@ -9,6 +9,8 @@ ghost use Rattle.std.specs.Prelude.{◌<◌, length};
 
 use buffer::read;
 use der::Fault;
+use std::io;
+use std::io::Read;
 use stdio::{Frame, write_decimal, write_text};
 use stream::{End, Status, Upload};
 
@@ -17,35 +19,38 @@ const PORTIONS: usize = 4;
 
 const LENGTH: usize = 2;
 
-fn show_refused(fault: Fault, after: usize) {
-    write_text(b"refused ");
-    write_decimal(fault.number as usize);
-    write_text(b" at ");
-    write_decimal(fault.offset);
-    write_text(b" after ");
-    write_decimal(after);
+fn show_refused(rt: &impl Print, fault: Fault, after: usize) -> io::Result<()> {
+    write_text(rt, b"refused ")?;
+    write_decimal(rt, fault.number as usize)?;
+    write_text(rt, b" at ")?;
+    write_decimal(rt, fault.offset)?;
+    write_text(rt, b" after ")?;
+    write_decimal(rt, after)?;
+    Ok(())
 }
 
-fn show_passed(elements: usize, level: usize) {
-    write_text(b"passed ");
-    write_decimal(elements);
-    write_text(b" elements, level ");
-    write_decimal(level);
+fn show_passed(rt: &impl Print, elements: usize, level: usize) -> io::Result<()> {
+    write_text(rt, b"passed ")?;
+    write_decimal(rt, elements)?;
+    write_text(rt, b" elements, level ")?;
+    write_decimal(rt, level)?;
+    Ok(())
 }
 
-fn show_status(status: Status) {
+fn show_status(rt: &impl Print, status: Status) -> io::Result<()> {
     match status {
         Status::NoFault => {
-            write_text(b"none");
+            write_text(rt, b"none")?;
+            Ok(())
         }
-        Status::Refused { fault, after } => show_refused(fault, after),
+        Status::Refused { fault, after } => show_refused(rt, fault, after),
     }
 }
 
-fn show_end(end: End) {
+fn show_end(rt: &impl Print, end: End) -> io::Result<()> {
     match end {
-        End::Passed { elements, level } => show_passed(elements, level),
-        End::Refused { fault, after } => show_refused(fault, after),
+        End::Passed { elements, level } => show_passed(rt, elements, level),
+        End::Refused { fault, after } => show_refused(rt, fault, after),
     }
 }
 
@@ -68,64 +73,66 @@ fn is_whole(s: &[u8]) -> bool {
 }
 
 // The upload after the portions of a frame. Writes the status after each.
-fn portions(mut upload: Upload, s: &[u8]) -> Upload {
+fn portions(rt: &impl Print, mut upload: Upload, s: &[u8]) -> io::Result<Upload> {
     let mut at = PORTIONS;
     while at < s.len() {
         let start = at + LENGTH;
         at = behind(s, at);
         upload = upload.take(range::part(s, start, at));
-        write_text(b", ");
-        show_status(upload.status());
+        write_text(rt, b", ")?;
+        show_status(rt, upload.status())?;
     }
-    upload
+    Ok(upload)
 }
 
 // The line of a frame.
-fn run(s: &[u8]) {
+fn run(rt: &impl Print, s: &[u8]) -> io::Result<()> {
     let announced = read::u32_be(s, 0) as usize;
     let begun = Upload::begin(announced);
-    show_status(begun.status());
-    let upload = portions(begun, s);
-    write_text(b", end: ");
-    show_end(upload.end());
-    write_text(b"\n");
+    show_status(rt, begun.status())?;
+    let upload = portions(rt, begun, s)?;
+    write_text(rt, b", end: ")?;
+    show_end(rt, upload.end())?;
+    write_text(rt, b"\n")?;
+    Ok(())
 }
 
 // Writes the line `cut`. Answers that nothing more is read.
-fn cut() -> bool {
-    stdio::write_cut();
-    false
+fn cut(rt: &impl Print) -> io::Result<bool> {
+    stdio::write_cut(rt)?;
+    Ok(false)
 }
 
 // The upload of a frame. Answers whether the frame holds one.
-fn upload_frame(s: &[u8]) -> bool {
+fn upload_frame(rt: &impl Print, s: &[u8]) -> io::Result<bool> {
     if !is_whole(s) {
-        return cut();
+        return cut(rt);
     }
-    run(s);
-    true
+    run(rt, s)?;
+    Ok(true)
 }
 
 // One frame, and whether to go on.
-fn frame(buffer: &mut [u8]) -> bool {
-    let frame = stdio::read_frame(buffer);
+fn frame(rt: &impl Print, input: &mut impl Read, buffer: &mut [u8]) -> io::Result<bool> {
+    let frame = stdio::read_frame(input, buffer)?;
     match frame {
-        Frame::End => false,
-        Frame::Cut => cut(),
-        Frame::Bytes(n) => upload_frame(&buffer[..n]),
+        Frame::End => Ok(false),
+        Frame::Cut => cut(rt),
+        Frame::Bytes(n) => upload_frame(rt, &buffer[..n]),
     }
 }
 
 // Nothing says that the input ends, so the frames are counted down, from a number that no input
 // has.
-fn frames(buffer: &mut [u8]) {
+fn frames(rt: &impl Print, input: &mut impl Read, buffer: &mut [u8]) -> io::Result<()> {
     let mut left = u64::MAX;
-    while left > 0 && frame(buffer) {
+    while left > 0 && frame(rt, input, buffer)? {
         left = left - 1;
     }
+    Ok(())
 }
 
-fn main() {
-    let mut buffer = io::large_buffer();
-    frames(&mut buffer);
+fn main(rt: HostRuntime) -> io::Result<()> {
+    let mut buffer = [0u8; stdio::LARGE];
+    frames(&rt, &mut rt.stdin(), &mut buffer)
 }

@@ -3,10 +3,13 @@
 // such.
 #![tactic(auto)]
 
-fn main() {
+use std::io;
+
+fn main(rt: HostRuntime) -> io::Result<()> {
     let mut buffer = [0u8; source::READ_BYTES];
-    let mut out = io::large_buffer();
-    let n = stdio::read_all(&mut buffer);
+    let mut out = [0u8; stdio::LARGE];
+    let n = stdio::read_all(&mut rt.stdin(), &mut buffer)?;
     let written = source::import(&buffer[..n], &mut out);
-    stdio::write_result(&out, written);
+    stdio::write_result(&rt, &out, written)?;
+    Ok(())
 }

@@ -7,34 +7,41 @@ ghost use Rattle.stream.specs.Upload.{taken};
 
 use buffer::read;
 use der::Fault;
+use std::io;
+use std::io::Read;
 use stdio::{write_decimal, write_text};
 use stream::{End, Upload};
 
 // The bytes of the announced length.
 const LENGTH: usize = 4;
 
-fn show_passed(elements: usize, level: usize) {
-    write_text(b"passed ");
-    write_decimal(elements);
-    write_text(b" elements, level ");
-    write_decimal(level);
-    write_text(b"\n");
+// The most bytes that are read at a time.
+const PIECE: usize = 4096;
+
+fn show_passed(rt: &impl Print, elements: usize, level: usize) -> io::Result<()> {
+    write_text(rt, b"passed ")?;
+    write_decimal(rt, elements)?;
+    write_text(rt, b" elements, level ")?;
+    write_decimal(rt, level)?;
+    write_text(rt, b"\n")?;
+    Ok(())
 }
 
-fn show_refused(fault: Fault, after: usize) {
-    write_text(b"refused ");
-    write_decimal(fault.number as usize);
-    write_text(b" at ");
-    write_decimal(fault.offset);
-    write_text(b" after ");
-    write_decimal(after);
-    write_text(b" bytes\n");
+fn show_refused(rt: &impl Print, fault: Fault, after: usize) -> io::Result<()> {
+    write_text(rt, b"refused ")?;
+    write_decimal(rt, fault.number as usize)?;
+    write_text(rt, b" at ")?;
+    write_decimal(rt, fault.offset)?;
+    write_text(rt, b" after ")?;
+    write_decimal(rt, after)?;
+    write_text(rt, b" bytes\n")?;
+    Ok(())
 }
 
-fn show(end: End) {
+fn show(rt: &impl Print, end: End) -> io::Result<()> {
     match end {
-        End::Passed { elements, level } => show_passed(elements, level),
-        End::Refused { fault, after } => show_refused(fault, after),
+        End::Passed { elements, level } => show_passed(rt, elements, level),
+        End::Refused { fault, after } => show_refused(rt, fault, after),
     }
 }
 
@@ -52,38 +59,40 @@ fn one_by_one(first: Upload, bytes: &[u8]) -> Upload
     upload
 }
 
-// The upload after the rest of standard input, which is read piece by piece until it ends. Nothing
-// says that it does, so the pieces are counted down, from a number that no input has.
-fn rest(mut upload: Upload, piece: &mut [u8]) -> Upload {
+// The upload after the rest of an input, which is read piece by piece until it ends. Nothing says
+// that it does, so the pieces are counted down, from a number that no input has.
+fn rest(input: &mut impl Read, mut upload: Upload, piece: &mut [u8]) -> io::Result<Upload> {
     let mut left = u64::MAX;
     while left > 0 {
-        let n = stdio::read_all(piece);
+        let n = stdio::read_all(input, piece)?;
         upload = one_by_one(upload, &piece[..n]);
         if n < piece.len() {
-            return upload;
+            return Ok(upload);
         }
         left = left - 1;
     }
-    upload
+    Ok(upload)
 }
 
 // The answer for an announced length and what follows it.
-fn answer(length: usize) -> End {
-    let mut piece = io::buffer();
-    let upload = rest(Upload::begin(length), &mut piece);
-    upload.end()
+fn answer(input: &mut impl Read, length: usize) -> io::Result<End> {
+    let mut piece = [0u8; PIECE];
+    let upload = rest(input, Upload::begin(length), &mut piece)?;
+    Ok(upload.end())
 }
 
 // An input that ends before the announced length is complete is an upload that ends early.
-fn main() {
+fn main(rt: HostRuntime) -> io::Result<()> {
+    let mut input = rt.stdin();
     let mut length = [0u8; LENGTH];
-    if stdio::read_all(&mut length) < LENGTH {
+    if stdio::read_all(&mut input, &mut length)? < LENGTH {
         let fault = Fault {
             number: header::EARLY,
             offset: 0,
         };
-        show_refused(fault, 0);
+        show_refused(&rt, fault, 0)
     } else {
-        show(answer(read::u32_be(&length, 0) as usize));
+        let end = answer(&mut input, read::u32_be(&length, 0) as usize)?;
+        show(&rt, end)
     }
 }

@@ -3,10 +3,13 @@
 // such.
 #![tactic(auto)]
 
-fn main() {
-    let mut buffer = io::large_buffer();
+use std::io;
+
+fn main(rt: HostRuntime) -> io::Result<()> {
+    let mut buffer = [0u8; stdio::LARGE];
     let mut out = [0u8; pem::TEXT_BYTES];
-    let n = stdio::read_all(&mut buffer);
+    let n = stdio::read_all(&mut rt.stdin(), &mut buffer)?;
     let written = pem::export(&buffer[..n], &mut out);
-    stdio::write_result(&out, written);
+    stdio::write_result(&rt, &out, written)?;
+    Ok(())
 }

@@ -1,0 +1,13 @@
+-- The whole line is handed on: it is shorter than the buffer.
+use Rattle.std.proofs.Common.{rules}
+use Rattle.source.proofs.Sources.{whole_line}
+use Rattle.stdio.proofs.Handed.{at_ok}
+use Rattle.source.proofs.say_unwrapped.Goals as goal
+
+pub returns : goal.returns
+returns c =
+    at_ok c.write_error.result _ _
+    (λ k e.
+    whole_line c.args.n c.unwrapped_line-end.result k _ c.unwrapped_line-end.new.out c.part.ensures
+    (search rules) c.unwrapped_line-end.ensures.next e)
+    c.write_error.ensures

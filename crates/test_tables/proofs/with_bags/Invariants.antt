@@ -1,0 +1,10 @@
+-- Fewer rows are left each time, and the offsets stay small.
+use Rattle.std.proofs.Common.{◌-◌, ◌≤◌}
+use Rattle.pkcs12.specs.Numbers.{bag_rows}
+use Rattle.test_tables.proofs.with_bags.Given as goal
+
+abbrev pub invariant-loop-i : goal.invariant-loop-i
+invariant-loop-i l = (l.end ≤ bag_rows) × (l.end ≤ l.n)
+
+abbrev pub decreases-loop-i : goal.decreases-loop-i
+decreases-loop-i l = l.end - l.i

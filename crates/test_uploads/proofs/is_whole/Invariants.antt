@@ -1,0 +1,6 @@
+-- The loop over portions ends: each leaves fewer bytes.
+use Rattle.std.proofs.Common.{◌-◌, length}
+use Rattle.test_uploads.proofs.is_whole.Given as goal
+
+abbrev pub decreases-loop-at : goal.decreases-loop-at
+decreases-loop-at l = length l.initial.s - l.at
