@@ -1,7 +1,7 @@
 -- A sound table's rows and its reading: a table has a file exactly if it is sound, and its rows
 -- show the bags and attributes of the reading.
 use mathlib.Core.Path.{◌≡◌, refl, sym, ◌∙◌, ap}
-use mathlib.Core.List.{List, [], map}
+use mathlib.Core.List.{List, map}
 use mathlib.Core.Option.{Option, some}
 use mathlib.Core.Option as option
 use Prim.Native.Nat.{ℕ}

@@ -3,7 +3,7 @@ use mathlib.Core.Path.{◌≡◌, refl}
 use mathlib.Core.List.{List, [], ◌∷◌}
 use Prim.Native.Nat.{ℕ, zero, suc, ◌+◌, ◌≤◌}
 use native.Mathlib.Omega.{arith}
-use lib.ListN.{length, get_or}
+use lib.ListN.{length}
 use Rattle.buffer.specs.BigEndian.{byte_at, u16_at, u32_at}
 
 pub no_byte : (s : List ℕ) (i : ℕ) → length s ≤ i → 0 ≡ byte_at s i

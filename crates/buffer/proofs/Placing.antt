@@ -2,12 +2,11 @@
 -- same under a condition.
 use mathlib.Core.Path.{◌≡◌, refl, sym, ap, ◌∙◌}
 use mathlib.Core.List.{List, [], ◌∷◌, ◌++◌}
-use Prim.Native.Nat.{ℕ, zero, suc, ◌+◌, ◌-◌, ◌≤◌, ◌<◌, min}
+use Prim.Native.Nat.{ℕ, zero, suc, ◌+◌, ◌-◌, ◌≤◌}
 use native.Mathlib.Numerals.{add-one}
 use native.Mathlib.Omega.{arith}
 use lib.ListN.{length, set, take, drop, length-append, length-set, length-take}
 use lib.Seq.{sets, set_out, length-sets, sets-eq, take_all, take-nil}
-use Rattle.buffer.specs.Numbers.{file_bytes}
 use Rattle.buffer.specs.Placed.{greatest, counted, behind, Placed, Put, Short, each}
 
 -- ---- a run of stores

@@ -1,7 +1,6 @@
 -- What is proved of numbers in a buffer, beside the contracts.
-use mathlib.Core.List.{List}
-use mathlib.Core.Path.{◌≡◌, sym}
-use Prim.Native.Nat.{ℕ, ◌+◌, ◌*◌, ◌/◌, ◌%◌, ◌<◌}
+use mathlib.Core.Path.{◌≡◌}
+use Prim.Native.Nat.{ℕ, ◌<◌}
 use native.Mathlib.Omega.{arith}
 use Rattle.buffer.specs.BigEndian.{u16_octets, u32_octets, u16_at, u32_at}
 use Rattle.buffer.specs.Decimal.{number_of}

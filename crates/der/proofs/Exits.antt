@@ -2,7 +2,7 @@
 -- ensures.
 use seplogic.Ra.Ura.{Ura}
 use mathlib.Core.List.{List}
-use base.Logic.{SProp, ent, sep, via, assoc∗, mono_r, fst∗, snd∗}
+use base.Logic.{SProp, ent, sep, via, assoc∗, fst∗, snd∗}
 use types.Logic.{Logic}
 use contract.Monad.{fact, fact_i, fact_use}
 use types.Kit.{Item, prop, Step, step, suffices, ◌$◌}

@@ -2,11 +2,11 @@
 -- them (see der's Choices), and bounds.
 use mathlib.Core.Path.{◌≡◌, refl, sym, ◌∙◌}
 use mathlib.Core.Bool.{Bool, true, false}
-use mathlib.Core.List.{List, [], map}
+use mathlib.Core.List.{List}
 use Prim.Native.Nat.{ℕ, ◌+◌, ◌≤◌, ◌<◌, min}
 use native.Mathlib.Omega.{arith}
 use borrow.Author.Tests.{eq-eqb, ne_eqb, lt-ltb, le-ltb, le-leb, lt-leb}
-use lib.ListN.{length, get_or, length-map, length-take, get_or-eq_default}
+use lib.ListN.{length, get_or, length-take, get_or-eq_default}
 use Rattle.der.specs.Numbers.{octet_string_tag}
 use Rattle.der.specs.Element.{cursor, element_at, expect_at}
 use Rattle.der.specs.declared.Fault.{Fault}

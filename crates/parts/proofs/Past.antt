@@ -28,7 +28,6 @@ use Rattle.pkcs12.specs.Numbers.{encrypted_version}
 use Rattle.range.specs.Bytes.{same_bytes}
 use Rattle.pkcs12.specs.Identifiers.{data_type, x509_certificate}
 use Rattle.pkcs12.specs.Walk.{algorithm_at, sealed_at, key_at, value_at, typed_at, encrypted_info_at, encrypted_at}
-use Rattle.pkcs12.specs.Walk.{Refused}
 use Rattle.pkcs12.specs.declared.row.Parts.{Parts}
 use Rattle.pkcs12.specs.declared.answers.PartsAt.{PartsAt}
 use Rattle.pkcs12.proofs.Parents.{by_finish}

@@ -1,7 +1,6 @@
 -- The table: its rows as lists, padded with empty rows; what it shows of bytes.
-use Rattle.std.specs.Prelude.{Bool, false, List, [], ◌++◌, map, ℕ, ◌+◌, ◌-◌, min, length, take, replicate}
+use Rattle.std.specs.Prelude.{Bool, false, List, [], ◌++◌, map, ℕ, ◌-◌, min, length, take, replicate}
 use Rattle.std.proofs.Math.Option.{Option}
-use Rattle.std.proofs.Math.Seq.{slice}
 use Rattle.pkcs12.specs.Numbers.{safe_rows, bag_rows, attribute_rows}
 use Rattle.pkcs12.specs.Syntax.{Algorithm, Sealed, Typed, certificate, crl, secret, Leaf, key, shrouded, typed}
 use Rattle.pkcs12.specs.Syntax.{MacData, Pfx}

@@ -1,17 +1,14 @@
 -- What writing a table's file does (Rules 6.1, 6.8 to 6.10).
-use Rattle.std.specs.Prelude.{List, ◌++◌, ℕ, ltb, length, drop}
+use Rattle.std.specs.Prelude.{List, ℕ, ltb, length}
 use Rattle.std.proofs.Math.Option.{Option, some}
 use Rattle.std.proofs.Math.Option as option
 use Rattle.std.specs.Prelude.{if◌then◌else◌}
-use Rattle.der.specs.Element.{fault}
 use Rattle.buffer.specs.Numbers.{file_bytes, too_long, short_buffer, not_sound}
 use Rattle.pkcs12.specs.Syntax.{Pfx}
 use Rattle.pkcs12.specs.Encode.{encode}
 use Rattle.pkcs12.specs.Table.{reading_of}
 use Rattle.pkcs12.specs.Checks.{keeps_rules}
 use Rattle.pkcs12.specs.declared.table.Table.{Table}
-use Rattle.buffer.specs.declared.Written.{Written}
-use Rattle.buffer.specs.declared.Written.TheVariants.{Length}
 use Rattle.buffer.specs.Written.{Outcome, refusal, success}
 
 abbrev pub written_as : Option Pfx → Option (List ℕ)

@@ -12,7 +12,6 @@ use Rattle.der.specs.Element.{fault, whole_of, finish_at, expect_at, on_element}
 use Rattle.der.specs.Content.{bytes_of, identifier_at, integer_at}
 use Rattle.der.specs.Opaque.{on_checked}
 use Rattle.der.specs.declared.Cursor.{Cursor}
-use Rattle.der.specs.declared.Element.TheVariants.{Found}
 use Rattle.der.specs.declared.Checked.{Checked}
 use Rattle.buffer.specs.Numbers.{file_bytes, too_long}
 use Rattle.pkcs12.specs.Numbers.{not_served, pfx_version}

@@ -11,7 +11,6 @@ use Rattle.der.specs.Element.{finish_at, expect_at}
 use Rattle.der.specs.Content.{bytes_of, identifier_at}
 use Rattle.der.specs.Opaque.{on_checked}
 use Rattle.der.specs.declared.Cursor.{Cursor}
-use Rattle.der.specs.declared.Element.TheVariants.{Found}
 use Rattle.der.specs.declared.Checked.{Checked}
 use Rattle.pkcs12.specs.Numbers.{safe_rows, bag_rows, levels}
 use Rattle.range.specs.Bytes.{same_bytes}

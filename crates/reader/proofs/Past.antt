@@ -11,7 +11,6 @@ use Rattle.der.specs.Numbers.{octet_string_tag, integer_tag, sequence_tag, set_t
 use Rattle.der.specs.Element.{tag_at}
 use Rattle.der.specs.Content.{bytes_of}
 use Rattle.der.specs.declared.Cursor.{Cursor}
-use Rattle.der.specs.declared.Element.TheVariants.{Found}
 use Rattle.der.proofs.Choices.{by_test, by_le, by_eq}
 use Rattle.pkcs12.specs.Numbers.{safe_rows, bag_rows, attribute_rows, levels}
 use Rattle.pkcs12.specs.Numbers.{default_iterations}

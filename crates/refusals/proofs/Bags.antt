@@ -1,13 +1,12 @@
 -- Attributes and bags: the walk beside the account.
 use mathlib.Core.Bool.{Bool, true, false}
-use mathlib.Core.Path.{◌≡◌, refl, sym, ap, ◌∙◌}
+use mathlib.Core.Path.{◌≡◌, refl, sym, ◌∙◌}
 use mathlib.Core.List.{List, [], ◌∷◌, ◌++◌}
-use Prim.Native.Nat.{ℕ, zero, suc, ◌+◌, ◌-◌, ◌≤◌, ◌<◌}
+use Prim.Native.Nat.{ℕ, zero, suc, ◌-◌, ◌≤◌, ◌<◌}
 use native.Mathlib.Omega.{arith}
 use lib.Dec.{leb, ltb, eqb}
 use lib.ListN.{length, length-append}
 use lib.Seq.{length-slice}
-use Rattle.std.specs.Prelude.{if◌then◌else◌}
 use Rattle.der.specs.Element.{cursor, tag_at, finish_at, expect_at, on_element}
 use Rattle.der.specs.Content.{bytes_of}
 use Rattle.der.specs.Opaque.{on_checked, elements_at}
@@ -18,7 +17,7 @@ use Rattle.range.specs.Bytes.{same_bytes}
 use Rattle.pkcs12.specs.Identifiers.{identifier_of, kind_of}
 use Rattle.pkcs12.specs.Table.{Rows, no_parts, bag_row}
 use Rattle.pkcs12.specs.Walk.{Walked, Refused, Went, on_walked, go_on, run, counting, add_safe, add_bag, add_attribute}
-use Rattle.pkcs12.specs.Walk.{attribute_at, set_at, Owner, owner, leaf_at, content_at, on_kind, bag_at, safe_contents_at}
+use Rattle.pkcs12.specs.Walk.{attribute_at, set_at, Owner, leaf_at, content_at, on_kind, bag_at, safe_contents_at}
 use Rattle.pkcs12.specs.Walk.{key_at, sealed_at, typed_at}
 use Rattle.pkcs12.specs.declared.kind.BagKind.{BagKind}
 use Rattle.pkcs12.specs.declared.kind.BagKind.TheVariants.{Key, ShroudedKey, Certificate, Crl, Secret, Nested}
@@ -26,16 +25,16 @@ use Rattle.pkcs12.specs.declared.row.SafeRow.{SafeRow}
 use Rattle.pkcs12.specs.declared.row.BagRow.{BagRow}
 use Rattle.pkcs12.specs.declared.row.AttributeRow.{AttributeRow}
 use Rattle.pkcs12.specs.declared.answers.PartsAt.{PartsAt}
-use Rattle.refusals.specs.Element.{Left, Made, Account, stops, goes, Rule, closed, allowed, onwards, ◌before◌}
-use Rattle.refusals.specs.Element.{front_body, each, each_of, if_tag, is, any, constructed, primitive, opaque}
+use Rattle.refusals.specs.Element.{Left, Made, Account, stops, goes, Rule, closed, allowed, onwards}
+use Rattle.refusals.specs.Element.{front_body, each, if_tag, is, any, constructed, opaque}
 use Rattle.refusals.specs.Bodies.{is_identifier, bag_id, any_type, bag_type}
 use Rattle.refusals.specs.Grammar.{sealed, typed, more_safes, more_bags, more_attributes, attribute, bag_value, bag}
 use Rattle.refusals.specs.Grammar.{safe_contents}
 use Rattle.refusals.proofs.Headers.{Lies}
-use Rattle.refusals.proofs.Links.{here, left_to, Past, Stands, link_test, link_expect, link_identifier}
+use Rattle.refusals.proofs.Links.{here, left_to, Past, link_test, link_expect, link_identifier}
 use Rattle.refusals.proofs.Links.{link_finish, first_tag}
 use Rattle.refusals.proofs.Loops.{link_many}
-use Rattle.refusals.proofs.Agree.{Agree, Full, full_closed, made_in, parts_out, walked_out, by_checked, by_parts}
+use Rattle.refusals.proofs.Agree.{Agree, Full, full_closed, made_in, parts_out, walked_out, by_checked}
 use Rattle.refusals.proofs.Agree.{by_walked}
 use Rattle.refusals.proofs.Opaque.{elements_agree}
 use Rattle.refusals.proofs.Parts.{any_type_lem, no_type, sealed_agrees, key_agrees, typed_agrees}

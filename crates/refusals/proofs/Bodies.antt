@@ -1,17 +1,17 @@
 -- The bodies of identifiers and integers: what the walk allows is what the account allows.
 use mathlib.Core.Bool.{Bool, true, false}
-use mathlib.Core.Path.{◌≡◌, refl, sym, ◌∙◌}
+use mathlib.Core.Path.{◌≡◌, refl, sym}
 use mathlib.Core.List.{List, [], ◌∷◌}
-use Prim.Native.Nat.{ℕ, ◌+◌, ◌≤◌, ◌<◌}
+use Prim.Native.Nat.{ℕ, ◌≤◌}
 use native.Mathlib.Omega.{arith}
-use lib.Dec.{leb, ltb, eqb}
-use lib.ListN.{length, get_or}
-use borrow.Author.Tests.{lt-ltb, le-ltb, le-leb, eq-eqb, ltb-true, ltb-false, leb-true, eqb-false}
+use lib.Dec.{ltb, eqb}
+use lib.ListN.{length}
+use borrow.Author.Tests.{lt-ltb, le-ltb, le-leb, ltb-true, leb-true}
 use Rattle.std.specs.Prelude.{if◌then◌else◌}
 use Rattle.der.specs.Content.{parts, identifier_body, bytes_of, integer_body, integer_value}
 use Rattle.der.specs.Octets.{IntegerRule, number}
 use Rattle.der.specs.declared.Cursor.{Cursor}
-use Rattle.der.proofs.Choices.{never, by_test, by_lt, by_eq}
+use Rattle.der.proofs.Choices.{never, by_lt, by_eq}
 use Rattle.der.proofs.Content.{integer_rule_of, integer_body_of, integer_value_of}
 use Rattle.refusals.specs.Bodies.{ends_low, parts_begin, is_identifier, is_integer}
 

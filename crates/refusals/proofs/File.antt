@@ -1,27 +1,24 @@
 -- Safes and the file: the walk beside the account.
-use mathlib.Core.Bool.{Bool, true, false}
+use mathlib.Core.Bool.{true, false}
 use mathlib.Core.Path.{◌≡◌, refl, sym}
 use mathlib.Core.List.{List, []}
-use Prim.Native.Nat.{ℕ, ◌≤◌}
+use Prim.Native.Nat.{ℕ}
 use native.Mathlib.Omega.{arith}
 use lib.Dec.{leb, ltb, eqb}
 use lib.ListN.{length}
-use lib.Seq.{slice, take-length}
-use borrow.Author.Tests.{ltb-false}
+use lib.Seq.{take-length}
 use Rattle.std.specs.Prelude.{if◌then◌else◌}
 use Rattle.der.specs.Element.{whole_of, finish_at}
 use Rattle.der.specs.Content.{bytes_of}
 use Rattle.der.specs.Octets.{number}
 use Rattle.der.specs.Opaque.{on_checked}
-use Rattle.der.specs.declared.Fault.{Fault}
 use Rattle.der.specs.declared.Cursor.{Cursor}
-use Rattle.buffer.specs.Numbers.{file_bytes}
 use Rattle.range.specs.Bytes.{same_bytes}
 use Rattle.pkcs12.specs.Identifiers as identifiers
 use Rattle.pkcs12.specs.Table.{Rows, no_parts, safe_row}
 use Rattle.pkcs12.specs.Walk.{Walked, Refused, Went, on_walked, run, owner, safe_contents_at, data_at, plain_at}
 use Rattle.pkcs12.specs.Walk.{sealed_safe_at, safe_value_at, safe_at, start_rows, safes_at, outer_value_at, outer_at}
-use Rattle.pkcs12.specs.Walk.{encrypted_at, mac_at, refused, body_at, on_answer, alone, pfx_at, read_file}
+use Rattle.pkcs12.specs.Walk.{encrypted_at, mac_at, refused, body_at, alone, pfx_at, read_file}
 use Rattle.pkcs12.specs.declared.kind.SafeKind.TheVariants.{Plain}
 use Rattle.pkcs12.specs.declared.row.Enclosing.{Enclosing}
 use Rattle.pkcs12.specs.declared.answers.Answer.{Answer}
@@ -33,7 +30,7 @@ use Rattle.refusals.specs.Bodies.{is_identifier, is_integer, outer_type, safe_ty
 use Rattle.refusals.specs.Grammar.{encrypted_data, more_safes, safe_contents, wrapped, safe_value, safe, outer}
 use Rattle.refusals.specs.Grammar.{mac_data, pfx, none_made, account_of}
 use Rattle.refusals.proofs.Headers.{Lies}
-use Rattle.refusals.proofs.Links.{here, Past, Stands, link_test, link_expect, link_identifier, link_integer}
+use Rattle.refusals.proofs.Links.{here, Past, link_test, link_expect, link_identifier, link_integer}
 use Rattle.refusals.proofs.Links.{link_finish, link_served}
 use Rattle.refusals.proofs.Agree.{Agree, Full, full_closed, made_in, walked_out, by_parts, by_mac, by_walked}
 use Rattle.refusals.proofs.Parts.{encrypted_agrees}

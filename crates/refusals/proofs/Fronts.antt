@@ -3,7 +3,7 @@
 use mathlib.Core.Bool.{Bool, true, false}
 use mathlib.Core.Path.{◌≡◌, refl, sym, ap, ◌∙◌}
 use mathlib.Core.List.{List, [], ◌∷◌, ◌++◌}
-use Prim.Native.Nat.{ℕ, zero, suc, ◌+◌, ◌*◌, ◌%◌, ◌≤◌, ◌<◌}
+use Prim.Native.Nat.{ℕ, ◌+◌, ◌*◌, ◌%◌, ◌≤◌, ◌<◌}
 use native.Mathlib.Omega.{arith}
 use lib.Dec.{ltb, eqb}
 use lib.ListN.{length, take, drop, length-append, length-drop}
@@ -12,8 +12,8 @@ use borrow.Author.Tests.{lt-ltb, le-ltb}
 use Rattle.std.specs.Prelude.{if◌then◌else◌}
 use Rattle.der.proofs.Choices.{by_lt, by_eq}
 use Rattle.refusals.specs.Element.{Left, left, Made, Account, stops, goes, Rule, Header, wrong, right, on_header}
-use Rattle.refusals.specs.Element.{fitting, after81, after82, sized, header, where_none, closed, Content, walked}
-use Rattle.refusals.specs.Element.{inside, element, is, never, constructed}
+use Rattle.refusals.specs.Element.{fitting, after81, after82, sized, header, where_none, closed}
+use Rattle.refusals.specs.Element.{element, is, constructed}
 use Rattle.refusals.proofs.Kept.{OfHeader, header_of}
 
 -- ---- a header in a longer list

@@ -22,7 +22,7 @@ use Rattle.refusals.specs.Element.{anything, opaque}
 use Rattle.refusals.specs.Bodies.{pkcs7, bag_id, is_identifier, is_integer, any_type, outer_type, safe_type, data_type}
 use Rattle.refusals.specs.Bodies.{bag_type, version, encrypted_version, iterations}
 use Rattle.refusals.specs.Grammar.{algorithm, sealed, value_tag, typed, encrypted_info, encrypted_data, row}
-use Rattle.refusals.specs.Grammar.{attribute, bag_value, bag, safe_contents, wrapped, safe_value, safe, outer}
+use Rattle.refusals.specs.Grammar.{attribute, bag_value, bag, safe_contents, safe_value, safe, outer}
 use Rattle.refusals.specs.Grammar.{mac_data, pfx}
 
 -- ---- the header

@@ -3,14 +3,12 @@
 -- refusal stays one.
 use mathlib.Core.Bool.{Bool, true, false}
 use mathlib.Core.Path.{◌≡◌, refl, sym, ap, ◌∙◌}
-use mathlib.Core.List.{List, [], ◌∷◌}
-use Prim.Native.Nat.{ℕ, zero, suc, ◌+◌, ◌-◌, ◌≤◌, ◌<◌}
+use mathlib.Core.List.{List}
+use Prim.Native.Nat.{ℕ, ◌+◌, ◌-◌, ◌<◌}
 use native.Mathlib.Omega.{arith}
-use lib.Dec.{leb, ltb, eqb}
-use lib.ListN.{length, get_or, take, drop}
+use lib.Dec.{leb, eqb}
 use borrow.Author.Tests.{lt-ltb, le-ltb, le-leb, lt-leb, eqb-true}
 use Rattle.std.specs.Prelude.{if◌then◌else◌}
-use Rattle.der.specs.Numbers.{identifier_tag, integer_tag}
 use Rattle.der.specs.Element.{cursor, tag_at, finish_at, element_at, expect_at, on_element}
 use Rattle.der.specs.Content.{bytes_of, identifier_body, identifier_at, integer_body, integer_value, integer_at, on_integer}
 use Rattle.der.specs.Opaque.{on_checked}
@@ -21,11 +19,9 @@ use Rattle.der.specs.declared.Element.{Element}
 use Rattle.der.specs.declared.Element.TheVariants.{Found}
 use Rattle.der.specs.declared.Integer.{Integer}
 use Rattle.der.specs.declared.Integer.TheVariants.{Value}
-use Rattle.der.specs.declared.Checked.{Checked}
-use Rattle.der.specs.declared.Checked.TheVariants.{Passed}
 use Rattle.der.proofs.Choices.{either}
 use Rattle.der.proofs.Placed.{left_is, left_none}
-use Rattle.refusals.specs.Element.{Left, left, Made, Account, stops, goes, Rule, Header, wrong, right, header}
+use Rattle.refusals.specs.Element.{Left, left, Made, Account, stops, goes, Rule, header}
 use Rattle.refusals.specs.Element.{closed, Content, judged, allowed, inside, element, front_body, served}
 use Rattle.refusals.specs.Element.{first_is, is, never, primitive}
 use Rattle.refusals.specs.Bodies.{is_identifier, is_integer}

@@ -2,7 +2,7 @@
 use mathlib.Core.Bool.{true, false}
 use mathlib.Core.Path.{◌≡◌, refl, sym}
 use mathlib.Core.List.{List}
-use Prim.Native.Nat.{ℕ, ◌+◌, ◌≤◌, ◌<◌}
+use Prim.Native.Nat.{ℕ, ◌+◌}
 use native.Mathlib.Omega.{arith}
 use lib.Dec.{leb, eqb}
 use borrow.Author.Tests.{le-leb, lt-leb}
@@ -19,11 +19,11 @@ use Rattle.pkcs12.specs.declared.row.Parts.{Parts}
 use Rattle.pkcs12.specs.declared.row.Mac.{Mac}
 use Rattle.pkcs12.specs.declared.answers.MacAt.{MacAt}
 use Rattle.refusals.specs.Element.{Left, Made, Account, stops, goes, closed, allowed, onwards, ◌before◌, if_tag}
-use Rattle.refusals.specs.Element.{first_is, anything, primitive}
+use Rattle.refusals.specs.Element.{anything, primitive}
 use Rattle.refusals.specs.Bodies.{is_integer, iterations}
 use Rattle.refusals.specs.Grammar.{mac_data}
 use Rattle.refusals.proofs.Headers.{Lies}
-use Rattle.refusals.proofs.Links.{here, Past, Stands, link_test, link_expect, link_integer, link_finish}
+use Rattle.refusals.proofs.Links.{here, Past, link_test, link_expect, link_integer, link_finish}
 use Rattle.refusals.proofs.Links.{first_tag}
 use Rattle.refusals.proofs.Agree.{Agree, mac_out, by_parts}
 use Rattle.refusals.proofs.Parts.{sealed_agrees}

@@ -1,26 +1,23 @@
 -- Opaque elements: the walk's check beside the account's.
 use mathlib.Core.Bool.{Bool, true, false}
-use mathlib.Core.Path.{◌≡◌, refl, sym}
+use mathlib.Core.Path.{refl}
 use mathlib.Core.List.{List}
 use Prim.Native.Nat.{ℕ, zero, suc, ◌+◌, ◌-◌, ◌/◌, ◌%◌, ◌≤◌, ◌<◌}
 use native.Mathlib.Omega.{arith}
 use lib.Dec.{eqb}
-use lib.ListN.{length}
 use lib.Seq.{length-slice}
 use Rattle.std.specs.Prelude.{if◌then◌else◌}
-use Rattle.der.specs.Element.{cursor, element_at, expect_at, on_element}
-use Rattle.der.specs.Content.{bytes_of}
+use Rattle.der.specs.Element.{cursor, expect_at, on_element}
 use Rattle.der.specs.Opaque.{on_checked, counted, go_on, at_end, run, opaque_at, elements_at}
-use Rattle.der.specs.declared.Fault.{Fault}
 use Rattle.der.specs.declared.Cursor.{Cursor}
 use Rattle.der.specs.declared.Checked.{Checked}
 use Rattle.der.specs.declared.Checked.TheVariants.{Passed}
-use Rattle.refusals.specs.Element.{Made, Account, goes, stops, Rule, closed, Content, walked, judged, inside}
-use Rattle.refusals.specs.Element.{element, onwards, each, each_of, is, any, never, anything, opaque}
+use Rattle.refusals.specs.Element.{Made, Account, Rule, closed, walked, judged, inside}
+use Rattle.refusals.specs.Element.{onwards, each, is, any, anything, opaque}
 use Rattle.refusals.proofs.Headers.{Lies}
 use Rattle.refusals.proofs.Links.{here, left_to, Past, Stands, link_element, link_expect}
 use Rattle.refusals.proofs.Loops.{link_many}
-use Rattle.refusals.proofs.Agree.{Out, Agree, Full, full_closed, checked_out, by_checked}
+use Rattle.refusals.proofs.Agree.{Agree, Full, full_closed, checked_out, by_checked}
 
 module _ (s : List ℕ) (made : Made) where
   -- at a level where every opaque element agrees, a run of them does

@@ -1,18 +1,16 @@
 -- Parts that make no row: the walk's productions beside the account's.
 use mathlib.Core.Bool.{Bool, true, false}
-use mathlib.Core.Path.{◌≡◌, refl, sym}
+use mathlib.Core.Path.{◌≡◌, refl}
 use mathlib.Core.List.{List}
-use Prim.Native.Nat.{ℕ, ◌+◌, ◌<◌}
+use Prim.Native.Nat.{ℕ}
 use native.Mathlib.Omega.{arith}
-use lib.Dec.{leb, ltb, eqb}
-use lib.ListN.{length}
-use borrow.Author.Tests.{lt-ltb, le-ltb, le-leb, lt-leb}
+use lib.Dec.{eqb}
+use borrow.Author.Tests.{lt-ltb, le-ltb}
 use Rattle.std.specs.Prelude.{if◌then◌else◌}
 use Rattle.der.specs.Element.{expect_at, on_element}
 use Rattle.der.specs.Content.{bytes_of}
 use Rattle.der.specs.Octets.{number}
 use Rattle.der.specs.Opaque.{on_checked, opaque_at}
-use Rattle.der.specs.declared.Fault.{Fault}
 use Rattle.der.specs.declared.Cursor.{Cursor}
 use Rattle.der.specs.declared.Element.{Element}
 use Rattle.der.specs.declared.Element.TheVariants.{Found}
@@ -31,7 +29,7 @@ use Rattle.refusals.specs.Element.{served, is, any, anything, primitive, constru
 use Rattle.refusals.specs.Bodies.{is_identifier, is_integer, any_type, data_type, encrypted_version}
 use Rattle.refusals.specs.Grammar.{algorithm, sealed, value_tag, typed, encrypted_info, encrypted_data}
 use Rattle.refusals.proofs.Headers.{Lies, some_chosen, none_chosen}
-use Rattle.refusals.proofs.Links.{here, Past, Stands, link_test, link_expect, link_identifier, link_integer}
+use Rattle.refusals.proofs.Links.{here, Past, link_test, link_expect, link_identifier, link_integer}
 use Rattle.refusals.proofs.Links.{link_finish, link_full, link_served}
 use Rattle.refusals.proofs.Agree.{Agree, checked_out, parts_out, by_checked, by_parts}
 use Rattle.refusals.proofs.Opaque.{opaque_agrees, due_agrees}

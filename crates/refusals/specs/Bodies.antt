@@ -1,6 +1,6 @@
 -- Which bodies are allowed where, each by a number: 0, or that of the refusal (sections 2 and 3 of
 -- the rules, 5.5 and 5.7).
-use Rattle.std.specs.Prelude.{Bool, true, false, List, [], ◌∷◌, ℕ, ◌*◌, leb, ltb, eqb, length}
+use Rattle.std.specs.Prelude.{Bool, true, false, List, [], ◌∷◌, ℕ, leb, ltb, eqb, length}
 use Rattle.std.specs.Prelude.{if◌then◌else◌}
 use Rattle.der.specs.Octets.{number}
 use Rattle.range.specs.Bytes.{same_bytes}

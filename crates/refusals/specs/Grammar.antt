@@ -4,7 +4,7 @@ use Rattle.std.specs.Prelude.{Bool, true, false, List, [], ℕ, zero, suc, leb, 
 use Rattle.std.specs.Prelude.{if◌then◌else◌}
 use Rattle.range.specs.Bytes.{same_bytes}
 use Rattle.refusals.specs.Element.{left, Made, Account, stops, Rule, closed, walked, judged, element, ◌before◌}
-use Rattle.refusals.specs.Element.{each, if_any, served, if_tag, is, any, never, always, constructed, primitive}
+use Rattle.refusals.specs.Element.{each, if_any, served, if_tag, is, any, always, constructed, primitive}
 use Rattle.refusals.specs.Element.{naming, anything, opaque}
 use Rattle.refusals.specs.Bodies.{pkcs7, bag_id, x509, any_type, outer_type, safe_type, data_type, bag_type, version}
 use Rattle.refusals.specs.Bodies.{encrypted_version, iterations}

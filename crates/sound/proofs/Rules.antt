@@ -2,12 +2,12 @@
 -- (see der's Choices), and the loop over rows.
 use mathlib.Core.Path.{◌≡◌, refl, sym, ◌∙◌}
 use mathlib.Core.Bool.{Bool, true, false, not}
-use mathlib.Core.List.{List, map}
+use mathlib.Core.List.{List}
 use Prim.Native.Nat.{ℕ, zero, suc, ◌+◌, ◌≤◌, ◌<◌}
 use native.Mathlib.Numerals.{add-one}
 use native.Mathlib.Omega.{arith}
 use lib.Dec.{leb, eqb, eqb-zero-suc, eqb-suc-zero}
-use lib.ListN.{length, get_or, take, drop, drop_of_length-le, length-map, get_or-eq_default}
+use lib.ListN.{length, get_or, take, drop, drop_of_length-le, get_or-eq_default}
 use lib.Seq.{drop-cons, length-take-le, get_or-take}
 use borrow.Author.Tests.{not-true, not-false, eq-eqb, ne_eqb, leb-true}
 use Rattle.std.specs.Prelude.{if◌then◌else◌}

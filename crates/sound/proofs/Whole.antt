@@ -1,14 +1,14 @@
 -- A table that keeps the rules and whose rows are all taken has a file, of the size that was
 -- computed; any other has none.
 use mathlib.Core.Path.{◌≡◌, refl, sym, ap, ◌∙◌}
-use mathlib.Core.Bool.{Bool, true, false, not}
-use mathlib.Core.List.{List, map}
+use mathlib.Core.Bool.{Bool, true, false}
+use mathlib.Core.List.{List}
 use mathlib.Core.Option.{some}
 use mathlib.Core.Option as option
 use Prim.Native.Nat.{ℕ}
 use lib.Dec.{leb}
-use lib.ListN.{length, length-map}
-use borrow.Author.Tests.{not-true, not-false, leb-true, eq-eqb, ne_eqb}
+use lib.ListN.{length}
+use borrow.Author.Tests.{leb-true, eq-eqb, ne_eqb}
 use Rattle.pkcs12.specs.Numbers.{safe_rows, bag_rows, attribute_rows}
 use Rattle.pkcs12.specs.Syntax.{Pfx}
 use Rattle.pkcs12.specs.Encode.{safes_bytes, encode}
@@ -16,9 +16,6 @@ use Rattle.der.specs.Choice.{both}
 use Rattle.pkcs12.specs.Checks.{counts_fit, rows_test, keeps_rules}
 use Rattle.pkcs12.specs.Table.{mac_shown, rows_in, reading_of}
 use Rattle.pkcs12.specs.Written.{file_of}
-use Rattle.pkcs12.specs.declared.row.SafeRow.{SafeRow}
-use Rattle.pkcs12.specs.declared.row.BagRow.{BagRow}
-use Rattle.pkcs12.specs.declared.row.AttributeRow.{AttributeRow}
 use Rattle.pkcs12.specs.declared.table.Table.{Table}
 use Rattle.sizes.specs.Bodies.{mac_body}
 use Rattle.sizes.specs.Picked.{safes_picked}

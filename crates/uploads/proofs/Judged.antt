@@ -25,7 +25,7 @@ use Rattle.stream.specs.declared.Status.{Status}
 use Rattle.stream.specs.declared.Status.TheVariants.{NoFault}
 use Rattle.stream.specs.Upload.{taken, no_ends, first, begun, status_at, status_of}
 use Rattle.stream.proofs.Taken.{taken_refused}
-use Rattle.uploads.specs.Whole.{Tally, no_element, Refused}
+use Rattle.uploads.specs.Whole.{Tally, no_element}
 use Rattle.uploads.specs.Certain.{Certain}
 use Rattle.uploads.specs.Judged.{FirstFault, NoneCertain, StatusIs, faulty, beyond, fine}
 use Rattle.uploads.proofs.Machine.{State, Failed, Open, Done, step, feed, start, certainly}

@@ -25,7 +25,7 @@ use Rattle.stream.specs.declared.End.{End}
 use Rattle.stream.specs.Upload.{taken, first, begun, status_at, status_of, ended}
 use Rattle.der.proofs.Spans.{bytes_drop}
 use Rattle.stream.proofs.Taken.{taken_append, taken_refused}
-use Rattle.uploads.specs.Whole.{Tally, Refused, Passed, whole}
+use Rattle.uploads.specs.Whole.{Tally, Passed, whole}
 use Rattle.uploads.specs.Same.{opaque_then_finish, forgotten, PassedTree}
 use Rattle.uploads.specs.Certain.{Certain}
 use Rattle.uploads.specs.Judged.{joined, taken_all, FirstFault, NoneCertain, StatusIs, faulty, beyond, fine}

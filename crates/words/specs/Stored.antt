@@ -6,12 +6,8 @@ use Rattle.buffer.specs.Numbers.{short_buffer}
 use Rattle.pkcs12.specs.Table.{no_safe, no_bag, no_attribute}
 use Rattle.buffer.specs.Placed.{each}
 use Rattle.buffer.specs.Written.{Outcome, refusal, success}
-use Rattle.range.specs.declared.Range.{Range}
-use Rattle.pkcs12.specs.declared.row.Parts.{Parts}
 use Rattle.pkcs12.specs.declared.kind.SafeKind.{SafeKind}
 use Rattle.pkcs12.specs.declared.kind.SafeKind.TheVariants.{Plain, Encrypted}
-use Rattle.pkcs12.specs.declared.kind.BagKind.{BagKind}
-use Rattle.pkcs12.specs.declared.kind.BagKind.TheVariants.{Key, ShroudedKey, Certificate, Crl, Secret, Nested}
 use Rattle.pkcs12.specs.declared.row.Enclosing.{Enclosing}
 use Rattle.pkcs12.specs.declared.row.Enclosing.TheVariants.{Bag}
 use Rattle.pkcs12.specs.declared.row.SafeRow.{SafeRow}

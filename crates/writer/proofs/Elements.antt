@@ -19,7 +19,7 @@ use Rattle.sizes.specs.Picked.{form_of}
 use Rattle.sizes.specs.Sizes.{bag_size, content_info_size, data_size, pfx_size}
 use Rattle.encode.specs.Sizes.{capped, element_size}
 use Rattle.sizes.specs.declared.rows.Form.{Form}
-use Rattle.encode.proofs.Capped.{Near, Sized, near_cases, near_told, near_is, near_then, capped_small, element_more}
+use Rattle.encode.proofs.Capped.{Sized, near_told, near_is, near_then, capped_small, element_more}
 use Rattle.encode.proofs.Capped.{sized_told, sized_element, length_element}
 use Rattle.sizes.proofs.Nears.{near_pfx}
 use Rattle.sizes.proofs.Lengths.{bag_body_long, length_bag, info_body_long, length_info, length_data, pfx_body_long}

@@ -1,6 +1,6 @@
 -- The algebra of writing what is no longer than a file: parts behind parts, an element behind its
 -- header.
-use mathlib.Core.Path.{◌≡◌, refl}
+use mathlib.Core.Path.{◌≡◌}
 use mathlib.Core.List.{List, ◌++◌}
 use Prim.Native.Nat.{ℕ, ◌≤◌}
 use native.Mathlib.Omega.{arith}
@@ -8,11 +8,11 @@ use lib.ListN.{length, drop}
 use Rattle.der.specs.Octets.{tlv}
 use Rattle.der.proofs.Octets.{tlv_long}
 use Rattle.buffer.specs.Numbers.{file_bytes}
-use Rattle.buffer.specs.Placed.{greatest, Placed, Put, Short}
+use Rattle.buffer.specs.Placed.{Placed, Put, Short}
 use Rattle.buffer.proofs.Placing.{short_parted, put_then, placed_whole}
 use Rattle.encode.specs.Header.{header}
 use Rattle.encode.specs.Sizes.{capped}
-use Rattle.encode.proofs.Capped.{Near, Sized, near_cases, near_is, sized_told}
+use Rattle.encode.proofs.Capped.{Near, Sized, near_cases, sized_told}
 use Rattle.encode.proofs.Writes.{element_by}
 
 -- y is written behind x

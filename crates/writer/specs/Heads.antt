@@ -1,6 +1,6 @@
 -- What is before the contents of bags, ContentInfos and data, by their sizes.
 use Rattle.std.specs.Prelude.{List, ◌++◌, ℕ}
-use Rattle.der.specs.Octets.{length_octets, identifier}
+use Rattle.der.specs.Octets.{identifier}
 use Rattle.der.specs.Numbers.{octet_string_tag, sequence_tag, context_tag}
 use Rattle.pkcs12.specs.Identifiers.{identifier_of}
 use Rattle.pkcs12.specs.declared.kind.BagKind.{BagKind}

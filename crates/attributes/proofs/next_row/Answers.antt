@@ -1,5 +1,4 @@
 -- The loop looks for the next row that names the bag (First).
-use Prim.Native.Nat.{◌-◌}
 use native.Mathlib.Omega.{arith}
 use Rattle.attributes.proofs.First.{at_most, next_start, next_found, next_on, next_end}
 use Rattle.attributes.proofs.next_row.Goals as goal

@@ -22,7 +22,7 @@ pub returns-then-cells-lt-UPLOAD_LENGTH-clause-bytes : goal.returns-then-cells-l
 returns-then-cells-lt-UPLOAD_LENGTH-clause-bytes c = search all_bytes
 
 pub returns-clause-value : goal.returns-clause-value
-returns-clause-value c = 
+returns-clause-value c =
     let twenty = length_unmapped ℕ c.take-after.result.ends end_count (search rules) in
     (take_stored _ _ _ (omega (arith, c.if-cells-lt-UPLOAD_LENGTH.false)) _ _ c.upload-before.ensures c.take-after.ensures.value
     c.status.ensures.value twenty _ _ c.upload-end.ensures).0
@@ -31,7 +31,7 @@ pub returns-clause-report : goal.returns-clause-report
 returns-clause-report c = ap status_report (returns-clause-value c)
 
 pub returns-clause-cells_after : goal.returns-clause-cells_after
-returns-clause-cells_after c = 
+returns-clause-cells_after c =
     let twenty = length_unmapped ℕ c.take-after.result.ends end_count (search rules) in
     (take_stored _ _ _ (omega (arith, c.if-cells-lt-UPLOAD_LENGTH.false)) _ _ c.upload-before.ensures c.take-after.ensures.value
     c.status.ensures.value twenty _ _ c.upload-end.ensures).1

@@ -4,7 +4,6 @@ use native.Mathlib.Omega.{arith}
 use Rattle.der.proofs.Codes.{code_byte, code_header, code_inside, code_falls}
 use Rattle.der.proofs.Weights.{weighing_start, weighing_end, turn_told, turn_deep}
 use Rattle.der.proofs.Weights.{leaf_on, leaf_fits, nest_broken, nest_on, nest_fits}
-use Prim.Native.Nat.{◌-◌}
 use Rattle.der.proofs.+weight.Goals as goal
 
 pub loop-at-init : goal.loop-at-init

@@ -1,5 +1,4 @@
 -- Three digits more behind the first, each bound 256 times the last.
-use Prim.Native.Nat.{◌<◌}
 use native.Mathlib.Omega.{arith}
 use Rattle.der.proofs.Content.{and_digit_next}
 use Rattle.der.specs.Content.{integer_value}

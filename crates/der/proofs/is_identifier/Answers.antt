@@ -1,6 +1,5 @@
 -- The loop's invariant: the answer that is due is that of the bytes from i on, where a part begins
 -- at i or not. The measure is what is left before the last byte.
-use Prim.Native.Nat.{◌-◌}
 use native.Mathlib.Omega.{arith}
 use Rattle.der.proofs.Content.{parts_empty, parts_open, parts_start, parts_break, parts_more, parts_end}
 use Rattle.der.proofs.is_identifier.Goals as goal

@@ -1,5 +1,4 @@
 -- The loop keeps the elements that were seen; each is found within the values (Siblings).
-use Prim.Native.Nat.{◌-◌}
 use native.Mathlib.Omega.{arith}
 use Rattle.der.proofs.Promised.{all_bytes}
 use Rattle.elements.specs.Elements.{element_ranges}

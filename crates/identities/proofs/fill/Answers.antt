@@ -1,9 +1,8 @@
 -- The rows are stored one by one (Fills).
 use mathlib.Core.Path.{◌≡◌, sym, ap, ◌∙◌}
 use mathlib.Core.List.{List}
-use Prim.Native.Nat.{ℕ, ◌≤◌, ◌+◌}
 use native.Mathlib.Omega.{arith}
-use lib.ListN.{length, set}
+use lib.ListN.{set}
 use Rattle.der.proofs.Promised.{all_bytes}
 use Rattle.buffer.specs.Report.{written_report}
 use Rattle.buffer.specs.declared.Written.{Written}
@@ -23,8 +22,8 @@ pub loop-i-preserved : goal.loop-i-preserved
 loop-i-preserved c =
     let e = ap (λ (l : List IdentityRow). set l c.loop-i.i c.row_at.result) c.loop-i.invariant.1.1 in
     let f =
-        ap (λ (r : IdentityRow). set (stored_to c.prepared-found.result.rows c.args.out.now c.loop-i.i) c.loop-i.i r)
-        c.row_at.ensures in
+    ap (λ (r : IdentityRow). set (stored_to c.prepared-found.result.rows c.args.out.now c.loop-i.i) c.loop-i.i r)
+    c.row_at.ensures in
     (omega arith, (c.loop-i.invariant.1.0, e ∙ f ∙ stored_more _ _ _ (omega (arith, c.loop-i.invariant.1.0))))
 
 pub returns-clause-value : goal.returns-clause-value

@@ -1,6 +1,5 @@
 -- The loop looks for the first localKeyID of the bag.
 use native.Mathlib.Omega.{arith}
-use Prim.Native.Nat.{◌-◌}
 use Rattle.attributes.proofs.First.{at_most}
 use Rattle.identities.proofs.Rules.{keys_start, keys_found, keys_on, keys_end}
 use Rattle.identities.proofs.key_row.Goals as goal
@@ -17,12 +16,11 @@ returns-then-is_local_key c =
     c.is_local_key.ensures c.if-is_local_key.true
 
 pub loop-i-preserved : goal.loop-i-preserved
-loop-i-preserved c =
-    (
-      keys_on c.args.table _ _ _ _ c.loop-i.invariant.0 _ _
-          c.loop-i-test.true c.is_local_key.ensures c.if-is_local_key.false,
-      c.loop-i.invariant.1,
-    )
+loop-i-preserved c = (
+  keys_on c.args.table _ _ _ _ c.loop-i.invariant.0 _ _
+      c.loop-i-test.true c.is_local_key.ensures c.if-is_local_key.false,
+  c.loop-i.invariant.1,
+)
 
 pub returns : goal.returns
 returns c = keys_end c.args.table _ _ _ _

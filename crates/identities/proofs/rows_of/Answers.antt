@@ -1,6 +1,5 @@
 -- The loop collects the rows of the bags in order.
 use mathlib.Core.Path.{refl}
-use Prim.Native.Nat.{◌-◌}
 use native.Mathlib.Omega.{arith}
 use Rattle.attributes.proofs.First.{at_most}
 use Rattle.identities.proofs.Fills.{collect_start, collect_on, collect_end}

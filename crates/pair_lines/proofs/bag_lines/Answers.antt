@@ -1,5 +1,4 @@
 -- The loop writes a line for each key bag.
-use Prim.Native.Nat.{◌-◌}
 use native.Mathlib.Omega.{arith}
 use Rattle.buffer.proofs.Rows.{lines_start, lines_turn, lines_end}
 use borrow.Author.Rules.{rules}

@@ -1,5 +1,4 @@
 -- Each way out is the definition's, by the tests and answers on the way.
-use borrow.Author.Rules.{rules}
 use Rattle.range.proofs.Cut.{part_slice, cut_backward, cut_past, cut_short}
 use Rattle.range.proofs.part.Goals as goal
 

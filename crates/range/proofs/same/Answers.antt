@@ -1,6 +1,5 @@
 -- The loop's invariant: the answer that is due is that of the bytes from i on. The measure is what
 -- is left of them.
-use Prim.Native.Nat.{◌-◌}
 use Rattle.range.proofs.SameBytes.{same_length, same_start, from_other, from_same, from_end}
 use Rattle.range.proofs.same.Goals as goal
 

@@ -12,7 +12,7 @@ pub fill-answer-requires : goal.fill-answer-requires
 fill-answer-requires c = refl
 
 pub returns-clause-value : goal.returns-clause-value
-returns-clause-value c = 
+returns-clause-value c =
     let y = c.fill-answer.ensures.bytes in
     read_value _ y _ c.fill-answer.ensures.value _ c.fill-answer.ensures.memory_after _ c.table-table.ensures
 
@@ -20,6 +20,6 @@ pub returns-clause-answer_value : goal.returns-clause-answer_value
 returns-clause-answer_value c = ap (λ r. answer_report r.answer) (returns-clause-value c)
 
 pub returns-clause-bytes : goal.returns-clause-bytes
-returns-clause-bytes c = 
+returns-clause-bytes c =
     let y = c.fill-answer.ensures.bytes in
     y

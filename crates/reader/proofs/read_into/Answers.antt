@@ -13,21 +13,21 @@ use Rattle.reader.proofs.Filled.{into_short, into_whole}
 use Rattle.reader.proofs.read_into.Goals as goal
 
 pub returns-then-memory-lt-TABLE_WORDS-clause-value : goal.returns-then-memory-lt-TABLE_WORDS-clause-value
-returns-then-memory-lt-TABLE_WORDS-clause-value c = 
+returns-then-memory-lt-TABLE_WORDS-clause-value c =
     let z = into_short _ c.args.memory.now c.if-memory-lt-TABLE_WORDS.true in
     let x = sym (ap (λ (y : Into). y.answer)
     z) in
     x
 
 pub returns-then-memory-lt-TABLE_WORDS-clause-report : goal.returns-then-memory-lt-TABLE_WORDS-clause-report
-returns-then-memory-lt-TABLE_WORDS-clause-report c = 
+returns-then-memory-lt-TABLE_WORDS-clause-report c =
     let z = into_short _ c.args.memory.now c.if-memory-lt-TABLE_WORDS.true in
     let x = sym (ap (λ (y : Into). y.answer)
     z) in
     ap answer_report x
 
 pub returns-then-memory-lt-TABLE_WORDS-clause-memory_after : goal.returns-then-memory-lt-TABLE_WORDS-clause-memory_after
-returns-then-memory-lt-TABLE_WORDS-clause-memory_after c = 
+returns-then-memory-lt-TABLE_WORDS-clause-memory_after c =
     let z = into_short _ c.args.memory.now c.if-memory-lt-TABLE_WORDS.true in
     let x = sym (ap (λ (y : Into). y.answer)
     z) in
@@ -45,7 +45,7 @@ fill-requires c =
     length-take-le table_words c.args.memory.now (omega (arith, c.if-memory-lt-TABLE_WORDS.false))
 
 pub returns-clause-value : goal.returns-clause-value
-returns-clause-value c = 
+returns-clause-value c =
     let z = into_whole _ c.args.memory.now c.if-memory-lt-TABLE_WORDS.false in
     let x = c.fill.ensures.value ∙ sym (ap (λ
     (y : Into). y.answer) z) in
@@ -53,7 +53,7 @@ returns-clause-value c =
     x
 
 pub returns-clause-report : goal.returns-clause-report
-returns-clause-report c = 
+returns-clause-report c =
     let z = into_whole _ c.args.memory.now c.if-memory-lt-TABLE_WORDS.false in
     let x = c.fill.ensures.value ∙ sym (ap (λ
     (y : Into). y.answer) z) in
@@ -61,7 +61,7 @@ returns-clause-report c =
     ap answer_report x
 
 pub returns-clause-memory_after : goal.returns-clause-memory_after
-returns-clause-memory_after c = 
+returns-clause-memory_after c =
     let z = into_whole _ c.args.memory.now c.if-memory-lt-TABLE_WORDS.false in
     let x = c.fill.ensures.value ∙ sym (ap (λ
     (y : Into). y.answer) z) in

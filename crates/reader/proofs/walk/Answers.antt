@@ -8,14 +8,13 @@ returns-then-file-gt-FILE_BYTES c =
     read_long _ _ _ c.if-file-gt-FILE_BYTES.true c.refused.ensures
 
 pub safes-all-requires : goal.safes-all-requires
-safes-all-requires c =
-    (
-      c.if-file-gt-FILE_BYTES.false,
-      c.requires,
-      input_from _ c.if-file-gt-FILE_BYTES.false _ c.over-whole.ensures _ c.open.ensures _ _ _ _ _ _ _
-          c.in-Found.is,
-      input_to _ c.if-file-gt-FILE_BYTES.false _ c.over-whole.ensures _ c.open.ensures _ _ _ _ _ _ _ c.in-Found.is,
-    )
+safes-all-requires c = (
+  c.if-file-gt-FILE_BYTES.false,
+  c.requires,
+  input_from _ c.if-file-gt-FILE_BYTES.false _ c.over-whole.ensures _ c.open.ensures _ _ _ _ _ _ _
+      c.in-Found.is,
+  input_to _ c.if-file-gt-FILE_BYTES.false _ c.over-whole.ensures _ c.open.ensures _ _ _ _ _ _ _ c.in-Found.is,
+)
 
 pub overflow_add-elements : goal.overflow_add-elements
 overflow_add-elements c =

@@ -2,7 +2,6 @@
 use Rattle.sound.proofs.Whole.{arrays, breaks_rules, safe_left, bag_left, attribute_left, all_measured}
 use Rattle.der.proofs.Promised.{all_bytes}
 use Rattle.sound.specs.Report.{measured_report}
-use borrow.Author.Rules.{rules}
 use mathlib.Core.Path.{ap}
 use native.Mathlib.Omega.{arith}
 use Rattle.sound.proofs.measure.Goals as goal

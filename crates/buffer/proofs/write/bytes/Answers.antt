@@ -1,6 +1,5 @@
 -- The loop stores the bytes that the buffer has offsets for, one behind another.
 use native.Mathlib.Omega.{arith}
-use Prim.Native.Nat.{◌-◌}
 use Rattle.buffer.proofs.Writes.{bytes_past, copy_start, copy_turn, copy_end}
 use Rattle.buffer.proofs.write.bytes.Goals as goal
 

@@ -1,5 +1,4 @@
 -- The loop reads the ends one by one.
-use Prim.Native.Nat.{◌-◌}
 use Rattle.cells.proofs.Rules.{reading_start, reading_turn, reading_end}
 use Rattle.cells.proofs.load.ends.Goals as goal
 

@@ -1,5 +1,4 @@
 -- The loop stores the ends one behind another.
-use Prim.Native.Nat.{◌-◌}
 use borrow.Author.Rules.{rules}
 use Rattle.buffer.proofs.Rows.{lines_start, lines_turn}
 use Rattle.cells.proofs.Rules.{ends_stored}

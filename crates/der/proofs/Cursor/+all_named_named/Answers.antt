@@ -1,6 +1,5 @@
 -- An opaque element and a run of them call each other: the level falls from an element to the run
 -- of its body. Each is its definition.
-use Prim.Native.Nat.{◌-◌}
 use native.Mathlib.Omega.{arith}
 use borrow.Author.Rules.{rules}
 use Rattle.der.specs.Opaque.{run, elements_at}

@@ -1,5 +1,4 @@
 -- The loop writes a line for each row.
-use Prim.Native.Nat.{◌-◌}
 use Rattle.buffer.proofs.Rows.{lines_start, lines_turn, lines_end}
 use borrow.Author.Rules.{rules}
 use Rattle.listing.proofs.rows.attribute_lines.Goals as goal

@@ -1,5 +1,4 @@
 -- The loop counts the rows that name the bag.
-use Prim.Native.Nat.{◌-◌}
 use native.Mathlib.Omega.{arith}
 use Rattle.listing.proofs.Loops.{own_start, own_turn, own_end}
 use Rattle.listing.proofs.rows.own_attributes.Goals as goal

@@ -1,7 +1,6 @@
 -- The loop collects the rows in order.
 use Rattle.load.proofs.Rows.{collect_start, collect_on, collect_end}
 use native.Mathlib.Omega.{arith}
-use Prim.Native.Nat.{◌-◌}
 use mathlib.Core.Path.{refl}
 use Rattle.load.proofs.get.safes.Goals as goal
 

@@ -1,6 +1,5 @@
 -- Safe contents call their bags, a bag what is in it, and a nested one its contents: the level falls.
 -- Each is its definition (OneBag, Nesting).
-use Prim.Native.Nat.{◌-◌}
 use native.Mathlib.Omega.{arith}
 use borrow.Author.Rules.{rules}
 use Rattle.reader.proofs.OneBag.{bag_refused, bag_few, bag_fits, bag_inside, inner_refused, inner_on}
@@ -31,12 +30,11 @@ bag-overflow_add-more t c =
     )
 
 pub bag-content-inner-requires : goal.bag-content-inner-requires
-bag-content-inner-requires t c =
-    (
-      omega arith,
-      bag_inside _ c.args.below c.args.safe c.args.enclosing _ _ _ c.requires _
-          c.bag_at.ensures _ _ _ _ _ _ c.in-Found.is _ c.bag_row.ensures _ c.bag.ensures,
-    )
+bag-content-inner-requires t c = (
+  omega arith,
+  bag_inside _ c.args.below c.args.safe c.args.enclosing _ _ _ c.requires _
+      c.bag_at.ensures _ _ _ _ _ _ c.in-Found.is _ c.bag_row.ensures _ c.bag.ensures,
+)
 
 pub bag-attributes-requires : goal.bag-attributes-requires
 bag-attributes-requires t c =
@@ -62,12 +60,11 @@ bag-returns-in-Accepted t c =
     c.in-Accepted.is c.attributes.ensures
 
 pub content-safe_contents-requires : goal.content-safe_contents-requires
-content-safe_contents-requires t c =
-    (
-      omega arith,
-      inside_ready c.args.below _ _ c.args.safe _ _ _ c.args.c c.requires _
-          c.is_nested.ensures c.if-is_nested.true,
-    )
+content-safe_contents-requires t c = (
+  omega arith,
+  inside_ready c.args.below _ _ c.args.safe _ _ _ c.args.c c.requires _
+      c.is_nested.ensures c.if-is_nested.true,
+)
 
 pub content-returns-then-is_nested : goal.content-returns-then-is_nested
 content-returns-then-is_nested t c =

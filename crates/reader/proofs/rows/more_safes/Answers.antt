@@ -1,5 +1,4 @@
 -- Each turn of the loop is one of the walk, and each way out is the walk's.
-use Prim.Native.Nat.{◌-◌}
 use Rattle.reader.proofs.OneSafe.{safes_start, safes_end_lem, safe_stops, safe_on, safe_less}
 use borrow.Author.Rules.{rules}
 use Rattle.reader.proofs.rows.more_safes.Goals as goal

@@ -7,11 +7,10 @@ overflow_add-elements c =
     plain_fits _ _ _ c.args.body c.args.string c.args.content c.args.next c.requires
 
 pub safe_contents-inner-requires : goal.safe_contents-inner-requires
-safe_contents-inner-requires c =
-    (
-      tt,
-      plain_ready _ _ _ c.args.body c.args.string c.args.content c.args.next c.requires _ c.safe_row.ensures _ c.safe.ensures,
-    )
+safe_contents-inner-requires c = (
+  tt,
+  plain_ready _ _ _ c.args.body c.args.string c.args.content c.args.next c.requires _ c.safe_row.ensures _ c.safe.ensures,
+)
 
 pub returns-in-Refused : goal.returns-in-Refused
 returns-in-Refused c =

@@ -1,5 +1,4 @@
 -- Each turn of the loop is one of the walk, and each way out is the walk's.
-use Prim.Native.Nat.{◌-◌}
 use native.Mathlib.Omega.{arith}
 use Rattle.reader.proofs.Attributes.{body_start, body_refused, body_end, turn_refused, turn_few, turn_fits}
 use Rattle.reader.proofs.Attributes.{turn_less, turn_on}

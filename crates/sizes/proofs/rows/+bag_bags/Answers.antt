@@ -1,6 +1,5 @@
 -- A bag calls for the bags in it: the level falls. Each is measured as its definition takes rows
 -- (Measures).
-use Prim.Native.Nat.{◌-◌}
 use native.Mathlib.Omega.{arith}
 use mathlib.Core.Path.{refl}
 use Rattle.sizes.proofs.Measures.{one_none, one_leaf, one_too_deep, one_nest, bags_starts}

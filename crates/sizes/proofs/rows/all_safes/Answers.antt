@@ -1,5 +1,4 @@
 -- The loop adds the sizes of the safes that it sees.
-use Prim.Native.Nat.{◌-◌}
 use Rattle.sizes.proofs.MeasuresSafes.{safes_starts, safes_ends, safes_nots, safes_goes}
 use Rattle.sizes.proofs.rows.all_safes.Goals as goal
 

@@ -1,5 +1,4 @@
 -- The loop adds the sizes of the attributes that it sees.
-use Prim.Native.Nat.{◌-◌}
 use Rattle.sizes.proofs.Measures.{set_absent, set_starts, set_ends, set_leaves, set_turn}
 use Rattle.sizes.proofs.rows.set.Goals as goal
 

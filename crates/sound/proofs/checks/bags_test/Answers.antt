@@ -1,6 +1,5 @@
 -- The loop's invariant: the answer that is due is that of the rows from i on. The measure is what
 -- is left of them.
-use Prim.Native.Nat.{◌-◌}
 use Rattle.pkcs12.specs.Table.{rows_in}
 use native.Mathlib.Omega.{arith}
 use Rattle.sound.proofs.Rules.{starts, stops, goes_on, ends}

@@ -1,6 +1,5 @@
 -- Byte by byte, or as many at once as don't matter.
 use native.Mathlib.Omega.{arith}
-use Prim.Native.Nat.{◌-◌}
 use Rattle.der.proofs.Promised.{all_bytes}
 use Rattle.stream.proofs.Taken.{bulk_few, taking_start, taking_byte, taking_skip, taking_end}
 use Rattle.stream.proofs.Upload.take.Goals as goal

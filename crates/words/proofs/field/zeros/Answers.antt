@@ -1,5 +1,4 @@
 -- The loop stores one word after another.
-use Prim.Native.Nat.{◌-◌}
 use Rattle.words.proofs.Stores.{clear_start, clear_on, clear_end}
 use native.Mathlib.Omega.{arith}
 use Rattle.words.proofs.field.zeros.Goals as goal

@@ -1,6 +1,5 @@
 -- The loop stores one row behind another.
 use mathlib.Core.Path.{refl}
-use Prim.Native.Nat.{◌-◌}
 use Rattle.words.proofs.Rows.{fill_start, fill_on, fill_end}
 use Rattle.words.proofs.InPlace.{safe_placed}
 use native.Mathlib.Omega.{arith}

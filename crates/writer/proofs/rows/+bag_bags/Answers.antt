@@ -1,7 +1,6 @@
 -- A bag is written with the bags in it: the level falls. Each writes what its definition takes
 -- (Rowing).
 use mathlib.Core.Path.{refl}
-use Prim.Native.Nat.{◌-◌}
 use native.Mathlib.Omega.{arith}
 use borrow.Author.Rules.{rules}
 use Rattle.writer.proofs.Rowing.{leaf_form, bag_nothing, bag_of_leaf, bag_deep, nest_body, nest_put}

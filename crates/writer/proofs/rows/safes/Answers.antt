@@ -1,5 +1,4 @@
 -- The loop writes the safes that it sees.
-use Prim.Native.Nat.{◌-◌}
 use borrow.Author.Rules.{rules}
 use Rattle.writer.proofs.RowingSafes.{safes_begin, safes_done, safes_no_safe, safes_one_more}
 use Rattle.writer.proofs.rows.safes.Goals as goal

@@ -1,5 +1,4 @@
 -- The loop writes the attributes that it sees, behind the header of their set.
-use Prim.Native.Nat.{◌-◌}
 use borrow.Author.Rules.{rules}
 use Rattle.writer.proofs.Rowing.{set_nothing, set_begins, set_more, set_all, set_leave}
 use Rattle.writer.proofs.rows.set.Goals as goal
