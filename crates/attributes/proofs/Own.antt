@@ -116,7 +116,7 @@ gives : (s : List ℕ) (p : Position) (rs : List AttributeRow) → ((i : ℕ) �
 gives s p rs g =
     let l : length (map (shown_by s) rs) ≡ length rs = length-map rs (shown_by s) in
     record {
-      in_turn_lem = λ i h. (
+      in_turn = λ i h. (
         get_or rs i no_attribute,
         (g i).0 (omega arith),
         sym
@@ -133,7 +133,7 @@ module _ (t : Table) (s : List ℕ) (n : ℕ) (b : Bytes s) (o : Sound t s) (h :
   pub rows_in_turn : (i : ℕ) → runs.Turn i (own_rows n (attributes_of t)) (item_after i (opening_of t s n))
   unfolding next_of
   rows_in_turn i = rw opening
-      (runs.in_turn_lem i (ready t n) (own_rows n (attributes_of t)) (record { moves = refl; rest = refl }))
+      (runs.in_turn i (ready t n) (own_rows n (attributes_of t)) (record { moves = refl; rest = refl }))
 
   pub rows_name_bag : (i : ℕ) (r : AttributeRow) → item_after i (opening_of t s n) ≡ Item.Attribute r → r.bag ≡ n
   rows_name_bag i r e =

@@ -169,5 +169,5 @@ turn (suc i) p [] g = (λ h. absurd (omega arith), λ h. (turn i (next_of p) [] 
 turn (suc i) p (r ∷ rs) g = let t = turn i (next_of p) rs (next_gives p r rs g).1 in
     (λ h. t.0 (omega arith), λ h. t.1 (omega arith))
 
-pub in_turn_lem : (i : ℕ) (p : Position) (xs : List AttributeRow) → Left p xs → Turn i xs (item_after i p)
-in_turn_lem i p xs g = rw (← first_call i p (next_of p) refl) (turn i p xs g)
+pub in_turn : (i : ℕ) (p : Position) (xs : List AttributeRow) → Left p xs → Turn i xs (item_after i p)
+in_turn i p xs g = rw (← first_call i p (next_of p) refl) (turn i p xs g)

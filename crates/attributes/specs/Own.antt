@@ -60,7 +60,7 @@ no_value = record { identifier = []; values = [] }
 -- Rule 7.1: the attributes in turn, then done. Call i, counted from 0, returns a row that shows
 -- attribute i of the list, and every call past the list reports that it is done.
 pub record Gives (s : List ℕ) (p : Position) (xs : List Attribute) : Type 0 where
-  pub in_turn_lem : (i : ℕ) → i < length xs
+  pub in_turn : (i : ℕ) → i < length xs
       → (r : AttributeRow) × (item_after i p ≡ Item.Attribute r) × ((attribute_shown s r).attribute ≡ get_or xs i no_value)
   pub done : (i : ℕ) → length xs ≤ i → item_after i p ≡ Done
 

@@ -9,7 +9,7 @@ use Rattle.pkcs12.specs.Syntax.{Set, Bags, none, bag, nest, Safe, plain, encrypt
 use Rattle.pkcs12.specs.Valid.{Valid, bags_in, bags_in_safes}
 use Rattle.pkcs12.specs.Table.{no_parts, Rows, rows_in, table_of, empty_table}
 use Rattle.pkcs12.specs.Walk.{Owner, owner}
-use Rattle.pkcs12.specs.Laid.{BagLaid, BagsLaid, no_bag_lem, one_bag, one_nest, SafesLaid, no_safe_lem, one_plain}
+use Rattle.pkcs12.specs.Laid.{BagLaid, BagsLaid, no_bag_laid, one_bag, one_nest, SafesLaid, no_safe_laid, one_plain}
 use Rattle.pkcs12.specs.Laid.{one_encrypted, PfxLaid}
 use Rattle.pkcs12.specs.Accepted.{IsAccepted, Follows, table_from}
 use Rattle.der.specs.Named.{Each}
@@ -37,7 +37,7 @@ module _ (s : List ℕ) where
       → EnclosingFits w.enclosing → n + bags_in x ≤ greatest_word → BagsLaid s from to w n x rows own
       → Each BagFits rows
   unfolding bags_in Each
-  bags_fit from to w n none rows own e c no_bag_lem = tt
+  bags_fit from to w n none rows own e c no_bag_laid = tt
   bags_fit from to w n (bag x set xs) rows own e c (one_bag {row = row} {own = mine} p value b l m) = (
     bag_fits _ _ w n _ p value _ set row mine e b,
     bags_fit _ _ w (n + 1) xs _ _ e (omega (arith, c)) m,
@@ -52,7 +52,7 @@ module _ (s : List ℕ) where
   safes_fit : (from to k n : ℕ) (xs : List Safe) (safes : List SafeRow) (rows : List BagRow) (own : List AttributeRow)
       → n + bags_in_safes xs ≤ greatest_word → SafesLaid s from to k n xs safes rows own → Each BagFits rows
   unfolding bags_in_safes Each
-  safes_fit from to k n [] safes rows own c no_safe_lem = tt
+  safes_fit from to k n [] safes rows own c no_safe_laid = tt
   safes_fit from to k n (plain x ∷ xs) safes rows own c (one_plain {below = below} octets inner d l m) =
       each_join BagFits below _ (bags_fit _ _ (owner k Enclosing.None) n x below _ tt (omega (arith, c)) l)
       (safes_fit _ _ (k + 1) (n + bags_in x) xs _ _ _ (omega (arith, c)) m)
@@ -73,7 +73,7 @@ accepted_wordable f bytes a = go ((pkcs12.accepted_iff_follows f bytes).0 a)
         let o = pkcs12.accepted_table_sound f bytes a in
         record {
           empty_past = pkcs12.rows_past_counts_empty f bytes a;
-          safe_count_lem = o.safe_count_lem;
+          safe_count = o.safe_count;
           bag_count = o.bag_count;
           attribute_count = o.attribute_count;
           bags = rows_fit f _ _ p.0 p.1.valid l;
@@ -85,7 +85,7 @@ unfolding Each rows_in table_of empty_table
 empty_wordable =
     record {
       empty_past = refl;
-      safe_count_lem = omega arith;
+      safe_count = omega arith;
       bag_count = omega arith;
       attribute_count = omega arith;
       bags = tt;

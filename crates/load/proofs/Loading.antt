@@ -121,7 +121,7 @@ module _ (t : Table) (w : Wordable t) (ws : List ℕ) (s : WordsAt ws 0 (words_o
   safes_back : rows_from (safe_from ws) no_safe safe_rows t.safe_count ≡ t.safes
   safes_back =
       rows_back safe_words (safe_loaded ws) safe_width safe_rows t.safe_count no_safe t.safes ws safes_at
-      (λ x. refl) (λ i h p. safe_back ws p (get_or t.safes i no_safe)) w.safe_count_lem safe_number_lem safe_rows_lem
+      (λ x. refl) (λ i h p. safe_back ws p (get_or t.safes i no_safe)) w.safe_count safe_number_lem safe_rows_lem
       (words_front ws safes_at safes (bags ++ attributes) rows_there)
 
   bag_fits : (i : ℕ) → i < length (take t.bag_count t.bags) → BagFits (get_or t.bags i no_bag)
@@ -153,7 +153,7 @@ module _ (t : Table) (w : Wordable t) (ws : List ℕ) (s : WordsAt ws 0 (words_o
       let j : ℕ = count_word t.bag_count in
       rw (
         count_back [] t.elements _ refl w.elements,
-        count_back (e ∷ []) t.safe_count _ refl (omega (arith, w.safe_count_lem)),
+        count_back (e ∷ []) t.safe_count _ refl (omega (arith, w.safe_count)),
         count_back (e ∷ i ∷ []) t.bag_count _ refl (omega (arith, w.bag_count)),
         count_back (e ∷ i ∷ j ∷ []) t.attribute_count _ refl (omega (arith, w.attribute_count)),
         safes_back,

@@ -20,7 +20,7 @@ BagFits r = EnclosingFits r.enclosing
 -- Rows past the counts are empty, the counts are within the sizes, and every number fits.
 pub record Wordable (t : Table) : Type 0 where
   pub empty_past : t ≡ table_of (rows_in t) t.mac
-  pub safe_count_lem : t.safe_count ≤ safe_rows
+  pub safe_count : t.safe_count ≤ safe_rows
   pub bag_count : t.bag_count ≤ bag_rows
   pub attribute_count : t.attribute_count ≤ attribute_rows
   pub bags : Each BagFits (rows_in t).bags

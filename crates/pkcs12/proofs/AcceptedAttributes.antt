@@ -29,7 +29,7 @@ use Rattle.pkcs12.specs.Values.{stands}
 use Rattle.pkcs12.specs.Table.{attribute_row, Rows}
 use Rattle.pkcs12.specs.Walk.{range_of, Walked, Refused, Went, on_walked, go_on, run, counting, add_attribute}
 use Rattle.pkcs12.specs.Walk.{attribute_at, set_at}
-use Rattle.pkcs12.specs.Laid.{AttributeLaid, AttributesLaid, no_attribute_lem, one_attribute, SetLaid, no_set}
+use Rattle.pkcs12.specs.Laid.{AttributeLaid, AttributesLaid, no_attribute_laid, one_attribute, SetLaid, no_set}
 use Rattle.pkcs12.specs.Laid.{one_set}
 use Rattle.range.specs.declared.Range.{Range}
 use Rattle.pkcs12.specs.declared.row.AttributeRow.{AttributeRow}
@@ -151,7 +151,7 @@ module _ (s : List ℕ) (bytes : Bytes s) where
   attributes_of_lem par number st c l =
       run_of par (attribute_at s number) (AttributeStep par number) (AttributesRun par number) (attribute_of par number)
       (λ st c st' n a. (a.past, omega (arith, a.whole.size, tlv_long sequence_tag (identifier a.value.identifier ++ tlv set_tag a.value.values))))
-      (λ st. record { values = []; rows = []; valid = tt; laid = no_attribute_lem; grown = grown_none st; whole = span_empty s par.end l })
+      (λ st. record { values = []; rows = []; valid = tt; laid = no_attribute_laid; grown = grown_none st; whole = span_empty s par.end l })
       (λ st c st' n st'' i a r.
       record {
         values = a.value ∷ r.values;

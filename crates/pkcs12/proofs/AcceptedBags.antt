@@ -25,7 +25,7 @@ use Rattle.pkcs12.specs.Elements.{leaf_count, set_count, bags_count}
 use Rattle.pkcs12.specs.Table.{no_parts, bag_row, Rows}
 use Rattle.pkcs12.specs.Walk.{range_of, Walked, Refused, Went, run, counting, add_bag, set_at, Owner, owner}
 use Rattle.pkcs12.specs.Walk.{leaf_at, content_at, bag_at, safe_contents_at, key_at, sealed_at, typed_at}
-use Rattle.pkcs12.specs.Laid.{ElementLaid, LeafLaid, BagLaid, BagsLaid, no_bag_lem, one_bag, one_nest}
+use Rattle.pkcs12.specs.Laid.{ElementLaid, LeafLaid, BagLaid, BagsLaid, no_bag_laid, one_bag, one_nest}
 use Rattle.range.specs.declared.Range.{Range}
 use Rattle.pkcs12.specs.declared.row.Parts.{Parts}
 use Rattle.pkcs12.specs.declared.answers.PartsAt.{PartsAt}
@@ -291,7 +291,7 @@ module _ (s : List ℕ) (bytes : Bytes s) where
     bags_of_lem w par st c i =
         run_of par (bag_at inner s w) (BagStep w par) (BagsRun w par) (bag_of w par)
         (λ st c st' n a. (a.past, omega (arith, a.whole.size, tlv_long sequence_tag a.spelling)))
-        (λ st. record { value = none; rows = []; own = []; valid = tt; laid = no_bag_lem; grown = grown_none st; whole = span_empty s par.end i })
+        (λ st. record { value = none; rows = []; own = []; valid = tt; laid = no_bag_laid; grown = grown_none st; whole = span_empty s par.end i })
         (λ st c st' n st'' j a r. run_more w par st c st' n st'' a r)
         st c
 

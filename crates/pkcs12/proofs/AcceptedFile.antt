@@ -254,7 +254,7 @@ module _ (s : List ℕ) (bytes : Bytes s) where
         valid = record {
           safes = a.valid_safes;
           mac = a.valid_mac;
-          safe_count_lem = omega (arith, sizes.0, a.fits.safes);
+          safe_count = omega (arith, sizes.0, a.fits.safes);
           bag_count = omega (arith, sizes.1, a.fits.bags);
           attribute_count = omega (arith, sizes.2, a.fits.attributes);
         };

@@ -25,7 +25,7 @@ use Rattle.pkcs12.specs.Elements.{algorithm_count, bags_count, safes_count}
 use Rattle.pkcs12.specs.Table.{no_parts, safe_row, Rows}
 use Rattle.pkcs12.specs.Walk.{range_of, Walked, Refused, Went, run, add_safe, owner, safe_contents_at, data_at}
 use Rattle.pkcs12.specs.Walk.{plain_at, sealed_safe_at, encrypted_at, safe_value_at, safe_at}
-use Rattle.pkcs12.specs.Laid.{ElementLaid, ContentLaid, SafesLaid, no_safe_lem, one_plain, one_encrypted}
+use Rattle.pkcs12.specs.Laid.{ElementLaid, ContentLaid, SafesLaid, no_safe_laid, one_plain, one_encrypted}
 use Rattle.range.specs.declared.Range.{Range}
 use Rattle.pkcs12.specs.declared.row.Parts.{Parts}
 use Rattle.pkcs12.specs.declared.kind.SafeKind.TheVariants.{Plain, Encrypted}
@@ -345,6 +345,6 @@ module _ (s : List ℕ) (bytes : Bytes s) where
   safes_run par st c i =
       run_of par (safe_at s) (SafeStep par) (SafesRun par) (safe_of_lem par)
       (λ st c st' n a. (a.past, omega (arith, a.whole.size, tlv_long sequence_tag (identifier a.type ++ tlv context_tag a.rest.content))))
-      (λ st. record { value = []; safes = []; rows = []; own = []; valid = tt; laid = no_safe_lem; grown = grown_none st; whole = span_empty s par.end i })
+      (λ st. record { value = []; safes = []; rows = []; own = []; valid = tt; laid = no_safe_laid; grown = grown_none st; whole = span_empty s par.end i })
       (λ st c st' n st'' j a r. safes_more par st c st' n st'' a r)
       st c

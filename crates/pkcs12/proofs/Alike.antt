@@ -83,7 +83,7 @@ BagsLie s t = Each (λ r. PartsLie s r.kind r.parts) (rows_in t).bags
 
 -- all that soundness rests on is the same
 record Same (s : List ℕ) (t u : Table) : Type 1 where
-  safe_count_lem : t.safe_count ≡ u.safe_count
+  safe_count : t.safe_count ≡ u.safe_count
   bag_count : t.bag_count ≡ u.bag_count
   attribute_count : t.attribute_count ≡ u.attribute_count
   safes : SafesLie s t ≡ SafesLie s u
@@ -95,7 +95,7 @@ record Same (s : List ℕ) (t u : Table) : Type 1 where
 same_back : {s : List ℕ} {t u : Table} → Same s t u → Same s u t
 same_back e =
     record {
-      safe_count_lem = sym e.safe_count_lem;
+      safe_count = sym e.safe_count;
       bag_count = sym e.bag_count;
       attribute_count = sym e.attribute_count;
       safes = sym e.safes;
@@ -108,7 +108,7 @@ same_back e =
 same_sound : {s : List ℕ} {t u : Table} → Same s t u → Sound t s → Sound u s
 same_sound {s} {t} {u} e o =
     record {
-      safe_count_lem = rw (← e.safe_count_lem) o.safe_count_lem;
+      safe_count = rw (← e.safe_count) o.safe_count;
       bag_count = rw (← e.bag_count) o.bag_count;
       attribute_count = rw (← e.attribute_count) o.attribute_count;
       ranges =
@@ -140,13 +140,13 @@ module _ (t u : Table) (a : Alike t u) (s : List ℕ) where
   keeps_same : keeps_rules t s ≡ keeps_rules u s
   unfolding keeps_rules counts_fit rows_test
   keeps_same =
-      rw (safes_same.1, bags_same.1, a.attributes, a.mac, a.safe_count_lem, a.bag_count, a.attribute_count)
+      rw (safes_same.1, bags_same.1, a.attributes, a.mac, a.safe_count, a.bag_count, a.attribute_count)
 
   pub alike_sound : Sound t s ↔ Sound u s
   alike_sound =
       let e : Same s t u =
       record {
-        safe_count_lem = a.safe_count_lem;
+        safe_count = a.safe_count;
         bag_count = a.bag_count;
         attribute_count = a.attribute_count;
         safes = safes_same.2;

@@ -472,7 +472,7 @@ module _ (t : Table) (s : List ℕ) (bytes : Bytes s) where
   unfolding reading_of
   sound_keeps o =
       (keeps_says t s bytes).1 (
-        (o.safe_count_lem, (o.bag_count, o.attribute_count)),
+        (o.safe_count, (o.bag_count, o.attribute_count)),
         (o.ranges, valid_good (values_of t s) o.reading (tree_rows (values_of t s) o.reading o.shows) o.valid.safes o.valid.mac),
       )
 
@@ -488,7 +488,7 @@ module _ (t : Table) (s : List ℕ) (bytes : Bytes s) where
         record {
           safes = v.0;
           mac = v.1;
-          safe_count_lem = omega (arith, n.0, m.0, k.0.0);
+          safe_count = omega (arith, n.0, m.0, k.0.0);
           bag_count = omega (arith, n.1, m.1, k.0.1.0);
           attribute_count = omega (arith, n.2, m.2, k.0.1.1);
         }
@@ -498,7 +498,7 @@ module _ (t : Table) (s : List ℕ) (bytes : Bytes s) where
     keeps_sound =
         let k = (keeps_says t s bytes).0 keeps in (
           record {
-            safe_count_lem = k.0.0;
+            safe_count = k.0.0;
             bag_count = k.0.1.0;
             attribute_count = k.0.1.1;
             ranges = k.1.0;

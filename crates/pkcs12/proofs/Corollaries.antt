@@ -82,7 +82,7 @@ module _ (f : List ℕ) (bytes : Bytes f) (t : Table) (o : FileIs f bytes t) whe
     sound_of =
         let c = counts_in_table o.rows o.mac in
         record {
-          safe_count_lem = rw (ap (λ (u : Table). u.safe_count) o.table ∙ c.0) o.fits.safes;
+          safe_count = rw (ap (λ (u : Table). u.safe_count) o.table ∙ c.0) o.fits.safes;
           bag_count = rw (ap (λ (u : Table). u.bag_count) o.table ∙ c.1) o.fits.bags;
           attribute_count = rw (ap (λ (u : Table). u.attribute_count) o.table ∙ c.2) o.fits.attributes;
           ranges = pfx_lies f (rows_in t) t.mac x laid_of;

@@ -338,7 +338,7 @@ module _ (s : List ℕ) (small : length s ≤ file_bytes) where
       (run_is (safe_at s) b e _ _ _ _
       (safes_pass v.safes b e (e - b) (start_rows (cursor at e)) 0 0 0 r.safes q
       (record { safes = refl; bags = refl; attributes = refl })
-      (omega (arith, r.safe_count_lem)) (omega (arith, r.bag_count)) (omega (arith, r.attribute_count)) (omega arith)))
+      (omega (arith, r.safe_count)) (omega (arith, r.bag_count)) (omega (arith, r.attribute_count)) (omega arith)))
       (λ st g n. rw (f, g) (refl, n)))
 
   -- the outer ContentInfo

@@ -17,9 +17,9 @@ use Rattle.pkcs12.specs.Values.{attributes_of_safes, rows_of}
 use Rattle.pkcs12.specs.Table.{Rows, sealed_in, content_in, safe_shown, bag_shown, attribute_shown, shown}
 use Rattle.range.specs.Range.{bytes_in}
 use Rattle.pkcs12.specs.Walk.{Owner, owner}
-use Rattle.pkcs12.specs.Laid.{ElementLaid, PieceLaid, AlgorithmLaid, LeafLaid, AttributesLaid, no_attribute_lem}
-use Rattle.pkcs12.specs.Laid.{one_attribute, SetLaid, no_set, one_set, BagLaid, BagsLaid, no_bag_lem, one_bag}
-use Rattle.pkcs12.specs.Laid.{one_nest, SafesLaid, no_safe_lem, one_plain, one_encrypted, PfxLaid}
+use Rattle.pkcs12.specs.Laid.{ElementLaid, PieceLaid, AlgorithmLaid, LeafLaid, AttributesLaid, no_attribute_laid}
+use Rattle.pkcs12.specs.Laid.{one_attribute, SetLaid, no_set, one_set, BagLaid, BagsLaid, no_bag_laid, one_bag}
+use Rattle.pkcs12.specs.Laid.{one_nest, SafesLaid, no_safe_laid, one_plain, one_encrypted, PfxLaid}
 use Rattle.der.specs.Named.{Each}
 use Rattle.pkcs12.specs.Sound.{Lies, SealedLies, PartsLie, SafeLies, RangesLie}
 use Rattle.range.specs.declared.Range.{Range}
@@ -111,7 +111,7 @@ AttributesShow s = Shows (attribute_shown s) (λ r. Lies s r.identifier × Lies 
 attributes_show : (s : List ℕ) (from to n : ℕ) (xs : List Attribute) (own : List AttributeRow) → AttributesLaid s n from to xs own
     → AttributesShow s own (own_values n xs) (length xs)
 unfolding own_values
-attributes_show s from to n [] own no_attribute_lem = shows_none
+attributes_show s from to n [] own no_attribute_laid = shows_none
 attributes_show s from to n (a ∷ xs) own (one_attribute {r = r} l m) =
     let i = held s r.identifier a.identifier l.type.body in
     let v = held s r.values a.values l.values.body in
@@ -135,7 +135,7 @@ bag_shows b h r = rw b.shows (shows_more (rw h.0 refl) h.1 r refl)
 bags_show : (s : List ℕ) (from to : ℕ) (w : Owner) (n : ℕ) (x : Bags) (rows : List BagRow) (own : List AttributeRow) → BagsLaid s from to w n x rows own
     → BagsShow s rows (bag_values w.safe w.enclosing n x) (bags_in x) × AttributesShow s own (attribute_values n x) (attributes_in x)
 unfolding bag_values attribute_values bags_in attributes_in
-bags_show s from to w n none rows own no_bag_lem = (shows_none, shows_none)
+bags_show s from to w n none rows own no_bag_laid = (shows_none, shows_none)
 bags_show s from to w n (bag x set xs) rows own (one_bag p value b l m) =
     let q = bags_show s _ _ w (n + 1) xs _ _ m in
     (bag_shows b (leaf_held s _ _ p x l) q.0, shows_join (set_shows s _ _ n set _ b.attributes) q.1)
@@ -162,7 +162,7 @@ record SafesAre (s : List ℕ) (k n : ℕ) (xs : List Safe) (safes : List SafeRo
 safes_show : (s : List ℕ) (from to k n : ℕ) (xs : List Safe) (safes : List SafeRow) (rows : List BagRow) (own : List AttributeRow)
     → SafesLaid s from to k n xs safes rows own → SafesAre s k n xs safes rows own
 unfolding safe_values bags_of_safes attributes_of_safes bags_in_safes attributes_in_safes
-safes_show s from to k n [] safes rows own no_safe_lem = record { in_safes = shows_none; in_bags = shows_none; in_attributes = shows_none }
+safes_show s from to k n [] safes rows own no_safe_laid = record { in_safes = shows_none; in_bags = shows_none; in_attributes = shows_none }
 safes_show s from to k n (plain x ∷ xs) safes rows own (one_plain octets inner d l m) =
     let b = bags_show s _ _ (owner k Enclosing.None) n x _ _ l in
     let q = safes_show s _ _ (k + 1) (n + bags_in x) xs _ _ _ m in

@@ -54,7 +54,7 @@ Pairwise P (x ∷ xs) (y ∷ ys) = P x y × Pairwise P xs ys
 -- doesn't use. Nothing is said of rows past the counts, the number of elements and the range of the
 -- MAC input. An attribute row has no kind.
 pub record Alike (t u : Table) : Type 0 where
-  pub safe_count_lem : t.safe_count ≡ u.safe_count
+  pub safe_count : t.safe_count ≡ u.safe_count
   pub bag_count : t.bag_count ≡ u.bag_count
   pub attribute_count : t.attribute_count ≡ u.attribute_count
   pub safes : Pairwise SafesAlike (rows_in t).safes (rows_in u).safes

@@ -90,7 +90,7 @@ pub record AttributeLaid (s : List ℕ) (from to n : ℕ) (a : Attribute) (r : A
 
 -- attributes of bag n, one behind another
 pub data AttributesLaid (s : List ℕ) (n : ℕ) : ℕ → ℕ → List Attribute → List AttributeRow → Type 0 where
-  no_attribute_lem : {at : ℕ} → AttributesLaid s n at at [] []
+  no_attribute_laid : {at : ℕ} → AttributesLaid s n at at [] []
   one_attribute : {from mid to : ℕ} {a : Attribute} {xs : List Attribute} {r : AttributeRow} {rs : List AttributeRow}
       → AttributeLaid s from mid n a r → AttributesLaid s n mid to xs rs → AttributesLaid s n from to (a ∷ xs) (r ∷ rs)
 
@@ -115,7 +115,7 @@ pub record BagLaid (s : List ℕ) (from to : ℕ) (w : Owner) (n : ℕ) (k : Bag
 
 -- bags one behind another, the first of which is row n, with their rows and attribute rows
 pub data BagsLaid (s : List ℕ) : ℕ → ℕ → Owner → ℕ → Bags → List BagRow → List AttributeRow → Type 0 where
-  no_bag_lem : {at : ℕ} {w : Owner} {n : ℕ} → BagsLaid s at at w n none [] []
+  no_bag_laid : {at : ℕ} {w : Owner} {n : ℕ} → BagsLaid s at at w n none [] []
   one_bag : {from mid to : ℕ} {w : Owner} {n : ℕ} {x : Leaf} {set : Set} {xs : Bags} {row : BagRow}
       {rows : List BagRow} {own rest : List AttributeRow} (p : Parts) (value : Range)
       → BagLaid s from mid w n (kind_of_leaf x) p value (leaf_bytes x) set row own → LeafLaid s value.start value.end p x
@@ -163,7 +163,7 @@ pub record DataLaid (s : List ℕ) (from to : ℕ) (octets inner : Range) (x : L
 
 -- safes one behind another, from safe k and bag n on, with their rows
 pub data SafesLaid (s : List ℕ) : ℕ → ℕ → ℕ → ℕ → List Safe → List SafeRow → List BagRow → List AttributeRow → Type 0 where
-  no_safe_lem : {at k n : ℕ} → SafesLaid s at at k n [] [] [] []
+  no_safe_laid : {at k n : ℕ} → SafesLaid s at at k n [] [] [] []
   one_plain : {from mid to k n : ℕ} {x : Bags} {xs : List Safe} {safes : List SafeRow} {below rows : List BagRow}
       {deep rest : List AttributeRow} (octets inner : Range)
       → DataLaid s from mid octets inner (bags_bytes x) → BagsLaid s inner.start inner.end (owner k Enclosing.None) n x below deep

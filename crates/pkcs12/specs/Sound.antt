@@ -53,7 +53,7 @@ pub record RangesLie (s : List ℕ) (st : Rows) (m : Mac) : Type 0 where
 -- Rule 6.7: rows past the counts, the number of elements, the range of the MAC input and fields
 -- that a row's kind doesn't use are ignored.
 pub record Sound (t : Table) (s : List ℕ) : Type 0 where
-  pub safe_count_lem : t.safe_count ≤ safe_rows
+  pub safe_count : t.safe_count ≤ safe_rows
   pub bag_count : t.bag_count ≤ bag_rows
   pub attribute_count : t.attribute_count ≤ attribute_rows
   pub ranges : RangesLie s (rows_in t) t.mac

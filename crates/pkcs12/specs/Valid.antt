@@ -130,6 +130,6 @@ attributes_in_safes (x ∷ xs) = attributes_in_safe x + attributes_in_safes xs
 pub record Valid (x : Pfx) : Type 0 where
   pub safes : ValidSafes x.safes
   pub mac : ValidMac x.mac
-  pub safe_count_lem : length x.safes ≤ safe_rows
+  pub safe_count : length x.safes ≤ safe_rows
   pub bag_count : bags_in_safes x.safes ≤ bag_rows
   pub attribute_count : attributes_in_safes x.safes ≤ attribute_rows

@@ -143,9 +143,9 @@ abbrev pub before : (Bags → Bags) → Taken → Taken
 before f t = record { bags = f t.bags; next = t.next; rows = t.rows; rest = t.rest }
 
 abbrev pub on_content : {A : Type 0} → Content → A → (Leaf → A) → A → A
-on_content empty_bag no_bag_lem single nests = no_bag_lem
-on_content (leaf x) no_bag_lem single nests = single x
-on_content nested no_bag_lem single nests = nests
+on_content empty_bag empty single nests = empty
+on_content (leaf x) empty single nests = single x
+on_content nested empty single nests = nests
 
 -- one level below, if one is left
 abbrev pub on_level : {A : Type 0} → ℕ → A → (ℕ → A) → A

@@ -34,7 +34,7 @@ use Rattle.sizes.proofs.Picks.{safes_past, safes_none, safes_more}
 
 -- the counts are within the arrays, and these have their sizes
 pub record CountsFit (t : Table) : Type 0 where
-  pub safe_count_lem : t.safe_count ≤ safe_rows
+  pub safe_count : t.safe_count ≤ safe_rows
   pub bag_count : t.bag_count ≤ bag_rows
   pub attribute_count : t.attribute_count ≤ attribute_rows
   pub safe_length : length t.safes ≡ safe_rows
@@ -151,7 +151,7 @@ module _ (t : Table) (fit : CountsFit t) where
   bag_end_lem = omega (arith, fit.bag_count)
 
   pub safe_end_lem : safe_end t ≡ t.safe_count
-  safe_end_lem = omega (arith, fit.safe_count_lem)
+  safe_end_lem = omega (arith, fit.safe_count)
 
 -- what was taken by number, as what is left of the rows
 abbrev pub taken_as : Table → List ℕ → Picked → Taken
@@ -194,13 +194,13 @@ module _ (t : Table) (s : List ℕ) (fit : CountsFit t) where
   safes_end_lem : (k : ℕ) → t.safe_count ≤ k → drop k (values_of t s).safes ≡ []
   unfolding values_of shown rows_in
   safes_end_lem k h = shown_end (safe_shown s) t.safe_count t.safes
-      (omega (arith, fit.safe_count_lem, fit.safe_length)) k h
+      (omega (arith, fit.safe_count, fit.safe_length)) k h
 
   safes_next : (k : ℕ) → k < t.safe_count
       → drop k (values_of t s).safes ≡ safe_value t s k ∷ drop (k + 1) (values_of t s).safes
   unfolding values_of shown rows_in
   safes_next k h = shown_next (safe_shown s) t.safe_count t.safes
-      (omega (arith, fit.safe_count_lem, fit.safe_length)) no_safe k h
+      (omega (arith, fit.safe_count, fit.safe_length)) no_safe k h
 
   -- ---- attributes of one bag
 

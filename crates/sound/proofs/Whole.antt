@@ -54,7 +54,7 @@ fits t s a k =
     let d = both_second (leb t.safe_count safe_rows)
     (both (leb t.bag_count bag_rows) (leb t.attribute_count attribute_rows)) c in
     record {
-      safe_count_lem = leb-true _ _ (both_first (leb t.safe_count safe_rows)
+      safe_count = leb-true _ _ (both_first (leb t.safe_count safe_rows)
           (both (leb t.bag_count bag_rows) (leb t.attribute_count attribute_rows)) c);
       bag_count = leb-true _ _ (both_first (leb t.bag_count bag_rows) (leb t.attribute_count attribute_rows) d);
       attribute_count = leb-true _ _
