@@ -1,5 +1,5 @@
 /* PKCS #12 files (RFC 7292, password integrity, DER): reading, writing, attributes, pairing, listing,
- * files as text, and the check of an upload while it arrives. Link libp12.a (`rt staticlib p12`).
+ * files as text, and the check of an upload while it arrives. Link libp12.a (`rt lib` in crates/p12).
  *
  * Every call returns, whatever it is handed; none allocates, keeps anything between calls or stops
  * the program. Each returns a number, P12_OK or that of the refusal; only p12_element and

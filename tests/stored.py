@@ -26,7 +26,7 @@ UNWRAP = TOP / "crates/unwrap"          # a text and the file that it wraps
 
 def program(folder):
     """The program that runs over what a folder has."""
-    return TOP / "target/bin" / folder.name
+    return folder / "out" / folder.name
 
 
 if __name__ == "__main__":
