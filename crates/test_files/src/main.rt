@@ -1,7 +1,7 @@
 // Lists the files of standard input, one after another, and of each that is accepted pairs its keys
 // with certificates, calls the attribute reader and the identity rows (`runs`) and says whether the
-// writer makes the same bytes of its table. Each file is a frame. A frame that is cut, or longer than the buffer, is answered by the line `cut`, and nothing
-// after it is read.
+// writer makes the same bytes of its table. Each file is a frame. A frame that is cut, or longer
+// than the buffer, is answered by the line `cut`, and nothing after it is read.
 #![tactic(auto)]
 
 mod runs;

@@ -1,7 +1,5 @@
 // Runs calls on the table of an accepted file: an attribute reader of each bag, and identity rows,
 // each by itself and all stored in an array. docs/TESTS.md has the form of the lines.
-// `three_calls`, `part_of` and `fill_rows` are proved by a walk, so each is a row of calls; the
-// rest is done over them.
 use attributes::Item;
 use buffer::Written;
 use der::Fault;
