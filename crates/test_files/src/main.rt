@@ -21,7 +21,12 @@ fn same_front(out: &[u8], n: usize, file: &[u8]) -> bool {
 }
 
 // Writes the file of a table, and says whether it is this one.
-fn write_back(output: &mut impl Write, table: Table, file: &[u8], out: &mut [u8]) -> io::Result<()> {
+fn write_back(
+    output: &mut impl Write,
+    table: Table,
+    file: &[u8],
+    out: &mut [u8],
+) -> io::Result<()> {
     let written = writer::write(table, file, out);
     let same = match written {
         Written::Length(n) => same_front(out, n, file),
