@@ -3,11 +3,12 @@
 #![tactic(auto)]
 
 use std::io;
+use std::io::Write;
 
-fn list(rt: &impl Print, file: &[u8]) -> io::Result<()> {
+fn list(output: &mut impl Write, file: &[u8]) -> io::Result<()> {
     let mut text = [0u8; stdio::LARGE];
     let written = listing::list(file.len(), reader::read(file), &mut text);
-    stdio::write_result(rt, &text, written)?;
+    stdio::write_result(output, &text, written)?;
     Ok(())
 }
 
@@ -15,6 +16,6 @@ fn main(rt: HostRuntime) -> io::Result<()> {
     let mut buffer = [0u8; source::READ_BYTES];
     let mut unwrapped = [0u8; stdio::LARGE];
     let n = stdio::read_all(&mut rt.stdin(), &mut buffer)?;
-    let file = source::file(&rt.stderr(), &buffer[..n], &mut unwrapped)?;
-    list(&rt, file)
+    let file = source::file(&mut rt.stderr(), &buffer[..n], &mut unwrapped)?;
+    list(&mut rt.stdout(), file)
 }

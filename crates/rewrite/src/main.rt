@@ -4,22 +4,23 @@
 
 use pkcs12::{Answer, Table};
 use std::io;
+use std::io::Write;
 
 // The writer refuses no table of an accepted file.
-fn write_back(rt: &impl Print, table: Table, file: &[u8]) -> io::Result<()> {
+fn write_back(output: &mut impl Write, table: Table, file: &[u8]) -> io::Result<()> {
     let mut out = [0u8; stdio::LARGE];
     let written = writer::write(table, file, &mut out);
-    stdio::write_result(rt, &out, written)?;
+    stdio::write_result(output, &out, written)?;
     Ok(())
 }
 
-fn rewrite(rt: &impl Print, file: &[u8]) -> io::Result<()> {
+fn rewrite(output: &mut impl Write, file: &[u8]) -> io::Result<()> {
     let reading = reader::read(file);
     let answer = reading.answer;
     match answer {
-        Answer::Accepted => write_back(rt, reading.table, file),
+        Answer::Accepted => write_back(output, reading.table, file),
         Answer::Refused(fault) => {
-            stdio::write_refused(rt, fault)?;
+            stdio::write_refused(output, fault)?;
             Ok(())
         }
     }
@@ -30,5 +31,5 @@ fn rewrite(rt: &impl Print, file: &[u8]) -> io::Result<()> {
 fn main(rt: HostRuntime) -> io::Result<()> {
     let mut buffer = [0u8; stdio::LARGE];
     let n = stdio::read_all(&mut rt.stdin(), &mut buffer)?;
-    rewrite(&rt, &buffer[..n])
+    rewrite(&mut rt.stdout(), &buffer[..n])
 }

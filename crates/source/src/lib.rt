@@ -24,7 +24,7 @@ fn unwrapped_line(out: &mut [u8], at: usize, n: usize) -> usize
 }
 
 // Writes the line to standard error. Returns the number of bytes handed on.
-fn say_unwrapped(errors: &Stderr, n: usize) -> io::Result<usize>
+fn say_unwrapped(errors: &mut Stderr, n: usize) -> io::Result<usize>
     ensures { IfOk result (λ k. k ≡ length (unwrapped_line n)) }
 {
     let mut line = [0u8; 128];
@@ -35,7 +35,7 @@ fn say_unwrapped(errors: &Stderr, n: usize) -> io::Result<usize>
 // The bytes of the file: those that a text wraps, at the front of the buffer, and standard error
 // says so; or all that were read, if these aren't a text that is imported. The only error is one of
 // writing to standard error.
-pub fn file<'a>(errors: &Stderr, read: &'a [u8], out: &'a mut [u8]) -> io::Result<&'a [u8]>
+pub fn file<'a>(errors: &mut Stderr, read: &'a [u8], out: &'a mut [u8]) -> io::Result<&'a [u8]>
     ensures { IfOk result (λ bytes. bytes.now ≡ file_in read.now out.old) }
 {
     let written = pem::import(read, out);

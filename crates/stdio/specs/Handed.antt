@@ -1,5 +1,5 @@
 -- How many bytes of a buffer are handed on.
-use Rattle.std.specs.Prelude.{List, ℕ, ltb, length}
+use Rattle.std.specs.Prelude.{List, ℕ, ltb, length, take}
 use Rattle.std.specs.Prelude.{if◌then◌else◌}
 use Rattle.buffer.specs.declared.Written.{Written}
 use Rattle.buffer.specs.declared.Written.TheVariants.{Length}
@@ -13,3 +13,8 @@ front buffer n = if ltb (length buffer) n then 0 else n
 unfoldable pub handed : List ℕ → Written → ℕ
 handed buffer (Length n) = front buffer n
 handed buffer (Written.Refused f) = length (refused_line f)
+
+-- these bytes
+unfoldable pub handed_bytes : List ℕ → Written → List ℕ
+handed_bytes buffer (Length n) = take (front buffer n) buffer
+handed_bytes buffer (Written.Refused f) = refused_line f

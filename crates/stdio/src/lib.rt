@@ -4,18 +4,18 @@
 // bytes may have been handed on before it.
 #![tactic(auto)]
 
-ghost use Rattle.std.specs.Prelude.{◌≡◌, ◌<◌, length, take, IfOk, OnErr};
+ghost use Rattle.std.specs.Prelude.{◌≡◌, ◌<◌, length, take, codes, IfOk, OnOk, OnErr};
 ghost use Rattle.std.specs.Io.{ReadsAtMost};
-ghost use Rattle.std.specs.Io.KnownBytes.{Consumes, IsAtEnd};
-ghost use Rattle.io.specs.Digits.{IsDigitCount};
+ghost use Rattle.std.specs.Io.KnownBytes.{Appends, Consumes, IsAtEnd};
+ghost use Rattle.io.specs.Digits.{IsDigitCount, last_digits};
 ghost use Rattle.stdio.specs.Frame.{InBuffer};
-ghost use Rattle.stdio.specs.Handed.{front, handed};
+ghost use Rattle.stdio.specs.Handed.{front, handed, handed_bytes};
 ghost use Rattle.stdio.specs.Taken.{AtFront};
 ghost use Rattle.text.specs.Text.{refused_line};
 
 use buffer::{Written, read};
 use der::Fault;
-use std::io::{Read, Result, Stderr};
+use std::io::{Read, Result, Stderr, Write};
 
 // The size of a large buffer: one byte more than the longest file has, and as many as the longest
 // listing may have.
@@ -85,8 +85,9 @@ pub fn read_frame<R: Read>(input: &mut R, buffer: &mut [u8]) -> Result<Frame>
 
 // Writes the first n bytes of a buffer, none if it has fewer. Returns the number of bytes handed
 // on.
-pub fn write_front<W: Print>(output: &W, buffer: &[u8], n: usize) -> Result<usize>
-    ensures { IfOk result (λ k. k ≡ front buffer.now n) }
+pub fn write_front<W: Write>(output: &mut W, buffer: &[u8], n: usize) -> Result<usize>
+    ensures count { IfOk result (λ k. k ≡ front buffer.now n) }
+    ensures bytes { OnOk result (Appends (W.contents output.old) (W.contents output.new) (take (front buffer.now n) buffer.now)) }
 {
     if buffer.len() < n {
         return Ok(0);
@@ -96,8 +97,9 @@ pub fn write_front<W: Print>(output: &W, buffer: &[u8], n: usize) -> Result<usiz
 }
 
 // Writes the line of a refusal. Returns the number of bytes handed on.
-pub fn write_refused<W: Print>(output: &W, fault: Fault) -> Result<usize>
-    ensures { IfOk result (λ k. k ≡ length (refused_line fault)) }
+pub fn write_refused<W: Write>(output: &mut W, fault: Fault) -> Result<usize>
+    ensures count { IfOk result (λ k. k ≡ length (refused_line fault)) }
+    ensures bytes { OnOk result (Appends (W.contents output.old) (W.contents output.new) (refused_line fault)) }
 {
     let mut line = [0u8; 64];
     let n = text::refused(&mut line, 0, fault);
@@ -106,8 +108,9 @@ pub fn write_refused<W: Print>(output: &W, fault: Fault) -> Result<usize>
 
 // Writes what a call left at the front of a buffer, or the line of its refusal. Returns the number
 // of bytes handed on.
-pub fn write_result<W: Print>(output: &W, buffer: &[u8], res: Written) -> Result<usize>
-    ensures { IfOk result (λ k. k ≡ handed buffer.now res) }
+pub fn write_result<W: Write>(output: &mut W, buffer: &[u8], res: Written) -> Result<usize>
+    ensures count { IfOk result (λ k. k ≡ handed buffer.now res) }
+    ensures bytes { OnOk result (Appends (W.contents output.old) (W.contents output.new) (handed_bytes buffer.now res)) }
 {
     match res {
         Written::Length(n) => write_front(output, buffer, n),
@@ -116,30 +119,33 @@ pub fn write_result<W: Print>(output: &W, buffer: &[u8], res: Written) -> Result
 }
 
 // Writes a text to one of the outputs. Returns the number of bytes handed on.
-fn write_to<W: Print>(output: &W, text: &[u8]) -> Result<usize>
-    ensures { IfOk result (λ k. k ≡ length text.now) }
+fn write_to<W: Write>(output: &mut W, text: &[u8]) -> Result<usize>
+    ensures count { IfOk result (λ k. k ≡ length text.now) }
+    ensures bytes { OnOk result (Appends (W.contents output.old) (W.contents output.new) text.now) }
 {
     output.write_all(text)?;
     Ok(text.len())
 }
 
 // Writes a text. Returns the number of bytes handed on.
-pub fn write_text<W: Print>(output: &W, text: &[u8]) -> Result<usize>
-    ensures { IfOk result (λ k. k ≡ length text.now) }
+pub fn write_text<W: Write>(output: &mut W, text: &[u8]) -> Result<usize>
+    ensures count { IfOk result (λ k. k ≡ length text.now) }
+    ensures bytes { OnOk result (Appends (W.contents output.old) (W.contents output.new) text.now) }
 {
     write_to(output, text)
 }
 
 // Writes a text to standard error. Returns the number of bytes handed on.
-pub fn write_error(errors: &Stderr, text: &[u8]) -> Result<usize>
+pub fn write_error(errors: &mut Stderr, text: &[u8]) -> Result<usize>
     ensures { IfOk result (λ k. k ≡ length text.now) }
 {
     write_to(errors, text)
 }
 
 // Writes a number in decimal, without leading zeros. Returns the number of digits handed on.
-pub fn write_decimal<W: Print>(output: &W, n: usize) -> Result<usize>
-    ensures { IfOk result (λ k. IsDigitCount 10 1 n k) }
+pub fn write_decimal<W: Write>(output: &mut W, n: usize) -> Result<usize>
+    ensures count { IfOk result (λ k. IsDigitCount 10 1 n k) }
+    ensures bytes { IfOk result (λ k. Appends (W.contents output.old) (W.contents output.new) (last_digits 10 k n)) }
 {
     let mut digits = [0u8; 20];
     let count = io::decimal(n as u64, &mut digits);
@@ -147,8 +153,9 @@ pub fn write_decimal<W: Print>(output: &W, n: usize) -> Result<usize>
 }
 
 // Writes a byte as two hexadecimal digits, in lower case. Returns the number of digits handed on.
-pub fn write_hex<W: Print>(output: &W, b: u8) -> Result<usize>
-    ensures { IfOk result (λ k. k ≡ 2) }
+pub fn write_hex<W: Write>(output: &mut W, b: u8) -> Result<usize>
+    ensures count { IfOk result (λ k. k ≡ 2) }
+    ensures bytes { OnOk result (Appends (W.contents output.old) (W.contents output.new) (last_digits 16 2 b)) }
 {
     let mut digits = [0u8; 16];
     let two = io::hex(b as u64, 2, &mut digits);
@@ -156,8 +163,9 @@ pub fn write_hex<W: Print>(output: &W, b: u8) -> Result<usize>
 }
 
 // Writes the line `cut`. Returns the number of bytes handed on.
-pub fn write_cut<W: Print>(output: &W) -> Result<usize>
-    ensures { IfOk result (λ k. k ≡ 4) }
+pub fn write_cut<W: Write>(output: &mut W) -> Result<usize>
+    ensures count { IfOk result (λ k. k ≡ 4) }
+    ensures bytes { OnOk result (Appends (W.contents output.old) (W.contents output.new) (codes "cut\n")) }
 {
     write_text(output, b"cut\n")
 }

@@ -8,131 +8,132 @@ ghost use Rattle.std.specs.Prelude.{◌<◌, IfOk, length};
 
 use der::{Checked, Cursor, Element, Fault, Integer};
 use std::io;
+use std::io::Write;
 use stdio::{write_decimal, write_hex, write_text};
 
 const HEADER: usize = 8;
 
-fn range(rt: &impl Print, c: Cursor) -> io::Result<()> {
-    write_decimal(rt, c.at)?;
-    write_text(rt, b"..")?;
-    write_decimal(rt, c.end)?;
+fn range(output: &mut impl Write, c: Cursor) -> io::Result<()> {
+    write_decimal(output, c.at)?;
+    write_text(output, b"..")?;
+    write_decimal(output, c.end)?;
     Ok(())
 }
 
-fn refused(rt: &impl Print, f: Fault) -> io::Result<()> {
-    write_text(rt, b"refused ")?;
-    write_decimal(rt, f.number as usize)?;
-    write_text(rt, b" at ")?;
-    write_decimal(rt, f.offset)?;
-    write_text(rt, b"\n")?;
+fn refused(output: &mut impl Write, f: Fault) -> io::Result<()> {
+    write_text(output, b"refused ")?;
+    write_decimal(output, f.number as usize)?;
+    write_text(output, b" at ")?;
+    write_decimal(output, f.offset)?;
+    write_text(output, b"\n")?;
     Ok(())
 }
 
-fn next(rt: &impl Print, c: Cursor) -> io::Result<()> {
-    write_text(rt, b", next ")?;
-    range(rt, c)?;
-    write_text(rt, b"\n")?;
+fn next(output: &mut impl Write, c: Cursor) -> io::Result<()> {
+    write_text(output, b", next ")?;
+    range(output, c)?;
+    write_text(output, b"\n")?;
     Ok(())
 }
 
-fn show_element(rt: &impl Print, e: Element) -> io::Result<()> {
+fn show_element(output: &mut impl Write, e: Element) -> io::Result<()> {
     match e {
-        Element::Refused(f) => refused(rt, f),
+        Element::Refused(f) => refused(output, f),
         Element::Found { tag, body, next: n } => {
-            write_text(rt, b"found ")?;
-            write_hex(rt, tag)?;
-            write_text(rt, b", body ")?;
-            range(rt, body)?;
-            next(rt, n)
+            write_text(output, b"found ")?;
+            write_hex(output, tag)?;
+            write_text(output, b", body ")?;
+            range(output, body)?;
+            next(output, n)
         }
     }
 }
 
-fn show_integer(rt: &impl Print, i: Integer) -> io::Result<()> {
+fn show_integer(output: &mut impl Write, i: Integer) -> io::Result<()> {
     match i {
-        Integer::Refused(f) => refused(rt, f),
+        Integer::Refused(f) => refused(output, f),
         Integer::Value { value, next: n } => {
-            write_text(rt, b"value ")?;
-            write_decimal(rt, value as usize)?;
-            next(rt, n)
+            write_text(output, b"value ")?;
+            write_decimal(output, value as usize)?;
+            next(output, n)
         }
     }
 }
 
-fn show_checked(rt: &impl Print, k: Checked) -> io::Result<()> {
+fn show_checked(output: &mut impl Write, k: Checked) -> io::Result<()> {
     match k {
-        Checked::Refused(f) => refused(rt, f),
+        Checked::Refused(f) => refused(output, f),
         Checked::Passed { count, next: n } => {
-            write_text(rt, b"passed ")?;
-            write_decimal(rt, count)?;
-            next(rt, n)
+            write_text(output, b"passed ")?;
+            write_decimal(output, count)?;
+            next(output, n)
         }
     }
 }
 
-fn show_tag(rt: &impl Print, t: u8) -> io::Result<()> {
-    write_text(rt, b"tag ")?;
-    write_hex(rt, t)?;
-    write_text(rt, b"\n")?;
+fn show_tag(output: &mut impl Write, t: u8) -> io::Result<()> {
+    write_text(output, b"tag ")?;
+    write_hex(output, t)?;
+    write_text(output, b"\n")?;
     Ok(())
 }
 
-fn show_cursor(rt: &impl Print, c: Cursor) -> io::Result<()> {
-    write_text(rt, b"cursor ")?;
-    range(rt, c)?;
-    write_text(rt, b"\n")?;
+fn show_cursor(output: &mut impl Write, c: Cursor) -> io::Result<()> {
+    write_text(output, b"cursor ")?;
+    range(output, c)?;
+    write_text(output, b"\n")?;
     Ok(())
 }
 
 // One call, by its letter.
-fn call(rt: &impl Print, letter: u8, argument: u8, c: Cursor, s: &[u8]) -> io::Result<()> {
+fn call(output: &mut impl Write, letter: u8, argument: u8, c: Cursor, s: &[u8]) -> io::Result<()> {
     match letter {
-        b't' => show_tag(rt, c.tag(s)),
-        b'e' => show_element(rt, c.element(s)),
-        b'd' => show_element(rt, c.expect(s, argument)),
-        b's' => show_element(rt, c.octet_string(s)),
-        b'i' => show_element(rt, c.identifier(s)),
-        b'n' => show_integer(rt, c.integer(s)),
-        b'o' => show_checked(rt, c.opaque(s, argument)),
-        b'r' => show_checked(rt, c.elements(s, argument)),
-        b'f' => show_checked(rt, c.finish()),
-        b'w' => show_cursor(rt, Cursor::over(s)),
+        b't' => show_tag(output, c.tag(s)),
+        b'e' => show_element(output, c.element(s)),
+        b'd' => show_element(output, c.expect(s, argument)),
+        b's' => show_element(output, c.octet_string(s)),
+        b'i' => show_element(output, c.identifier(s)),
+        b'n' => show_integer(output, c.integer(s)),
+        b'o' => show_checked(output, c.opaque(s, argument)),
+        b'r' => show_checked(output, c.elements(s, argument)),
+        b'f' => show_checked(output, c.finish()),
+        b'w' => show_cursor(output, Cursor::over(s)),
         _ => {
-            write_text(rt, b"no such call\n")?;
+            write_text(output, b"no such call\n")?;
             Ok(())
         }
     }
 }
 
 // The frame at `at`, and the offset behind it.
-fn frame(rt: &impl Print, s: &[u8], at: usize) -> io::Result<usize>
+fn frame(output: &mut impl Write, s: &[u8], at: usize) -> io::Result<usize>
     requires { at < length s.now }
     ensures { IfOk result (λ next. at < next) }
 {
     let left = s.len() - at;
     if left < HEADER {
-        stdio::write_cut(rt)?;
+        stdio::write_cut(output)?;
         return Ok(s.len());
     }
     let start = at + HEADER;
     let size = buffer::read::u16_be(s, at + 6) as usize;
     let stop = start + size;
     if s.len() < stop {
-        stdio::write_cut(rt)?;
+        stdio::write_cut(output)?;
         return Ok(s.len());
     }
     let c = Cursor {
         at: buffer::read::u16_be(s, at + 2) as usize,
         end: buffer::read::u16_be(s, at + 4) as usize,
     };
-    call(rt, s[at], s[at + 1], c, &s[start..stop])?;
+    call(output, s[at], s[at + 1], c, &s[start..stop])?;
     Ok(stop)
 }
 
-fn frames(rt: &impl Print, s: &[u8]) -> io::Result<()> {
+fn frames(output: &mut impl Write, s: &[u8]) -> io::Result<()> {
     let mut at = 0;
     while at < s.len() {
-        at = frame(rt, s, at)?;
+        at = frame(output, s, at)?;
     }
     Ok(())
 }
@@ -140,5 +141,5 @@ fn frames(rt: &impl Print, s: &[u8]) -> io::Result<()> {
 fn main(rt: HostRuntime) -> io::Result<()> {
     let mut buffer = [0u8; stdio::LARGE];
     let n = stdio::read_all(&mut rt.stdin(), &mut buffer)?;
-    frames(&rt, &buffer[..n])
+    frames(&mut rt.stdout(), &buffer[..n])
 }

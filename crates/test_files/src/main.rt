@@ -9,7 +9,7 @@ mod runs;
 use buffer::Written;
 use pkcs12::{Answer, Reading, Table};
 use std::io;
-use std::io::Read;
+use std::io::{Read, Write};
 use stdio::Frame;
 
 // Whether the first n bytes of what was written are the file.
@@ -21,47 +21,52 @@ fn same_front(out: &[u8], n: usize, file: &[u8]) -> bool {
 }
 
 // Writes the file of a table, and says whether it is this one.
-fn write_back(rt: &impl Print, table: Table, file: &[u8], out: &mut [u8]) -> io::Result<()> {
+fn write_back(
+    output: &mut impl Write,
+    table: Table,
+    file: &[u8],
+    out: &mut [u8],
+) -> io::Result<()> {
     let written = writer::write(table, file, out);
     let same = match written {
         Written::Length(n) => same_front(out, n, file),
         Written::Refused(_) => false,
     };
     if same {
-        stdio::write_text(rt, b"written back, the same\n")?;
+        stdio::write_text(output, b"written back, the same\n")?;
         Ok(())
     } else {
-        stdio::write_text(rt, b"written back, another\n")?;
+        stdio::write_text(output, b"written back, another\n")?;
         Ok(())
     }
 }
 
 // Writes the listing of a file: all of it, since the buffer holds any.
-fn show_listing(rt: &impl Print, size: usize, reading: Reading) -> io::Result<()> {
+fn show_listing(output: &mut impl Write, size: usize, reading: Reading) -> io::Result<()> {
     let mut text = [0u8; stdio::LARGE];
     let written = listing::list(size, reading, &mut text);
-    stdio::write_result(rt, &text, written)?;
+    stdio::write_result(output, &text, written)?;
     Ok(())
 }
 
 // Writes the pairs of a file: all of them, since the buffer holds any.
-fn show_pairs(rt: &impl Print, file: &[u8], reading: Reading) -> io::Result<()> {
+fn show_pairs(output: &mut impl Write, file: &[u8], reading: Reading) -> io::Result<()> {
     let mut text = [0u8; pair_lines::PAIRS_BYTES];
     let written = pair_lines::list(file, reading, &mut text);
-    stdio::write_result(rt, &text, written)?;
+    stdio::write_result(output, &text, written)?;
     Ok(())
 }
 
 // Lists a file and, if it is accepted, pairs its keys and writes it back.
-fn list(rt: &impl Print, file: &[u8], out: &mut [u8]) -> io::Result<()> {
+fn list(output: &mut impl Write, file: &[u8], out: &mut [u8]) -> io::Result<()> {
     let reading = reader::read(file);
-    show_listing(rt, file.len(), reading)?;
+    show_listing(output, file.len(), reading)?;
     let answer = reading.answer;
     match answer {
         Answer::Accepted => {
-            show_pairs(rt, file, reading)?;
-            runs::show(rt, reading.table, file)?;
-            write_back(rt, reading.table, file, out)
+            show_pairs(output, file, reading)?;
+            runs::show(output, reading.table, file)?;
+            write_back(output, reading.table, file, out)
         }
         Answer::Refused(_) => Ok(()),
     }
@@ -69,7 +74,7 @@ fn list(rt: &impl Print, file: &[u8], out: &mut [u8]) -> io::Result<()> {
 
 // One frame, and whether to go on.
 fn frame(
-    rt: &impl Print,
+    output: &mut impl Write,
     input: &mut impl Read,
     buffer: &mut [u8],
     out: &mut [u8],
@@ -78,11 +83,11 @@ fn frame(
     match frame {
         Frame::End => Ok(false),
         Frame::Cut => {
-            stdio::write_cut(rt)?;
+            stdio::write_cut(output)?;
             Ok(false)
         }
         Frame::Bytes(n) => {
-            list(rt, &buffer[..n], out)?;
+            list(output, &buffer[..n], out)?;
             Ok(true)
         }
     }
@@ -91,13 +96,13 @@ fn frame(
 // Nothing says that the input ends, so the frames are counted down, from a number that no input
 // has.
 fn frames(
-    rt: &impl Print,
+    output: &mut impl Write,
     input: &mut impl Read,
     buffer: &mut [u8],
     out: &mut [u8],
 ) -> io::Result<()> {
     let mut left = u64::MAX;
-    while left > 0 && frame(rt, input, buffer, out)? {
+    while left > 0 && frame(output, input, buffer, out)? {
         left = left - 1;
     }
     Ok(())
@@ -106,5 +111,5 @@ fn frames(
 fn main(rt: HostRuntime) -> io::Result<()> {
     let mut buffer = [0u8; stdio::LARGE];
     let mut out = [0u8; stdio::LARGE];
-    frames(&rt, &mut rt.stdin(), &mut buffer, &mut out)
+    frames(&mut rt.stdout(), &mut rt.stdin(), &mut buffer, &mut out)
 }

@@ -8,6 +8,7 @@ use pairing::IdentityRow;
 use pkcs12::{AttributeRow, BagKind, Table};
 use range::Range;
 use std::io;
+use std::io::Write;
 use stdio::{write_decimal, write_text};
 
 // A prime, the largest of 16 bits.
@@ -129,131 +130,131 @@ fn rest_unused(filled: Filled, start: usize) -> bool {
     true
 }
 
-fn span(rt: &impl Print, r: Range) -> io::Result<()> {
-    write_decimal(rt, r.start as usize)?;
-    write_text(rt, b"..")?;
-    write_decimal(rt, r.end as usize)?;
+fn span(output: &mut impl Write, r: Range) -> io::Result<()> {
+    write_decimal(output, r.start as usize)?;
+    write_text(output, b"..")?;
+    write_decimal(output, r.end as usize)?;
     Ok(())
 }
 
-fn refusal(rt: &impl Print, fault: Fault) -> io::Result<()> {
-    write_text(rt, b"refused ")?;
-    write_decimal(rt, fault.number as usize)?;
+fn refusal(output: &mut impl Write, fault: Fault) -> io::Result<()> {
+    write_text(output, b"refused ")?;
+    write_decimal(output, fault.number as usize)?;
     Ok(())
 }
 
-fn attribute(rt: &impl Print, row: AttributeRow) -> io::Result<()> {
-    write_text(rt, b"attribute ")?;
-    span(rt, row.identifier)?;
-    write_text(rt, b" values ")?;
-    span(rt, row.values)
+fn attribute(output: &mut impl Write, row: AttributeRow) -> io::Result<()> {
+    write_text(output, b"attribute ")?;
+    span(output, row.identifier)?;
+    write_text(output, b" values ")?;
+    span(output, row.values)
 }
 
-fn outcome(rt: &impl Print, item: Item) -> io::Result<()> {
+fn outcome(output: &mut impl Write, item: Item) -> io::Result<()> {
     match item {
         Item::Ready => {
-            write_text(rt, b"nothing")?;
+            write_text(output, b"nothing")?;
             Ok(())
         }
-        Item::Attribute(row) => attribute(rt, row),
+        Item::Attribute(row) => attribute(output, row),
         Item::Done => {
-            write_text(rt, b"done")?;
+            write_text(output, b"done")?;
             Ok(())
         }
-        Item::Refused(fault) => refusal(rt, fault),
+        Item::Refused(fault) => refusal(output, fault),
     }
 }
 
-fn calls_line(rt: &impl Print, given: Three) -> io::Result<()> {
+fn calls_line(output: &mut impl Write, given: Three) -> io::Result<()> {
     let first = given.first;
     let second = given.second;
     let third = given.third;
-    write_text(rt, b"calls: ")?;
-    outcome(rt, first)?;
-    write_text(rt, b", ")?;
-    outcome(rt, second)?;
-    write_text(rt, b", ")?;
-    outcome(rt, third)?;
-    write_text(rt, b"\n")?;
+    write_text(output, b"calls: ")?;
+    outcome(output, first)?;
+    write_text(output, b", ")?;
+    outcome(output, second)?;
+    write_text(output, b", ")?;
+    outcome(output, third)?;
+    write_text(output, b"\n")?;
     Ok(())
 }
 
-fn type_line(rt: &impl Print, found: Summary) -> io::Result<()> {
-    write_text(rt, b"type: ")?;
-    write_decimal(rt, found.bytes)?;
-    write_text(rt, b" bytes, remainder ")?;
-    write_decimal(rt, found.remainder)?;
-    write_text(rt, b"\n")?;
+fn type_line(output: &mut impl Write, found: Summary) -> io::Result<()> {
+    write_text(output, b"type: ")?;
+    write_decimal(output, found.bytes)?;
+    write_text(output, b" bytes, remainder ")?;
+    write_decimal(output, found.remainder)?;
+    write_text(output, b"\n")?;
     Ok(())
 }
 
 // An identity row, and whether that is the one that was stored.
-fn identity(rt: &impl Print, row: IdentityRow, stored: IdentityRow) -> io::Result<()> {
+fn identity(output: &mut impl Write, row: IdentityRow, stored: IdentityRow) -> io::Result<()> {
     let kind = row.kind;
     if row.has_id {
-        span(rt, row.id)?;
+        span(output, row.id)?;
     } else {
-        write_text(rt, b"none")?;
+        write_text(output, b"none")?;
     }
-    write_text(rt, b", kind ")?;
-    write_decimal(rt, kind_number(kind))?;
+    write_text(output, b", kind ")?;
+    write_decimal(output, kind_number(kind))?;
     if same_row(row, stored) {
-        write_text(rt, b", filled")?;
+        write_text(output, b", filled")?;
         Ok(())
     } else {
-        write_text(rt, b", filled otherwise")?;
+        write_text(output, b", filled otherwise")?;
         Ok(())
     }
 }
 
-fn id_line(rt: &impl Print, answer: Identity, stored: IdentityRow) -> io::Result<()> {
-    write_text(rt, b"id: ")?;
+fn id_line(output: &mut impl Write, answer: Identity, stored: IdentityRow) -> io::Result<()> {
+    write_text(output, b"id: ")?;
     match answer {
-        Identity::Row(row) => identity(rt, row, stored)?,
-        Identity::Refused(fault) => refusal(rt, fault)?,
+        Identity::Row(row) => identity(output, row, stored)?,
+        Identity::Refused(fault) => refusal(output, fault)?,
     }
-    write_text(rt, b"\n")?;
+    write_text(output, b"\n")?;
     Ok(())
 }
 
 // The answer of filling, and how many rows are stored.
-fn stored_rows(rt: &impl Print, answer: Written) -> io::Result<usize> {
+fn stored_rows(output: &mut impl Write, answer: Written) -> io::Result<usize> {
     match answer {
         Written::Length(n) => {
-            write_text(rt, b"rows ")?;
-            write_decimal(rt, n)?;
+            write_text(output, b"rows ")?;
+            write_decimal(output, n)?;
             Ok(n)
         }
         Written::Refused(fault) => {
-            refusal(rt, fault)?;
+            refusal(output, fault)?;
             Ok(0)
         }
     }
 }
 
-fn fill_line(rt: &impl Print, filled: Filled) -> io::Result<()> {
+fn fill_line(output: &mut impl Write, filled: Filled) -> io::Result<()> {
     let answer = filled.answer;
-    write_text(rt, b"fill: ")?;
-    let n = stored_rows(rt, answer)?;
+    write_text(output, b"fill: ")?;
+    let n = stored_rows(output, answer)?;
     if rest_unused(filled, n) {
-        write_text(rt, b", rest as before\n")?;
+        write_text(output, b", rest as before\n")?;
         Ok(())
     } else {
-        write_text(rt, b", rest changed\n")?;
+        write_text(output, b", rest changed\n")?;
         Ok(())
     }
 }
 
-fn bag_name(rt: &impl Print, bag: usize) -> io::Result<()> {
-    write_text(rt, b"bag ")?;
-    write_decimal(rt, bag)?;
-    write_text(rt, b" ")?;
+fn bag_name(output: &mut impl Write, bag: usize) -> io::Result<()> {
+    write_text(output, b"bag ")?;
+    write_decimal(output, bag)?;
+    write_text(output, b" ")?;
     Ok(())
 }
 
 // The part that the type of a bag's first attribute names.
 fn first_type(
-    rt: &impl Print,
+    output: &mut impl Write,
     table: Table,
     file: &[u8],
     bag: usize,
@@ -262,8 +263,8 @@ fn first_type(
     match first {
         Item::Ready => Ok(()),
         Item::Attribute(row) => {
-            bag_name(rt, bag)?;
-            type_line(rt, part_of(table, file, bag, row.identifier))
+            bag_name(output, bag)?;
+            type_line(output, part_of(table, file, bag, row.identifier))
         }
         Item::Done => Ok(()),
         Item::Refused(_) => Ok(()),
@@ -271,7 +272,7 @@ fn first_type(
 }
 
 fn bag_lines(
-    rt: &impl Print,
+    output: &mut impl Write,
     table: Table,
     file: &[u8],
     bag: usize,
@@ -279,44 +280,44 @@ fn bag_lines(
 ) -> io::Result<()> {
     let given = three_calls(table, file, bag);
     let first = given.first;
-    bag_name(rt, bag)?;
-    calls_line(rt, given)?;
-    first_type(rt, table, file, bag, first)?;
-    bag_name(rt, bag)?;
-    id_line(rt, identities::identity_of(table, file, bag), stored)
+    bag_name(output, bag)?;
+    calls_line(output, given)?;
+    first_type(output, table, file, bag, first)?;
+    bag_name(output, bag)?;
+    id_line(output, identities::identity_of(table, file, bag), stored)
 }
 
 // A bag after another, and the first row that isn't there.
-fn all_bags(rt: &impl Print, table: Table, file: &[u8], filled: Filled) -> io::Result<()> {
+fn all_bags(output: &mut impl Write, table: Table, file: &[u8], filled: Filled) -> io::Result<()> {
     let end = range::fewer(table.bag_count, pkcs12::BAG_ROWS);
     let mut i: usize = 0;
     while i <= end {
-        bag_lines(rt, table, file, i, row_at(filled, i))?;
+        bag_lines(output, table, file, i, row_at(filled, i))?;
         i = i + 1;
     }
     Ok(())
 }
 
-fn lent_name(rt: &impl Print, lent: &[u8]) -> io::Result<()> {
-    write_text(rt, b"over ")?;
-    write_decimal(rt, lent.len())?;
-    write_text(rt, b" bytes ")?;
+fn lent_name(output: &mut impl Write, lent: &[u8]) -> io::Result<()> {
+    write_text(output, b"over ")?;
+    write_decimal(output, lent.len())?;
+    write_text(output, b" bytes ")?;
     Ok(())
 }
 
 // The same calls for bag 0 over other bytes than the file's.
-fn over_lines(rt: &impl Print, table: Table, lent: &[u8]) -> io::Result<()> {
+fn over_lines(output: &mut impl Write, table: Table, lent: &[u8]) -> io::Result<()> {
     let filled = fill_rows(table, lent, [UNUSED; pkcs12::BAG_ROWS]);
-    lent_name(rt, lent)?;
-    calls_line(rt, three_calls(table, lent, 0))?;
-    lent_name(rt, lent)?;
+    lent_name(output, lent)?;
+    calls_line(output, three_calls(table, lent, 0))?;
+    lent_name(output, lent)?;
     id_line(
-        rt,
+        output,
         identities::identity_of(table, lent, 0),
         row_at(filled, 0),
     )?;
-    lent_name(rt, lent)?;
-    fill_line(rt, filled)
+    lent_name(output, lent)?;
+    fill_line(output, filled)
 }
 
 fn all_but_last(file: &[u8]) -> &[u8] {
@@ -329,10 +330,10 @@ fn all_but_last(file: &[u8]) -> &[u8] {
 }
 
 // All lines of a file.
-pub(crate) fn show(rt: &impl Print, table: Table, file: &[u8]) -> io::Result<()> {
+pub(crate) fn show(output: &mut impl Write, table: Table, file: &[u8]) -> io::Result<()> {
     let filled = fill_rows(table, file, [UNUSED; pkcs12::BAG_ROWS]);
-    all_bags(rt, table, file, filled)?;
-    fill_line(rt, filled)?;
-    over_lines(rt, table, &file[0..0])?;
-    over_lines(rt, table, all_but_last(file))
+    all_bags(output, table, file, filled)?;
+    fill_line(output, filled)?;
+    over_lines(output, table, &file[0..0])?;
+    over_lines(output, table, all_but_last(file))
 }

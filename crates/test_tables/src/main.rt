@@ -15,7 +15,7 @@ use pkcs12::{
 };
 use range::Range;
 use std::io;
-use std::io::Read;
+use std::io::{Read, Write};
 use stdio::{Frame, write_decimal, write_hex, write_text};
 
 // Bytes of a frame's parts: what is in front of the rows, a row of each kind, the MAC fields.
@@ -249,84 +249,84 @@ fn unchanged(out: &[u8], from: usize) -> bool {
 }
 
 // Says whether the buffer is as it was filled, and ends the line.
-fn show_rest(rt: &impl Print, out: &[u8], from: usize) -> io::Result<()> {
+fn show_rest(output: &mut impl Write, out: &[u8], from: usize) -> io::Result<()> {
     if unchanged(out, from) {
-        write_text(rt, b" as before\n")?;
+        write_text(output, b" as before\n")?;
         Ok(())
     } else {
-        write_text(rt, b" changed\n")?;
+        write_text(output, b" changed\n")?;
         Ok(())
     }
 }
 
 // The bytes in hex, on one line.
-fn show_bytes(rt: &impl Print, s: &[u8]) -> io::Result<()> {
+fn show_bytes(output: &mut impl Write, s: &[u8]) -> io::Result<()> {
     let mut i = 0;
     while i < s.len() {
-        write_hex(rt, s[i])?;
+        write_hex(output, s[i])?;
         i = i + 1;
     }
-    write_text(rt, b"\n")?;
+    write_text(output, b"\n")?;
     Ok(())
 }
 
-fn show_file(rt: &impl Print, out: &[u8], n: usize) -> io::Result<()> {
-    write_text(rt, b"length ")?;
-    write_decimal(rt, n)?;
-    write_text(rt, b", rest")?;
-    show_rest(rt, out, n)?;
+fn show_file(output: &mut impl Write, out: &[u8], n: usize) -> io::Result<()> {
+    write_text(output, b"length ")?;
+    write_decimal(output, n)?;
+    write_text(output, b", rest")?;
+    show_rest(output, out, n)?;
     if n <= out.len() {
-        show_bytes(rt, &out[0..n])?;
+        show_bytes(output, &out[0..n])?;
     }
     Ok(())
 }
 
-fn show_refusal(rt: &impl Print, out: &[u8], fault: Fault) -> io::Result<()> {
-    write_text(rt, b"refused ")?;
-    write_decimal(rt, fault.number as usize)?;
-    write_text(rt, b" at ")?;
-    write_decimal(rt, fault.offset)?;
-    write_text(rt, b", buffer")?;
-    show_rest(rt, out, 0)
+fn show_refusal(output: &mut impl Write, out: &[u8], fault: Fault) -> io::Result<()> {
+    write_text(output, b"refused ")?;
+    write_decimal(output, fault.number as usize)?;
+    write_text(output, b" at ")?;
+    write_decimal(output, fault.offset)?;
+    write_text(output, b", buffer")?;
+    show_rest(output, out, 0)
 }
 
 // One call of the writer, and what came of it.
-fn run(rt: &impl Print, table: Table, bytes: &[u8], out: &mut [u8]) -> io::Result<()> {
+fn run(output: &mut impl Write, table: Table, bytes: &[u8], out: &mut [u8]) -> io::Result<()> {
     fill(out);
     let written = writer::write(table, bytes, out);
     match written {
-        Written::Length(n) => show_file(rt, out, n),
-        Written::Refused(fault) => show_refusal(rt, out, fault),
+        Written::Length(n) => show_file(output, out, n),
+        Written::Refused(fault) => show_refusal(output, out, fault),
     }
 }
 
 // Writes the line `cut`. Answers that nothing more is read.
-fn cut(rt: &impl Print) -> io::Result<bool> {
-    stdio::write_cut(rt)?;
+fn cut(output: &mut impl Write) -> io::Result<bool> {
+    stdio::write_cut(output)?;
     Ok(false)
 }
 
 // Runs the writer over a frame's table. Answers whether the frame holds one.
-fn table_frame(rt: &impl Print, s: &[u8], out: &mut [u8]) -> io::Result<bool> {
+fn table_frame(output: &mut impl Write, s: &[u8], out: &mut [u8]) -> io::Result<bool> {
     let rows = Rows::of(s);
     let start = rows.bytes_at();
     let size = u32_be(s, 0) as usize;
     if s.len() < start {
-        return cut(rt);
+        return cut(output);
     }
     if out.len() < size {
-        return cut(rt);
+        return cut(output);
     }
     if !rows.fit() {
-        return cut(rt);
+        return cut(output);
     }
-    run(rt, table_of(s, rows), &s[start..], &mut out[0..size])?;
+    run(output, table_of(s, rows), &s[start..], &mut out[0..size])?;
     Ok(true)
 }
 
 // One frame, and whether to go on.
 fn frame(
-    rt: &impl Print,
+    output: &mut impl Write,
     input: &mut impl Read,
     buffer: &mut [u8],
     out: &mut [u8],
@@ -334,21 +334,21 @@ fn frame(
     let frame = stdio::read_frame(input, buffer)?;
     match frame {
         Frame::End => Ok(false),
-        Frame::Cut => cut(rt),
-        Frame::Bytes(n) => table_frame(rt, &buffer[..n], out),
+        Frame::Cut => cut(output),
+        Frame::Bytes(n) => table_frame(output, &buffer[..n], out),
     }
 }
 
 // Nothing says that the input ends, so the frames are counted down, from a number that no input
 // has.
 fn frames(
-    rt: &impl Print,
+    output: &mut impl Write,
     input: &mut impl Read,
     buffer: &mut [u8],
     out: &mut [u8],
 ) -> io::Result<()> {
     let mut left = u64::MAX;
-    while left > 0 && frame(rt, input, buffer, out)? {
+    while left > 0 && frame(output, input, buffer, out)? {
         left = left - 1;
     }
     Ok(())
@@ -357,5 +357,5 @@ fn frames(
 fn main(rt: HostRuntime) -> io::Result<()> {
     let mut buffer = [0u8; stdio::LARGE];
     let mut out = [0u8; stdio::LARGE];
-    frames(&rt, &mut rt.stdin(), &mut buffer, &mut out)
+    frames(&mut rt.stdout(), &mut rt.stdin(), &mut buffer, &mut out)
 }

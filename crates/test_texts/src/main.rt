@@ -9,7 +9,7 @@
 use buffer::{Written, read};
 use der::Fault;
 use std::io;
-use std::io::Read;
+use std::io::{Read, Write};
 use stdio::{Frame, write_decimal, write_text};
 
 // The bytes in front of the text or the bytes: the call and the length of the buffer.
@@ -46,41 +46,41 @@ fn is_kept(buffer: &[u8], from: usize) -> bool {
 }
 
 // The end of a line: whether every byte from an offset on is as before the call.
-fn show_kept(rt: &impl Print, buffer: &[u8], from: usize) -> io::Result<()> {
+fn show_kept(output: &mut impl Write, buffer: &[u8], from: usize) -> io::Result<()> {
     if is_kept(buffer, from) {
-        write_text(rt, b"kept\n")?;
+        write_text(output, b"kept\n")?;
         Ok(())
     } else {
-        write_text(rt, b"changed\n")?;
+        write_text(output, b"changed\n")?;
         Ok(())
     }
 }
 
-fn show_hex(rt: &impl Print, bytes: &[u8]) -> io::Result<()> {
+fn show_hex(output: &mut impl Write, bytes: &[u8]) -> io::Result<()> {
     let mut i = 0;
     while i < bytes.len() {
-        stdio::write_hex(rt, bytes[i])?;
+        stdio::write_hex(output, bytes[i])?;
         i = i + 1;
     }
     Ok(())
 }
 
 // The first n bytes of a buffer are given.
-fn show_given(rt: &impl Print, buffer: &[u8], n: usize) -> io::Result<()> {
-    write_decimal(rt, n)?;
-    write_text(rt, b": ")?;
-    show_hex(rt, range::part(buffer, 0, n))?;
-    write_text(rt, b", rest ")?;
-    show_kept(rt, buffer, n)
+fn show_given(output: &mut impl Write, buffer: &[u8], n: usize) -> io::Result<()> {
+    write_decimal(output, n)?;
+    write_text(output, b": ")?;
+    show_hex(output, range::part(buffer, 0, n))?;
+    write_text(output, b", rest ")?;
+    show_kept(output, buffer, n)
 }
 
-fn show_refused(rt: &impl Print, buffer: &[u8], fault: Fault) -> io::Result<()> {
-    write_text(rt, b"refused ")?;
-    write_decimal(rt, fault.number as usize)?;
-    write_text(rt, b" at ")?;
-    write_decimal(rt, fault.offset)?;
-    write_text(rt, b", ")?;
-    show_kept(rt, buffer, 0)
+fn show_refused(output: &mut impl Write, buffer: &[u8], fault: Fault) -> io::Result<()> {
+    write_text(output, b"refused ")?;
+    write_decimal(output, fault.number as usize)?;
+    write_text(output, b" at ")?;
+    write_decimal(output, fault.offset)?;
+    write_text(output, b", ")?;
+    show_kept(output, buffer, 0)
 }
 
 fn call(kind: u8, bytes: &[u8], buffer: &mut [u8]) -> Written {
@@ -91,41 +91,41 @@ fn call(kind: u8, bytes: &[u8], buffer: &mut [u8]) -> Written {
 }
 
 // One call, and its line.
-fn run(rt: &impl Print, kind: u8, bytes: &[u8], buffer: &mut [u8]) -> io::Result<()> {
+fn run(output: &mut impl Write, kind: u8, bytes: &[u8], buffer: &mut [u8]) -> io::Result<()> {
     fill(buffer);
     let written = call(kind, bytes, buffer);
     match written {
-        Written::Length(n) => show_given(rt, buffer, n),
-        Written::Refused(fault) => show_refused(rt, buffer, fault),
+        Written::Length(n) => show_given(output, buffer, n),
+        Written::Refused(fault) => show_refused(output, buffer, fault),
     }
 }
 
 // Writes the line `cut`. Answers that nothing more is read.
-fn cut(rt: &impl Print) -> io::Result<bool> {
-    stdio::write_cut(rt)?;
+fn cut(output: &mut impl Write) -> io::Result<bool> {
+    stdio::write_cut(output)?;
     Ok(false)
 }
 
 // The call of a frame, with a buffer in the memory. Answers whether the frame holds one.
-fn call_frame(rt: &impl Print, s: &[u8], memory: &mut [u8]) -> io::Result<bool> {
+fn call_frame(output: &mut impl Write, s: &[u8], memory: &mut [u8]) -> io::Result<bool> {
     if s.len() < HEAD {
-        return cut(rt);
+        return cut(output);
     }
     let kind = s[0];
     if EXPORT < kind {
-        return cut(rt);
+        return cut(output);
     }
     let n = read::u32_be(s, 1) as usize;
     if memory.len() < n {
-        return cut(rt);
+        return cut(output);
     }
-    run(rt, kind, &s[HEAD..], &mut memory[0..n])?;
+    run(output, kind, &s[HEAD..], &mut memory[0..n])?;
     Ok(true)
 }
 
 // One frame, and whether to go on.
 fn frame(
-    rt: &impl Print,
+    output: &mut impl Write,
     input: &mut impl Read,
     buffer: &mut [u8],
     memory: &mut [u8],
@@ -133,21 +133,21 @@ fn frame(
     let frame = stdio::read_frame(input, buffer)?;
     match frame {
         Frame::End => Ok(false),
-        Frame::Cut => cut(rt),
-        Frame::Bytes(n) => call_frame(rt, &buffer[..n], memory),
+        Frame::Cut => cut(output),
+        Frame::Bytes(n) => call_frame(output, &buffer[..n], memory),
     }
 }
 
 // Nothing says that the input ends, so the frames are counted down, from a number that no input
 // has.
 fn frames(
-    rt: &impl Print,
+    output: &mut impl Write,
     input: &mut impl Read,
     buffer: &mut [u8],
     memory: &mut [u8],
 ) -> io::Result<()> {
     let mut left = u64::MAX;
-    while left > 0 && frame(rt, input, buffer, memory)? {
+    while left > 0 && frame(output, input, buffer, memory)? {
         left = left - 1;
     }
     Ok(())
@@ -156,5 +156,5 @@ fn frames(
 fn main(rt: HostRuntime) -> io::Result<()> {
     let mut buffer = [0u8; stdio::LARGE];
     let mut memory = [0u8; MEMORY];
-    frames(&rt, &mut rt.stdin(), &mut buffer, &mut memory)
+    frames(&mut rt.stdout(), &mut rt.stdin(), &mut buffer, &mut memory)
 }

@@ -10,7 +10,7 @@ ghost use Rattle.std.specs.Prelude.{◌<◌, length};
 use buffer::read;
 use der::Fault;
 use std::io;
-use std::io::Read;
+use std::io::{Read, Write};
 use stdio::{Frame, write_decimal, write_text};
 use stream::{End, Status, Upload};
 
@@ -19,38 +19,38 @@ const PORTIONS: usize = 4;
 
 const LENGTH: usize = 2;
 
-fn show_refused(rt: &impl Print, fault: Fault, after: usize) -> io::Result<()> {
-    write_text(rt, b"refused ")?;
-    write_decimal(rt, fault.number as usize)?;
-    write_text(rt, b" at ")?;
-    write_decimal(rt, fault.offset)?;
-    write_text(rt, b" after ")?;
-    write_decimal(rt, after)?;
+fn show_refused(output: &mut impl Write, fault: Fault, after: usize) -> io::Result<()> {
+    write_text(output, b"refused ")?;
+    write_decimal(output, fault.number as usize)?;
+    write_text(output, b" at ")?;
+    write_decimal(output, fault.offset)?;
+    write_text(output, b" after ")?;
+    write_decimal(output, after)?;
     Ok(())
 }
 
-fn show_passed(rt: &impl Print, elements: usize, level: usize) -> io::Result<()> {
-    write_text(rt, b"passed ")?;
-    write_decimal(rt, elements)?;
-    write_text(rt, b" elements, level ")?;
-    write_decimal(rt, level)?;
+fn show_passed(output: &mut impl Write, elements: usize, level: usize) -> io::Result<()> {
+    write_text(output, b"passed ")?;
+    write_decimal(output, elements)?;
+    write_text(output, b" elements, level ")?;
+    write_decimal(output, level)?;
     Ok(())
 }
 
-fn show_status(rt: &impl Print, status: Status) -> io::Result<()> {
+fn show_status(output: &mut impl Write, status: Status) -> io::Result<()> {
     match status {
         Status::NoFault => {
-            write_text(rt, b"none")?;
+            write_text(output, b"none")?;
             Ok(())
         }
-        Status::Refused { fault, after } => show_refused(rt, fault, after),
+        Status::Refused { fault, after } => show_refused(output, fault, after),
     }
 }
 
-fn show_end(rt: &impl Print, end: End) -> io::Result<()> {
+fn show_end(output: &mut impl Write, end: End) -> io::Result<()> {
     match end {
-        End::Passed { elements, level } => show_passed(rt, elements, level),
-        End::Refused { fault, after } => show_refused(rt, fault, after),
+        End::Passed { elements, level } => show_passed(output, elements, level),
+        End::Refused { fault, after } => show_refused(output, fault, after),
     }
 }
 
@@ -73,60 +73,60 @@ fn is_whole(s: &[u8]) -> bool {
 }
 
 // The upload after the portions of a frame. Writes the status after each.
-fn portions(rt: &impl Print, mut upload: Upload, s: &[u8]) -> io::Result<Upload> {
+fn portions(output: &mut impl Write, mut upload: Upload, s: &[u8]) -> io::Result<Upload> {
     let mut at = PORTIONS;
     while at < s.len() {
         let start = at + LENGTH;
         at = behind(s, at);
         upload = upload.take(range::part(s, start, at));
-        write_text(rt, b", ")?;
-        show_status(rt, upload.status())?;
+        write_text(output, b", ")?;
+        show_status(output, upload.status())?;
     }
     Ok(upload)
 }
 
 // The line of a frame.
-fn run(rt: &impl Print, s: &[u8]) -> io::Result<()> {
+fn run(output: &mut impl Write, s: &[u8]) -> io::Result<()> {
     let announced = read::u32_be(s, 0) as usize;
     let begun = Upload::begin(announced);
-    show_status(rt, begun.status())?;
-    let upload = portions(rt, begun, s)?;
-    write_text(rt, b", end: ")?;
-    show_end(rt, upload.end())?;
-    write_text(rt, b"\n")?;
+    show_status(output, begun.status())?;
+    let upload = portions(output, begun, s)?;
+    write_text(output, b", end: ")?;
+    show_end(output, upload.end())?;
+    write_text(output, b"\n")?;
     Ok(())
 }
 
 // Writes the line `cut`. Answers that nothing more is read.
-fn cut(rt: &impl Print) -> io::Result<bool> {
-    stdio::write_cut(rt)?;
+fn cut(output: &mut impl Write) -> io::Result<bool> {
+    stdio::write_cut(output)?;
     Ok(false)
 }
 
 // The upload of a frame. Answers whether the frame holds one.
-fn upload_frame(rt: &impl Print, s: &[u8]) -> io::Result<bool> {
+fn upload_frame(output: &mut impl Write, s: &[u8]) -> io::Result<bool> {
     if !is_whole(s) {
-        return cut(rt);
+        return cut(output);
     }
-    run(rt, s)?;
+    run(output, s)?;
     Ok(true)
 }
 
 // One frame, and whether to go on.
-fn frame(rt: &impl Print, input: &mut impl Read, buffer: &mut [u8]) -> io::Result<bool> {
+fn frame(output: &mut impl Write, input: &mut impl Read, buffer: &mut [u8]) -> io::Result<bool> {
     let frame = stdio::read_frame(input, buffer)?;
     match frame {
         Frame::End => Ok(false),
-        Frame::Cut => cut(rt),
-        Frame::Bytes(n) => upload_frame(rt, &buffer[..n]),
+        Frame::Cut => cut(output),
+        Frame::Bytes(n) => upload_frame(output, &buffer[..n]),
     }
 }
 
 // Nothing says that the input ends, so the frames are counted down, from a number that no input
 // has.
-fn frames(rt: &impl Print, input: &mut impl Read, buffer: &mut [u8]) -> io::Result<()> {
+fn frames(output: &mut impl Write, input: &mut impl Read, buffer: &mut [u8]) -> io::Result<()> {
     let mut left = u64::MAX;
-    while left > 0 && frame(rt, input, buffer)? {
+    while left > 0 && frame(output, input, buffer)? {
         left = left - 1;
     }
     Ok(())
@@ -134,5 +134,5 @@ fn frames(rt: &impl Print, input: &mut impl Read, buffer: &mut [u8]) -> io::Resu
 
 fn main(rt: HostRuntime) -> io::Result<()> {
     let mut buffer = [0u8; stdio::LARGE];
-    frames(&rt, &mut rt.stdin(), &mut buffer)
+    frames(&mut rt.stdout(), &mut rt.stdin(), &mut buffer)
 }

@@ -10,6 +10,6 @@ fn main(rt: HostRuntime) -> io::Result<()> {
     let mut out = [0u8; stdio::LARGE];
     let n = stdio::read_all(&mut rt.stdin(), &mut buffer)?;
     let written = source::import(&buffer[..n], &mut out);
-    stdio::write_result(&rt, &out, written)?;
+    stdio::write_result(&mut rt.stdout(), &out, written)?;
     Ok(())
 }

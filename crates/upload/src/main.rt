@@ -8,7 +8,7 @@ ghost use Rattle.stream.specs.Upload.{taken};
 use buffer::read;
 use der::Fault;
 use std::io;
-use std::io::Read;
+use std::io::{Read, Write};
 use stdio::{write_decimal, write_text};
 use stream::{End, Upload};
 
@@ -18,30 +18,30 @@ const LENGTH: usize = 4;
 // The most bytes that are read at a time.
 const PIECE: usize = 4096;
 
-fn show_passed(rt: &impl Print, elements: usize, level: usize) -> io::Result<()> {
-    write_text(rt, b"passed ")?;
-    write_decimal(rt, elements)?;
-    write_text(rt, b" elements, level ")?;
-    write_decimal(rt, level)?;
-    write_text(rt, b"\n")?;
+fn show_passed(output: &mut impl Write, elements: usize, level: usize) -> io::Result<()> {
+    write_text(output, b"passed ")?;
+    write_decimal(output, elements)?;
+    write_text(output, b" elements, level ")?;
+    write_decimal(output, level)?;
+    write_text(output, b"\n")?;
     Ok(())
 }
 
-fn show_refused(rt: &impl Print, fault: Fault, after: usize) -> io::Result<()> {
-    write_text(rt, b"refused ")?;
-    write_decimal(rt, fault.number as usize)?;
-    write_text(rt, b" at ")?;
-    write_decimal(rt, fault.offset)?;
-    write_text(rt, b" after ")?;
-    write_decimal(rt, after)?;
-    write_text(rt, b" bytes\n")?;
+fn show_refused(output: &mut impl Write, fault: Fault, after: usize) -> io::Result<()> {
+    write_text(output, b"refused ")?;
+    write_decimal(output, fault.number as usize)?;
+    write_text(output, b" at ")?;
+    write_decimal(output, fault.offset)?;
+    write_text(output, b" after ")?;
+    write_decimal(output, after)?;
+    write_text(output, b" bytes\n")?;
     Ok(())
 }
 
-fn show(rt: &impl Print, end: End) -> io::Result<()> {
+fn show(output: &mut impl Write, end: End) -> io::Result<()> {
     match end {
-        End::Passed { elements, level } => show_passed(rt, elements, level),
-        End::Refused { fault, after } => show_refused(rt, fault, after),
+        End::Passed { elements, level } => show_passed(output, elements, level),
+        End::Refused { fault, after } => show_refused(output, fault, after),
     }
 }
 
@@ -90,9 +90,9 @@ fn main(rt: HostRuntime) -> io::Result<()> {
             number: header::EARLY,
             offset: 0,
         };
-        show_refused(&rt, fault, 0)
+        show_refused(&mut rt.stdout(), fault, 0)
     } else {
         let end = answer(&mut input, read::u32_be(&length, 0) as usize)?;
-        show(&rt, end)
+        show(&mut rt.stdout(), end)
     }
 }
