@@ -66,14 +66,17 @@ whole_text f before buffer n b l p =
   where
     x : List ℕ
     x = refused_line f
+
     short : length x ≤ 53
     short = (refused_line_lem f).most
+
     all : n ≡ length x
     all = omega (arith, p.next, short)
+
     is : buffer ≡ x ++ drop (0 + length x) before
     is =
-      p.bytes ∙ ap (sets before 0) (take_all 0xFFFFFFFFFFFFFFFF x (omega (arith, short)))
-      ∙ sets-eq x before 0 (omega (arith, b, short))
+        p.bytes ∙ ap (sets before 0) (take_all 0xFFFFFFFFFFFFFFFF x (omega (arith, short)))
+        ∙ sets-eq x before 0 (omega (arith, b, short))
 
 -- what is handed on is equal, so it is what the output gets
 pub equal_bytes : {E : Type 0} (r : Result ℕ E) (before after : Option (List ℕ)) (x y : List ℕ) → x ≡ y

@@ -8,8 +8,8 @@ pub returns-clause-count : goal.returns-clause-count
 returns-clause-count g c =
     at_ok c.write_text.result _ _
     (λ k e.
-      let same : k ≡ c.hex-two.result = omega (arith, e, c.hex-two.ensures.in_bounds.1) in
-      two_digits c.args.b k (omega arith) (all_digits 16 2 c.args.b c.hex-two.result k same c.hex-two.ensures.len))
+    let same : k ≡ c.hex-two.result = omega (arith, e, c.hex-two.ensures.in_bounds.1) in
+    two_digits c.args.b k (omega arith) (all_digits 16 2 c.args.b c.hex-two.result k same c.hex-two.ensures.len))
     c.write_text.ensures.count
 
 pub returns-clause-bytes : goal.returns-clause-bytes

@@ -7,13 +7,13 @@ pub returns-clause-count : goal.returns-clause-count
 returns-clause-count g c =
     at_ok c.write_front.result _ _
     (λ k e.
-      whole_line c.args.fault (length c.refused-n.new.out) c.refused-n.result k (search rules)
-      c.refused-n.ensures.next e)
+    whole_line c.args.fault (length c.refused-n.new.out) c.refused-n.result k (search rules)
+    c.refused-n.ensures.next e)
     c.write_front.ensures.count
 
 pub returns-clause-bytes : goal.returns-clause-bytes
 returns-clause-bytes g c =
     equal_bytes c.write_front.result _ _ _ _
     (whole_text c.args.fault _ c.refused-n.new.out c.refused-n.result (search rules) (search rules)
-      c.refused-n.ensures)
+    c.refused-n.ensures)
     c.write_front.ensures.bytes
