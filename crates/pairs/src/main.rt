@@ -16,6 +16,6 @@ fn main(rt: HostRuntime) -> io::Result<()> {
     let mut buffer = [0u8; source::READ_BYTES];
     let mut unwrapped = [0u8; stdio::LARGE];
     let n = stdio::read_all(&mut rt.stdin(), &mut buffer)?;
-    let file = source::file(&mut rt.stderr(), &buffer[..n], &mut unwrapped)?;
+    let file = source::file(&mut rt.stderr(), &buffer[..n], &mut unwrapped);
     pairs(&mut rt.stdout(), file)
 }

@@ -32,19 +32,27 @@ fn say_unwrapped(errors: &mut Stderr, n: usize) -> io::Result<usize>
     stdio::write_error(errors, range::part(&line, 0, end))
 }
 
+// Writes the line if standard error takes it.
+fn try_to_say(errors: &mut Stderr, n: usize) {
+    match say_unwrapped(errors, n) {
+        Ok(_) => {}
+        Err(_) => {}
+    }
+}
+
 // The bytes of the file: those that a text wraps, at the front of the buffer, and standard error
-// says so; or all that were read, if these aren't a text that is imported. The only error is one of
-// writing to standard error.
-pub fn file<'a>(errors: &mut Stderr, read: &'a [u8], out: &'a mut [u8]) -> io::Result<&'a [u8]>
-    ensures { IfOk result (λ bytes. bytes.now ≡ file_in read.now out.old) }
+// says so; or all that were read, if these aren't a text that is imported. If standard error takes
+// no line, the file is the same.
+pub fn file<'a>(errors: &mut Stderr, read: &'a [u8], out: &'a mut [u8]) -> &'a [u8]
+    ensures { result.now ≡ file_in read.now out.old }
 {
     let written = pem::import(read, out);
     match written {
         Written::Length(n) => {
-            say_unwrapped(errors, n)?;
-            Ok(range::part(out, 0, n))
+            try_to_say(errors, n);
+            range::part(out, 0, n)
         }
-        Written::Refused(_) => Ok(read),
+        Written::Refused(_) => read,
     }
 }
 

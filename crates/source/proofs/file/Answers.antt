@@ -2,8 +2,8 @@
 use Rattle.source.proofs.Sources.{file_text, file_bytes_lem}
 use Rattle.source.proofs.file.Goals as goal
 
-pub returns-in_ok-say_unwrapped-in-Length : goal.returns-in_ok-say_unwrapped-in-Length
-returns-in_ok-say_unwrapped-in-Length c =
+pub returns-in-Length : goal.returns-in-Length
+returns-in-Length c =
     file_text c.args.read.now c.args.out.now _ c.import-written.ensures.value _ _ _ c.in-Length.is
     c.import-written.ensures.out_after c.part.ensures
 
