@@ -10,7 +10,7 @@ ghost use Rattle.std.specs.Io.KnownBytes.{Appends, Consumes, IsAtEnd};
 ghost use Rattle.io.specs.Digits.{IsDigitCount, last_digits};
 ghost use Rattle.stdio.specs.Frame.{InBuffer};
 ghost use Rattle.stdio.specs.Handed.{Begun, front, handed, handed_bytes};
-ghost use Rattle.stdio.specs.Taken.{AtFront};
+ghost use Rattle.stdio.specs.Taken.{AtFront, TakenFrame};
 ghost use Rattle.text.specs.Text.{refused_line};
 
 use buffer::{Written, read};
@@ -56,7 +56,8 @@ pub fn read_all<R: Read>(input: &mut R, buffer: &mut [u8]) -> Result<usize>
 
 // Reads the bytes of a frame of this size to the front of a buffer.
 fn read_body<R: Read>(input: &mut R, buffer: &mut [u8], size: usize) -> Result<Frame>
-    ensures { IfOk result (λ frame. InBuffer buffer.new frame) }
+    ensures frame { IfOk result (λ frame. InBuffer buffer.new frame) }
+    ensures err { OnErr result (AtFront (R.remaining input.old) (R.remaining input.new) buffer.new) }
 {
     if buffer.len() < size {
         return Ok(Frame::Cut);
@@ -70,7 +71,8 @@ fn read_body<R: Read>(input: &mut R, buffer: &mut [u8], size: usize) -> Result<F
 
 // Reads the next frame of an input: its bytes to the front of a buffer.
 pub fn read_frame<R: Read>(input: &mut R, buffer: &mut [u8]) -> Result<Frame>
-    ensures { IfOk result (λ frame. InBuffer buffer.new frame) }
+    ensures frame { IfOk result (λ frame. InBuffer buffer.new frame) }
+    ensures err { OnErr result (TakenFrame (R.remaining input.old) (R.remaining input.new) buffer.new) }
 {
     let mut header = [0u8; LENGTH];
     let got = read_all(input, &mut header)?;
