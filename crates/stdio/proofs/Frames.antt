@@ -24,7 +24,7 @@ pub at_front : (part rest : List ℕ) (m : ℕ) → m ≤ length part → InBuff
 at_front part rest m h n e =
     prefix_len_of_le n (part ++ rest) (let p : m ≡ n = cc in omega (arith, h, p, length-append part rest))
 
--- what holds after all holds where a call failed
+-- what holds anyway holds where a call failed
 pub at_any_err : {T E : Type 0} (r : Result T E) (P : Type 0) → P → OnErr r P
 at_any_err (Ok x) P h = tt
 at_any_err (Err e) P h = h
@@ -33,16 +33,20 @@ at_any_err (Err e) P h = h
 pub in_length : (before after : Option (List ℕ)) (header buffer : List ℕ) → length header ≡ 4
     → AtFront before after header → TakenFrame before after buffer
 in_length before after header buffer four taken =
-    let n = taken.0 in
-    (take n header, omega (arith, four, length-take n header),
-    (0, omega arith, subst (Consumes before after) (sym (append-nil (take n header))) taken.2))
+    let n = taken.0 in (
+      take n header,
+      omega (arith, four, length-take n header),
+      (0, omega arith, subst (Consumes before after) (sym (append-nil (take n header))) taken.2),
+    )
 
 -- the length was read, and then the bytes failed
 pub in_body : (before between after : Option (List ℕ)) (header buffer : List ℕ) (k : ℕ) → length header ≡ 4
     → Consumes before between (take k header) → AtFront between after buffer → TakenFrame before after buffer
-in_body before between after header buffer k four first taken =
-    (take k header, omega (arith, four, length-take k header),
-    (taken.0, taken.1, Consumes-trans before between after _ _ first taken.2))
+in_body before between after header buffer k four first taken = (
+  take k header,
+  omega (arith, four, length-take k header),
+  (taken.0, taken.1, Consumes-trans before between after _ _ first taken.2),
+)
 
 pub ruleset frames = (
   at_end_lem,

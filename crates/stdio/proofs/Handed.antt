@@ -18,7 +18,7 @@ use Rattle.text.specs.Text.{refused_line}
 use Rattle.text.proofs.Short.{refused_line_lem}
 use Rattle.std.specs.Prelude.{Result, Ok, Err, IfOk}
 use Rattle.io.specs.Digits.{IsDigitCount}
-use Rattle.std.specs.Prelude.{Option, None, Some, OnErr, OnOk, take}
+use Rattle.std.specs.Prelude.{Option, OnErr, OnOk, take}
 use Rattle.std.specs.Io.KnownBytes.{Appends}
 use Rattle.std.proofs.Common.{drop, ◌++◌, ap, take_all, ◌+◌}
 use Rattle.std.proofs.lemmas.List.Edits.{sets, sets-eq}

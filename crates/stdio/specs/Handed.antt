@@ -1,4 +1,4 @@
--- How many bytes of a buffer are handed on.
+-- How many bytes of a buffer are handed on, and which: also before an error.
 use Rattle.std.specs.Prelude.{List, Option, ℕ, ◌≤◌, ltb, length, take}
 use Rattle.std.specs.Prelude.{if◌then◌else◌}
 use Rattle.buffer.specs.declared.Written.{Written}

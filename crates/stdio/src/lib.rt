@@ -1,7 +1,7 @@
 // What programs do with standard input, output and error. A function that reads promises to stay
 // within the buffer, and one that writes how many bytes it handed on, if it returns `Ok`. The only
 // error is one of the input or the output, returned as it came. Of what was to be written some
-// bytes may have been handed on before it.
+// bytes may have been handed on before it: the first ones, and no others.
 #![tactic(auto)]
 
 ghost use Rattle.std.specs.Prelude.{◌≡◌, ℕ, ◌<◌, length, take, codes, IfOk, OnOk, OnErr};
@@ -54,7 +54,8 @@ pub fn read_all<R: Read>(input: &mut R, buffer: &mut [u8]) -> Result<usize>
     Ok(done)
 }
 
-// Reads the bytes of a frame of this size to the front of a buffer.
+// Reads the bytes of a frame of this size to the front of a buffer. After an error those that were
+// read before it are there.
 fn read_body<R: Read>(input: &mut R, buffer: &mut [u8], size: usize) -> Result<Frame>
     ensures frame { IfOk result (λ frame. InBuffer buffer.new frame) }
     ensures err { OnErr result (AtFront (R.remaining input.old) (R.remaining input.new) buffer.new) }
@@ -69,7 +70,8 @@ fn read_body<R: Read>(input: &mut R, buffer: &mut [u8], size: usize) -> Result<F
     Ok(Frame::Bytes(size))
 }
 
-// Reads the next frame of an input: its bytes to the front of a buffer.
+// Reads the next frame of an input: its bytes to the front of a buffer. After an error the bytes of
+// its length are lost, and those that were read behind them are at the front of the buffer.
 pub fn read_frame<R: Read>(input: &mut R, buffer: &mut [u8]) -> Result<Frame>
     ensures frame { IfOk result (λ frame. InBuffer buffer.new frame) }
     ensures err { OnErr result (TakenFrame (R.remaining input.old) (R.remaining input.new) buffer.new) }
@@ -90,7 +92,8 @@ pub fn read_frame<R: Read>(input: &mut R, buffer: &mut [u8]) -> Result<Frame>
 pub fn write_front<W: Write>(output: &mut W, buffer: &[u8], n: usize) -> Result<usize>
     ensures count { IfOk result (λ k. k ≡ front buffer.now n) }
     ensures bytes { OnOk result (Appends (W.contents output.old) (W.contents output.new) (take (front buffer.now n) buffer.now)) }
-    ensures err { OnErr result (Begun (W.contents output.old) (W.contents output.new) (take (front buffer.now n) buffer.now)) }
+    ensures err { OnErr result
+        (Begun (W.contents output.old) (W.contents output.new) (take (front buffer.now n) buffer.now)) }
 {
     if buffer.len() < n {
         return Ok(0);
@@ -122,7 +125,8 @@ pub fn write_result<W: Write>(output: &mut W, buffer: &[u8], res: Written) -> Re
     }
 }
 
-// Writes a text to one of the outputs. Returns the number of bytes handed on.
+// Writes a text to one of the outputs, by as many writes as it takes. Returns the number of bytes
+// handed on. A write that takes no byte is an error.
 fn write_to<W: Write>(output: &mut W, text: &[u8]) -> Result<usize>
     ensures count { IfOk result (λ k. k ≡ length text.now) }
     ensures bytes { OnOk result (Appends (W.contents output.old) (W.contents output.new) text.now) }
@@ -159,7 +163,8 @@ pub fn write_error(errors: &mut Stderr, text: &[u8]) -> Result<usize>
 pub fn write_decimal<W: Write>(output: &mut W, n: usize) -> Result<usize>
     ensures count { IfOk result (λ k. IsDigitCount 10 1 n k) }
     ensures bytes { IfOk result (λ k. Appends (W.contents output.old) (W.contents output.new) (last_digits 10 k n)) }
-    ensures err { OnErr result ((k : ℕ) × IsDigitCount 10 1 n k × Begun (W.contents output.old) (W.contents output.new) (last_digits 10 k n)) }
+    ensures err { OnErr result ((k : ℕ) × IsDigitCount 10 1 n k
+        × Begun (W.contents output.old) (W.contents output.new) (last_digits 10 k n)) }
 {
     let mut digits = [0u8; 20];
     let count = io::decimal(n as u64, &mut digits);

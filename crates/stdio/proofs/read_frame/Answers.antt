@@ -1,5 +1,5 @@
 -- An error comes while the length is read, or behind it.
-use Rattle.std.proofs.Common.{◌≡◌, length, rules}
+use Rattle.std.proofs.Common.{rules}
 use Rattle.std.proofs.lemmas.Result.{on_err_weaker}
 use Rattle.stdio.proofs.Frames.{at_any_err, in_body, in_length}
 use Rattle.stdio.proofs.read_frame.Goals as goal

@@ -1,5 +1,5 @@
 -- As many bytes are handed on as there are digits, and a byte has two.
-use Rattle.std.proofs.Common.{◌≡◌, ◌∙◌, refl, ap, arith, length, take}
+use Rattle.std.proofs.Common.{◌≡◌, ◌∙◌, ap, arith}
 use Rattle.io.specs.Digits.{last_digits}
 use Rattle.stdio.proofs.Handed.{at_ok, equal_begun, equal_bytes, all_digits, two_digits}
 use Rattle.stdio.proofs.write_hex.Goals as goal

@@ -1,5 +1,5 @@
 -- The whole line is handed on: it is shorter than the buffer.
-use Rattle.std.proofs.Common.{◌≡◌, rules, arith, length}
+use Rattle.std.proofs.Common.{rules, length}
 use Rattle.stdio.proofs.Handed.{at_ok, equal_begun, equal_bytes, whole_line, whole_text}
 use Rattle.stdio.proofs.write_refused.Goals as goal
 
