@@ -18,13 +18,13 @@ use Rattle.text.specs.Text.{refused_line}
 use Rattle.text.proofs.Short.{refused_line_lem}
 use Rattle.std.specs.Prelude.{Result, Ok, Err, IfOk}
 use Rattle.io.specs.Digits.{IsDigitCount}
-use Rattle.std.specs.Prelude.{Option, None, Some, OnOk, take}
+use Rattle.std.specs.Prelude.{Option, OnErr, OnOk, take}
 use Rattle.std.specs.Io.KnownBytes.{Appends}
 use Rattle.std.proofs.Common.{drop, ◌++◌, ap, take_all, ◌+◌}
 use Rattle.std.proofs.lemmas.List.Edits.{sets, sets-eq}
 use lib.Seq.{take-append_seam}
 use Rattle.buffer.specs.Placed.{Placed}
-use Rattle.stdio.specs.Handed.{front, handed, handed_bytes}
+use Rattle.stdio.specs.Handed.{Begun, front, handed, handed_bytes}
 
 -- what follows of a value follows of the value that a call returned, if it did
 pub at_ok : {T E : Type 0} (r : Result T E) (P Q : T → Type 0) → ((x : T) → P x → Q x) → IfOk r P → IfOk r Q
@@ -83,6 +83,11 @@ pub equal_bytes : {E : Type 0} (r : Result ℕ E) (before after : Option (List �
     → OnOk r (Appends before after x) → OnOk r (Appends before after y)
 equal_bytes r before after x y e h =
     at_ok r (λ _. Appends before after x) (λ _. Appends before after y) (λ k q. subst (Appends before after) e q) h
+
+-- what was to be handed on is equal, so an error leaves the first of it
+pub equal_begun : {E : Type 0} (r : Result ℕ E) (before after : Option (List ℕ)) (x y : List ℕ) → x ≡ y
+    → OnErr r (Begun before after x) → OnErr r (Begun before after y)
+equal_begun r before after x y e h = subst (λ (l : List ℕ). OnErr r (Begun before after l)) e h
 
 -- of a number as many digits as it has are handed on
 pub all_digits : (base least n k r : ℕ) → r ≡ k → IsDigitCount base least n k → IsDigitCount base least n r

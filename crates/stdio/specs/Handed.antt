@@ -1,8 +1,9 @@
--- How many bytes of a buffer are handed on.
-use Rattle.std.specs.Prelude.{List, ℕ, ltb, length, take}
+-- How many bytes of a buffer are handed on, and which: also before an error.
+use Rattle.std.specs.Prelude.{List, Option, ℕ, ◌≤◌, ltb, length, take}
 use Rattle.std.specs.Prelude.{if◌then◌else◌}
 use Rattle.buffer.specs.declared.Written.{Written}
 use Rattle.buffer.specs.declared.Written.TheVariants.{Length}
+use Rattle.std.specs.Io.KnownBytes.{Appends}
 use Rattle.text.specs.Text.{refused_line}
 
 -- the first n bytes: none of a buffer that has fewer
@@ -18,3 +19,7 @@ handed buffer (Written.Refused f) = length (refused_line f)
 unfoldable pub handed_bytes : List ℕ → Written → List ℕ
 handed_bytes buffer (Length n) = take (front buffer n) buffer
 handed_bytes buffer (Written.Refused f) = refused_line f
+
+-- some of these bytes, from the first on, and no others were handed on
+abbrev pub Begun : Option (List ℕ) → Option (List ℕ) → List ℕ → Type 0
+Begun before after bytes = (k : ℕ) × (k ≤ length bytes) × Appends before after (take k bytes)

@@ -1,21 +1,21 @@
 // What programs do with standard input, output and error. A function that reads promises to stay
 // within the buffer, and one that writes how many bytes it handed on, if it returns `Ok`. The only
 // error is one of the input or the output, returned as it came. Of what was to be written some
-// bytes may have been handed on before it.
+// bytes may have been handed on before it: the first ones, and no others.
 #![tactic(auto)]
 
-ghost use Rattle.std.specs.Prelude.{◌≡◌, ◌<◌, length, take, codes, IfOk, OnOk, OnErr};
+ghost use Rattle.std.specs.Prelude.{◌≡◌, ℕ, ◌<◌, length, take, codes, IfOk, OnOk, OnErr};
 ghost use Rattle.std.specs.Io.{ReadsAtMost};
 ghost use Rattle.std.specs.Io.KnownBytes.{Appends, Consumes, IsAtEnd};
 ghost use Rattle.io.specs.Digits.{IsDigitCount, last_digits};
 ghost use Rattle.stdio.specs.Frame.{InBuffer};
-ghost use Rattle.stdio.specs.Handed.{front, handed, handed_bytes};
-ghost use Rattle.stdio.specs.Taken.{AtFront};
+ghost use Rattle.stdio.specs.Handed.{Begun, front, handed, handed_bytes};
+ghost use Rattle.stdio.specs.Taken.{AtFront, TakenFrame};
 ghost use Rattle.text.specs.Text.{refused_line};
 
 use buffer::{Written, read};
 use der::Fault;
-use std::io::{Read, Result, Stderr, Write};
+use std::io::{Error, ErrorKind, Read, Result, Stderr, Write};
 
 // The size of a large buffer: one byte more than the longest file has, and as many as the longest
 // listing may have.
@@ -54,9 +54,11 @@ pub fn read_all<R: Read>(input: &mut R, buffer: &mut [u8]) -> Result<usize>
     Ok(done)
 }
 
-// Reads the bytes of a frame of this size to the front of a buffer.
+// Reads the bytes of a frame of this size to the front of a buffer. After an error those that were
+// read before it are there.
 fn read_body<R: Read>(input: &mut R, buffer: &mut [u8], size: usize) -> Result<Frame>
-    ensures { IfOk result (λ frame. InBuffer buffer.new frame) }
+    ensures frame { IfOk result (λ frame. InBuffer buffer.new frame) }
+    ensures err { OnErr result (AtFront (R.remaining input.old) (R.remaining input.new) buffer.new) }
 {
     if buffer.len() < size {
         return Ok(Frame::Cut);
@@ -68,9 +70,11 @@ fn read_body<R: Read>(input: &mut R, buffer: &mut [u8], size: usize) -> Result<F
     Ok(Frame::Bytes(size))
 }
 
-// Reads the next frame of an input: its bytes to the front of a buffer.
+// Reads the next frame of an input: its bytes to the front of a buffer. After an error the bytes of
+// its length are lost, and those that were read behind them are at the front of the buffer.
 pub fn read_frame<R: Read>(input: &mut R, buffer: &mut [u8]) -> Result<Frame>
-    ensures { IfOk result (λ frame. InBuffer buffer.new frame) }
+    ensures frame { IfOk result (λ frame. InBuffer buffer.new frame) }
+    ensures err { OnErr result (TakenFrame (R.remaining input.old) (R.remaining input.new) buffer.new) }
 {
     let mut header = [0u8; LENGTH];
     let got = read_all(input, &mut header)?;
@@ -88,18 +92,20 @@ pub fn read_frame<R: Read>(input: &mut R, buffer: &mut [u8]) -> Result<Frame>
 pub fn write_front<W: Write>(output: &mut W, buffer: &[u8], n: usize) -> Result<usize>
     ensures count { IfOk result (λ k. k ≡ front buffer.now n) }
     ensures bytes { OnOk result (Appends (W.contents output.old) (W.contents output.new) (take (front buffer.now n) buffer.now)) }
+    ensures err { OnErr result
+        (Begun (W.contents output.old) (W.contents output.new) (take (front buffer.now n) buffer.now)) }
 {
     if buffer.len() < n {
         return Ok(0);
     }
-    output.write_all(&buffer[0..n])?;
-    Ok(n)
+    write_to(output, &buffer[0..n])
 }
 
 // Writes the line of a refusal. Returns the number of bytes handed on.
 pub fn write_refused<W: Write>(output: &mut W, fault: Fault) -> Result<usize>
     ensures count { IfOk result (λ k. k ≡ length (refused_line fault)) }
     ensures bytes { OnOk result (Appends (W.contents output.old) (W.contents output.new) (refused_line fault)) }
+    ensures err { OnErr result (Begun (W.contents output.old) (W.contents output.new) (refused_line fault)) }
 {
     let mut line = [0u8; 64];
     let n = text::refused(&mut line, 0, fault);
@@ -111,6 +117,7 @@ pub fn write_refused<W: Write>(output: &mut W, fault: Fault) -> Result<usize>
 pub fn write_result<W: Write>(output: &mut W, buffer: &[u8], res: Written) -> Result<usize>
     ensures count { IfOk result (λ k. k ≡ handed buffer.now res) }
     ensures bytes { OnOk result (Appends (W.contents output.old) (W.contents output.new) (handed_bytes buffer.now res)) }
+    ensures err { OnErr result (Begun (W.contents output.old) (W.contents output.new) (handed_bytes buffer.now res)) }
 {
     match res {
         Written::Length(n) => write_front(output, buffer, n),
@@ -118,12 +125,21 @@ pub fn write_result<W: Write>(output: &mut W, buffer: &[u8], res: Written) -> Re
     }
 }
 
-// Writes a text to one of the outputs. Returns the number of bytes handed on.
+// Writes a text to one of the outputs, by as many writes as it takes. Returns the number of bytes
+// handed on. A write that takes no byte is an error.
 fn write_to<W: Write>(output: &mut W, text: &[u8]) -> Result<usize>
     ensures count { IfOk result (λ k. k ≡ length text.now) }
     ensures bytes { OnOk result (Appends (W.contents output.old) (W.contents output.new) text.now) }
+    ensures err { OnErr result (Begun (W.contents output.old) (W.contents output.new) text.now) }
 {
-    output.write_all(text)?;
+    let mut sent = 0;
+    while sent < text.len() {
+        let n = output.write(&text[sent..])?;
+        if n == 0 {
+            return Err(Error::from(ErrorKind::WriteZero));
+        }
+        sent += n;
+    }
     Ok(text.len())
 }
 
@@ -131,6 +147,7 @@ fn write_to<W: Write>(output: &mut W, text: &[u8]) -> Result<usize>
 pub fn write_text<W: Write>(output: &mut W, text: &[u8]) -> Result<usize>
     ensures count { IfOk result (λ k. k ≡ length text.now) }
     ensures bytes { OnOk result (Appends (W.contents output.old) (W.contents output.new) text.now) }
+    ensures err { OnErr result (Begun (W.contents output.old) (W.contents output.new) text.now) }
 {
     write_to(output, text)
 }
@@ -146,6 +163,8 @@ pub fn write_error(errors: &mut Stderr, text: &[u8]) -> Result<usize>
 pub fn write_decimal<W: Write>(output: &mut W, n: usize) -> Result<usize>
     ensures count { IfOk result (λ k. IsDigitCount 10 1 n k) }
     ensures bytes { IfOk result (λ k. Appends (W.contents output.old) (W.contents output.new) (last_digits 10 k n)) }
+    ensures err { OnErr result ((k : ℕ) × IsDigitCount 10 1 n k
+        × Begun (W.contents output.old) (W.contents output.new) (last_digits 10 k n)) }
 {
     let mut digits = [0u8; 20];
     let count = io::decimal(n as u64, &mut digits);
@@ -156,6 +175,7 @@ pub fn write_decimal<W: Write>(output: &mut W, n: usize) -> Result<usize>
 pub fn write_hex<W: Write>(output: &mut W, b: u8) -> Result<usize>
     ensures count { IfOk result (λ k. k ≡ 2) }
     ensures bytes { OnOk result (Appends (W.contents output.old) (W.contents output.new) (last_digits 16 2 b)) }
+    ensures err { OnErr result (Begun (W.contents output.old) (W.contents output.new) (last_digits 16 2 b)) }
 {
     let mut digits = [0u8; 16];
     let two = io::hex(b as u64, 2, &mut digits);
@@ -166,6 +186,7 @@ pub fn write_hex<W: Write>(output: &mut W, b: u8) -> Result<usize>
 pub fn write_cut<W: Write>(output: &mut W) -> Result<usize>
     ensures count { IfOk result (λ k. k ≡ 4) }
     ensures bytes { OnOk result (Appends (W.contents output.old) (W.contents output.new) (codes "cut\n")) }
+    ensures err { OnErr result (Begun (W.contents output.old) (W.contents output.new) (codes "cut\n")) }
 {
     write_text(output, b"cut\n")
 }

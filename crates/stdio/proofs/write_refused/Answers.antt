@@ -1,6 +1,6 @@
 -- The whole line is handed on: it is shorter than the buffer.
-use Rattle.std.proofs.Common.{◌≡◌, rules, arith, length}
-use Rattle.stdio.proofs.Handed.{at_ok, equal_bytes, whole_line, whole_text}
+use Rattle.std.proofs.Common.{rules, length}
+use Rattle.stdio.proofs.Handed.{at_ok, equal_begun, equal_bytes, whole_line, whole_text}
 use Rattle.stdio.proofs.write_refused.Goals as goal
 
 pub returns-clause-count : goal.returns-clause-count
@@ -17,3 +17,10 @@ returns-clause-bytes g c =
     (whole_text c.args.fault _ c.refused-n.new.out c.refused-n.result (search rules) (search rules)
     c.refused-n.ensures)
     c.write_front.ensures.bytes
+
+pub returns-clause-err : goal.returns-clause-err
+returns-clause-err g c =
+    equal_begun c.write_front.result _ _ _ _
+    (whole_text c.args.fault _ c.refused-n.new.out c.refused-n.result (search rules) (search rules)
+    c.refused-n.ensures)
+    c.write_front.ensures.err

@@ -1,5 +1,6 @@
 -- By whether the call was refused.
-use Rattle.stdio.proofs.Handed.{at_ok, equal_bytes, of_length, of_refusal, bytes_of_length, bytes_of_refusal}
+use Rattle.stdio.proofs.Handed.{at_ok, equal_begun, equal_bytes, of_length, of_refusal}
+use Rattle.stdio.proofs.Handed.{bytes_of_length, bytes_of_refusal}
 use Rattle.stdio.proofs.write_result.Goals as goal
 
 pub returns-in-Length-clause-count : goal.returns-in-Length-clause-count
@@ -23,3 +24,13 @@ pub returns-in-Refused-clause-bytes : goal.returns-in-Refused-clause-bytes
 returns-in-Refused-clause-bytes g c =
     equal_bytes c.write_refused.result _ _ _ _
     (bytes_of_refusal c.args.buffer.now c.args.res c.in-Refused.fault c.in-Refused.is) c.write_refused.ensures.bytes
+
+pub returns-in-Length-clause-err : goal.returns-in-Length-clause-err
+returns-in-Length-clause-err g c =
+    equal_begun c.write_front.result _ _ _ _
+    (bytes_of_length c.args.buffer.now c.args.res c.in-Length.n c.in-Length.is) c.write_front.ensures.err
+
+pub returns-in-Refused-clause-err : goal.returns-in-Refused-clause-err
+returns-in-Refused-clause-err g c =
+    equal_begun c.write_refused.result _ _ _ _
+    (bytes_of_refusal c.args.buffer.now c.args.res c.in-Refused.fault c.in-Refused.is) c.write_refused.ensures.err
