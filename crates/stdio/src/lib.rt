@@ -4,7 +4,7 @@
 // bytes may have been handed on before it: the first ones, and no others.
 #![tactic(auto)]
 
-ghost use Rattle.std.specs.Prelude.{◌≡◌, ℕ, ◌<◌, length, take, codes, IfOk, OnOk, OnErr};
+ghost use Rattle.std.specs.Prelude.{◌≡◌, ℕ, ◌<◌, length, take, codes, IfOk, IsOk, OnOk, OnErr};
 ghost use Rattle.std.specs.Io.{ReadsAtMost};
 ghost use Rattle.std.specs.Io.KnownBytes.{Appends, Consumes, IsAtEnd};
 ghost use Rattle.io.specs.Digits.{IsDigitCount, last_digits};
@@ -94,6 +94,7 @@ pub fn write_front<W: Write>(output: &mut W, buffer: &[u8], n: usize) -> Result<
     ensures bytes { OnOk result (Appends (W.contents output.old) (W.contents output.new) (take (front buffer.now n) buffer.now)) }
     ensures err { OnErr result
         (Begun (W.contents output.old) (W.contents output.new) (take (front buffer.now n) buffer.now)) }
+    ensures short { length buffer.now < n → IsOk result }
 {
     if buffer.len() < n {
         return Ok(0);
