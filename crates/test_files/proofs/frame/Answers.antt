@@ -2,4 +2,4 @@
 use Rattle.test_files.proofs.frame.Goals as goal
 
 pub slice_bounds-list-end : goal.slice_bounds-list-end
-slice_bounds-list-end g c = (c.in_ok-frame.ensures c.in-Bytes.n c.in-Bytes.is).0
+slice_bounds-list-end g c = (c.in_ok-frame.ensures.frame c.in-Bytes.n c.in-Bytes.is).0

@@ -2,4 +2,4 @@
 use Rattle.test_uploads.proofs.frame.Goals as goal
 
 pub slice_bounds-upload_frame-end : goal.slice_bounds-upload_frame-end
-slice_bounds-upload_frame-end g c = (c.in_ok-frame.ensures c.in-Bytes.n c.in-Bytes.is).0
+slice_bounds-upload_frame-end g c = (c.in_ok-frame.ensures.frame c.in-Bytes.n c.in-Bytes.is).0
