@@ -47,7 +47,7 @@ def safe_term(row):
 
 def bag_term(row, has_set):
     fields = {"key": (None, None, "key"), "shrouded key": ("algorithm", "parameters", "ciphertext"), "nested": (None, None, None)}
-    enclosing = "Enclosing.None" if row.enclosing is None else "(Bag %d)" % row.enclosing
+    enclosing = "None" if row.enclosing is None else "(Some %d)" % row.enclosing
     return "bag_row %s %d %s %s %s" % (
         KINDS[row.kind], row.safe, enclosing, parts(row, *fields.get(row.kind, ("type", None, "value"))), "true" if has_set else "false")
 
@@ -66,7 +66,7 @@ def reading_term(reading):
         *reading.mac_input, reading.opened)
     mac = "(mac_fields %s %s %d)" % (
         parts(reading.mac, "algorithm", "parameters", "digest"), span(reading.mac.salt), reading.mac.iterations)
-    return "record { answer = Accepted; table = table_of %s %s }" % (rows, mac)
+    return "record { answer = Ok tt; table = table_of %s %s }" % (rows, mac)
 
 
 def bench_header():
@@ -78,7 +78,7 @@ def bench_header():
     uses = [line for line in text.split("\n") if line.startswith("use ") and "Rattle.cases." not in line]
     own = "Rattle.pkcs12.specs."
     more = [
-        "use Rattle.std.specs.Prelude.{true, false, ◌≡◌, [], ◌∷◌}",
+        "use Rattle.std.specs.Prelude.{true, false, ◌≡◌, [], ◌∷◌, Ok, Some, None}",
         "use Rattle.der.specs.Element.{fault}",
         "use Rattle.range.specs.Range.{range, no_range}",
         "use %sTable.{no_parts, safe_row, bag_row, attribute_row, mac_fields}" % own,
@@ -86,9 +86,6 @@ def bench_header():
         "use %sWalk.{refused}" % own,
         "use %sdeclared.kind.SafeKind.TheVariants.{Plain, Encrypted}" % own,
         "use %sdeclared.kind.BagKind.TheVariants.{Key, ShroudedKey, Certificate, Crl, Secret, Nested}" % own,
-        "use %sdeclared.row.Enclosing.{Enclosing}" % own,
-        "use %sdeclared.row.Enclosing.TheVariants.{Bag}" % own,
-        "use %sdeclared.answers.Answer.TheVariants.{Accepted}" % own,
     ]
     return "\n".join(uses + more), unfold
 

@@ -8,6 +8,7 @@ use native.Mathlib.Omega.{arith}
 use lib.ListN.{length, get_or, take, drop, drop_of_length-le, length-take}
 use lib.Seq.{drop-cons, get_or-take}
 use Rattle.std.specs.Prelude.{if◌then◌else◌}
+use Rattle.std.specs.Prelude.{Ok}
 use borrow.Author.Tests.{eq-eqb, ne_eqb, lt-ltb, le-ltb}
 use Rattle.pkcs12.specs.Table.{no_attribute}
 use Rattle.pkcs12.specs.declared.row.AttributeRow.{AttributeRow}
@@ -85,7 +86,7 @@ module _ (p : Position) (end : ℕ) where
 module _ (p : Position) (end i : ℕ) (e : i ≡ next_row p) where
   pub moved_on : (k : ℕ) (d : AttributeRow) → length p.rows ≡ k
       → end ≡ min p.count k → i < end
-      → position p.rows p.count p.bag (i + 1) (Item.Attribute (get_or p.rows i d)) ≡ moved_to p (next_row p)
+      → position p.rows p.count p.bag (i + 1) (Ok (Item.Attribute (get_or p.rows i d))) ≡ moved_to p (next_row p)
   unfolding moved_to
   moved_on k d a b h =
       let l = counted_length k p.count end p.rows a b in
@@ -95,7 +96,7 @@ module _ (p : Position) (end i : ℕ) (e : i ≡ next_row p) where
 
   pub moved_off : (k : ℕ) → length p.rows ≡ k
       → end ≡ min p.count k → end ≤ i
-      → position p.rows p.count p.bag i Done ≡ moved_to p (next_row p)
+      → position p.rows p.count p.bag i (Ok Done) ≡ moved_to p (next_row p)
   unfolding moved_to
   moved_off k a b h =
       let l = counted_length k p.count end p.rows a b in

@@ -8,7 +8,8 @@ use Rattle.der.specs.Element.{cursor, element_at}
 use Rattle.der.specs.Span.{Span}
 use Rattle.der.specs.Tree.{Tree, primitive, constructed, Trees, none, more, encode, encodes, Formed, AllFormed}
 use Rattle.der.specs.declared.Cursor.{Cursor}
-use Rattle.der.specs.declared.Element.TheVariants.{Found}
+use Rattle.der.specs.Element.{element}
+use Rattle.std.specs.Prelude.{Ok}
 use Rattle.der.proofs.Header.{header_then}
 use Rattle.der.proofs.Spans.{span_slice, slice_span, span_split}
 use Rattle.der.proofs.Trees.{tree_long, tree_some}
@@ -23,7 +24,7 @@ use Rattle.elements.proofs.Siblings.{run_end, run_more}
 -- what a tree is written as is found as one element: k is what follows from that
 tree_then : {P : Type 0} (s : List ℕ) (x : Tree) (at e end : ℕ) → Formed x → Span s at e (encode x)
     → e ≤ end → end ≤ length s
-    → ((t : ℕ) (b : Cursor) → element_at s (cursor at end) ≡ Found t b (cursor e end) → P) → P
+    → ((t : ℕ) (b : Cursor) → element_at s (cursor at end) ≡ Ok (element t b (cursor e end)) → P) → P
 unfolding encode Formed
 tree_then s (primitive t body) at e end f p h i k =
     header_then s at e end t body f.0 f.2 p h i (λ b g q. k t (cursor b e) g)

@@ -6,6 +6,7 @@ use mathlib.Core.List.{List, [], ◌∷◌, map}
 use Prim.Native.Nat.{ℕ, zero, suc, ◌+◌, ◌≤◌, ◌<◌}
 use native.Mathlib.Omega.{arith}
 use lib.ListN.{length, get_or, length-map, length-take, get_or-map}
+use Rattle.std.specs.Prelude.{Err, Ok, Result}
 use Rattle.der.specs.Element.{fault, whole_of}
 use Rattle.der.specs.Span.{Bytes}
 use Rattle.der.specs.declared.Fault.{Fault}
@@ -29,7 +30,7 @@ use Rattle.pkcs12.proofs.Parents.{by_elements}
 use Rattle.attributes.specs.Reader.{position, refused_by, opening_of, next_of, item_after}
 use Rattle.attributes.specs.Own.{attributes_of, own_rows, set_in_safes, listed, no_value, Gives}
 use Rattle.attributes.specs.declared.Item.{Item}
-use Rattle.attributes.specs.declared.Item.TheVariants.{Ready, Done}
+use Rattle.attributes.specs.declared.Item.TheVariants.{Ready}
 use Rattle.attributes.specs.declared.Position.{Position}
 use Rattle.attributes.proofs.First.{get_d_in}
 use Rattle.attributes.proofs.Runs as runs
@@ -39,15 +40,13 @@ use Rattle.attributes.proofs.Sets.{shown_by, safes_long}
 -- ---- opening
 
 -- an item by number: a refusal is one more than its number
-abbrev code : Item → ℕ
-code Ready = 0
-code (Item.Attribute r) = 0
-code Done = 0
-code (Item.Refused f) = 1 + f.number
+abbrev code : Result Item Fault → ℕ
+code (Ok x) = 0
+code (Err f) = 1 + f.number
 
 -- a reader that was not refused
 abbrev ready : Table → ℕ → Position
-ready t n = position t.attributes t.attribute_count n 0 Ready
+ready t n = position t.attributes t.attribute_count n 0 (Ok Ready)
 
 module _ (t : Table) (s : List ℕ) (n : ℕ) where
   -- what holds of each answer, with its reason, holds of the one that opening returns
@@ -59,40 +58,40 @@ module _ (t : Table) (s : List ℕ) (n : ℕ) where
   unfolding opening_of
   by_opening P b p q r = by_file P t s b _ _ p (λ o f. by_lt P _ _ n t.bag_count (r o) (q o))
 
-  pub refused_11 : Bytes s → (opening_of t s n).item ≡ Item.Refused (fault not_sound 0) ↔ (Sound t s → ⊥)
+  pub refused_11 : Bytes s → (opening_of t s n).item ≡ Err (fault not_sound 0) ↔ (Sound t s → ⊥)
   unfolding refused_by
   refused_11 b = (
-    by_opening (λ p. p.item ≡ Item.Refused (fault not_sound 0) → Sound t s → ⊥) b (λ h e. h)
+    by_opening (λ p. p.item ≡ Err (fault not_sound 0) → Sound t s → ⊥) b (λ h e. h)
         (λ o h e. absurd (omega (arith, ap code e)))
         (λ o h e. absurd (omega (arith, ap code e))),
-    λ k. by_opening (λ p. p.item ≡ Item.Refused (fault not_sound 0)) b (λ h. refl)
+    λ k. by_opening (λ p. p.item ≡ Err (fault not_sound 0)) b (λ h. refl)
         (λ o h. absurd (k o)) (λ o h. absurd (k o)),
   )
 
-  pub refused_12 : Bytes s → (opening_of t s n).item ≡ Item.Refused (fault no_row 0) ↔ (Sound t s × (t.bag_count ≤ n))
+  pub refused_12 : Bytes s → (opening_of t s n).item ≡ Err (fault no_row 0) ↔ (Sound t s × (t.bag_count ≤ n))
   unfolding refused_by
   refused_12 b = (
-    by_opening (λ p. p.item ≡ Item.Refused (fault no_row 0) → Sound t s × (t.bag_count ≤ n)) b
+    by_opening (λ p. p.item ≡ Err (fault no_row 0) → Sound t s × (t.bag_count ≤ n)) b
         (λ h e. absurd (omega (arith, ap code e)))
         (λ o h e. (o, h)) (λ o h e. absurd (omega (arith, ap code e))),
-    λ k. by_opening (λ p. p.item ≡ Item.Refused (fault no_row 0)) b (λ h. absurd (h k.0)) (λ o h. refl)
+    λ k. by_opening (λ p. p.item ≡ Err (fault no_row 0)) b (λ h. absurd (h k.0)) (λ o h. refl)
         (λ o h. absurd (omega (arith, k.1))),
   )
 
-  pub ready_iff : Bytes s → (opening_of t s n).item ≡ Ready ↔ (Sound t s × (n < t.bag_count))
+  pub ready_iff : Bytes s → (opening_of t s n).item ≡ Ok Ready ↔ (Sound t s × (n < t.bag_count))
   unfolding refused_by
   ready_iff b = (
-    by_opening (λ p. p.item ≡ Ready → Sound t s × (n < t.bag_count)) b (λ h e. absurd (omega (arith, ap code e)))
+    by_opening (λ p. p.item ≡ Ok Ready → Sound t s × (n < t.bag_count)) b (λ h e. absurd (omega (arith, ap code e)))
         (λ o h e. absurd (omega (arith, ap code e))) (λ o h e. (o, h)),
-    λ k. by_opening (λ p. p.item ≡ Ready) b (λ h. absurd (h k.0))
+    λ k. by_opening (λ p. p.item ≡ Ok Ready) b (λ h. absurd (h k.0))
         (λ o h. absurd (omega (arith, k.1))) (λ o h. refl),
   )
 
-  pub refused_stays : (f : Fault) → (opening_of t s n).item ≡ Item.Refused f → (i : ℕ)
-      → item_after i (opening_of t s n) ≡ Item.Refused f
+  pub refused_stays : (f : Fault) → (opening_of t s n).item ≡ Err f → (i : ℕ)
+      → item_after i (opening_of t s n) ≡ Err f
   unfolding item_after
   refused_stays f e i =
-      ap {B = Item} (λ (p : Position). p.item)
+      ap {B = Result Item Fault} (λ (p : Position). p.item)
       (runs.after_stays (i + 1) (opening_of t s n) (runs.refused_stays (opening_of t s n) f e)) ∙ e
 
 -- ---- whole runs
@@ -135,7 +134,7 @@ module _ (t : Table) (s : List ℕ) (n : ℕ) (b : Bytes s) (o : Sound t s) (h :
   rows_in_turn i = rw opening
       (runs.in_turn i (ready t n) (own_rows n (attributes_of t)) (record { moves = refl; rest = refl }))
 
-  pub rows_name_bag : (i : ℕ) (r : AttributeRow) → item_after i (opening_of t s n) ≡ Item.Attribute r → r.bag ≡ n
+  pub rows_name_bag : (i : ℕ) (r : AttributeRow) → item_after i (opening_of t s n) ≡ Ok (Item.Attribute r) → r.bag ≡ n
   rows_name_bag i r e =
       either i (length (own_rows n (attributes_of t)))
       (λ k.

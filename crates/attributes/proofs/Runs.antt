@@ -3,20 +3,22 @@
 use mathlib.Core.Path.{◌≡◌, refl, sym, ◌∙◌, ap}
 use mathlib.Core.Bool.{Bool, true, false}
 use mathlib.Core.List.{List, [], ◌∷◌}
-use Prim.Native.Nat.{ℕ, zero, suc, ◌+◌, ◌-◌, ◌≤◌, ◌<◌}
+use Prim.Native.Nat.{ℕ, zero, suc, ◌+◌, ◌≤◌, ◌<◌}
 use native.Mathlib.Numerals.{add-one}
 use native.Mathlib.Omega.{arith}
 use borrow.Author.Tests.{lt-ltb, le-ltb}
 use lib.ListN.{length, get_or, drop, drop_of_length-le, length-take, length-drop}
 use lib.Seq.{drop-cons, get_or-take}
 use Rattle.std.specs.Prelude.{if◌then◌else◌}
+use Rattle.std.specs.Prelude.{Err, Ok, Result, is_err}
+use Rattle.der.specs.Element.{on_result}
 use Rattle.der.proofs.Choices.{by_lt, never}
 use Rattle.der.specs.declared.Fault.{Fault}
 use Rattle.pkcs12.specs.Table.{no_attribute}
 use Rattle.pkcs12.specs.declared.row.AttributeRow.{AttributeRow}
 use Rattle.attributes.specs.Own.{own_rows}
 use Rattle.attributes.specs.Reader.{first_from, names, counted, position, next_row, moved_to}
-use Rattle.attributes.specs.Reader.{on_item, next_of, after, item_after, is_last}
+use Rattle.attributes.specs.Reader.{next_of, after, item_after, is_last}
 use Rattle.attributes.specs.declared.Item.{Item}
 use Rattle.attributes.specs.declared.Item.TheVariants.{Ready, Done}
 use Rattle.attributes.specs.declared.Position.{Position}
@@ -24,10 +26,7 @@ use Rattle.attributes.specs.declared.Position.{Position}
 -- ---- what stays
 
 -- the end of the rows stays the end
-abbrev sub_one : (k : ℕ) → suc k - 1 ≡ k
-sub_one k = omega arith
-
-past_end : (p : Position) (i : ℕ) → length (counted p) ≤ i → next_row (position p.rows p.count p.bag i Done) ≡ i
+past_end : (p : Position) (i : ℕ) → length (counted p) ≤ i → next_row (position p.rows p.count p.bag i (Ok Done)) ≡ i
 unfolding next_row first_from
 past_end p i h = rw (drop_of_length-le (counted p) {i = i} h)
 
@@ -39,23 +38,55 @@ stays_moved p i =
     (λ h e. rw (past_end p i h, le-ltb i (length (counted p)) h))
 
 -- a call by what the last one returned
-by_item : (P : Position → Type 0) (x : Item) (p q : Position) → ((f : Fault) → x ≡ Item.Refused f → P p)
-    → (((f : Fault) → x ≡ Item.Refused f → ⊥) → P q) → P (on_item x p q)
-by_item P Ready p q bad good = good (λ f e. let z : ◌≡◌ {A = ℕ} 0 1 = cc in omega arith)
-by_item P (Item.Attribute r) p q bad good = good (λ f e. let z : ◌≡◌ {A = ℕ} 0 1 = cc in omega arith)
-by_item P Done p q bad good = good (λ f e. let z : ◌≡◌ {A = ℕ} 0 1 = cc in omega arith)
-by_item P (Item.Refused f) p q bad good = bad f refl
+by_item : (P : Position → Type 0) (x : Result Item Fault) (p q : Position) → ((f : Fault) → x ≡ Err f → P p)
+    → P q → P (on_result x (λ f. p) (λ y. q))
+by_item P (Ok y) p q bad good = good
+by_item P (Err f) p q bad good = bad f refl
 
-pub refused_stays : (p : Position) (f : Fault) → p.item ≡ Item.Refused f → next_of p ≡ p
+pub refused_stays : (p : Position) (f : Fault) → p.item ≡ Err f → next_of p ≡ p
 unfolding next_of
 refused_stays p f e = rw e
+
+-- the item by what the code met
+pub last_refused : (x : Result Item Fault) (f : Fault) → x ≡ Err f → true ≡ is_last x
+unfolding is_last
+last_refused x f e = rw e
+
+pub last_done : (x : Result Item Fault) (y : Item) → x ≡ Ok y → y ≡ Done → true ≡ is_last x
+unfolding is_last
+last_done x y e h = rw (e, h)
+
+pub not_last : (x : Result Item Fault) (y : Item) → x ≡ Ok y → (y ≡ Done → ⊥) → false ≡ is_last x
+unfolding is_last
+not_last x Ready e h = rw e
+not_last x (Item.Attribute r) e h = rw e
+not_last x Done e h = absurd (h refl)
+
+-- u is what the code's test of the item said
+pub next_refused : (p : Position) (u : Bool) → u ≡ is_err p.item → u ≡ true → p ≡ next_of p
+unfolding next_of
+next_refused p u e h = go p.item (sym h ∙ e)
+  where
+    go : (x : Result Item Fault) → true ≡ is_err x → p ≡ on_result x (λ f. p) (λ y. moved_to p (next_row p))
+    go (Ok y) k = never (sym k)
+    go (Err f) k = refl
+
+pub next_moved : (p q : Position) (u : Bool) → u ≡ is_err p.item → u ≡ false → q ≡ moved_to p (next_row p)
+    → q ≡ next_of p
+unfolding next_of
+next_moved p q u e h g = g ∙ go p.item (sym h ∙ e)
+  where
+    go : (x : Result Item Fault) → false ≡ is_err x
+        → moved_to p (next_row p) ≡ on_result x (λ f. p) (λ y. moved_to p (next_row p))
+    go (Ok y) k = refl
+    go (Err f) k = never k
 
 pub stays : (p : Position) → is_last (next_of p).item ≡ true → next_of (next_of p) ≡ next_of p
 unfolding next_of
 stays p =
     by_item (λ q. is_last q.item ≡ true → next_of q ≡ q) p.item p (moved_to p (next_row p))
     (λ f e h. refused_stays p f e)
-    (λ n h. stays_moved p (next_row p) h)
+    (stays_moved p (next_row p))
 
 pub after_stays : (n : ℕ) (p : Position) → next_of p ≡ p → after n p ≡ p
 unfolding after
@@ -70,22 +101,18 @@ pub record Calling (n : ℕ) (p₀ : Position) (left : ℕ) (p : Position) : Typ
   pub rest : (after n p₀).item ≡ (after left p).item
 
 module _ (n : ℕ) (p₀ : Position) where
-  pub calling_start : (q : Position) → p₀ ≡ next_of q → Calling n p₀ n p₀
-  calling_start q e = record { came = (q, e); rest = refl }
+  pub calling_start : (q : Position) (m : ℕ) → m ≡ n → p₀ ≡ next_of q → Calling n p₀ m p₀
+  calling_start q m h e = record { came = (q, e); rest = rw h }
 
   module _ (left : ℕ) (p : Position) (g : Calling n p₀ left p) where
     pub calling_stops : (u : Bool) → u ≡ is_last p.item → u ≡ true → p.item ≡ (after n p₀).item
     calling_stops u e h =
         let k : next_of p ≡ p = rw g.came.1 (stays g.came.0 (rw g.came.1 at (sym e ∙ h))) in
-        sym (g.rest ∙ ap {B = Item} (λ (q : Position). q.item) (after_stays left p k))
+        sym (g.rest ∙ ap {B = Result Item Fault} (λ (q : Position). q.item) (after_stays left p k))
 
-    pub calling_on : (q : Position) → 0 < left → q ≡ next_of p → Calling n p₀ (left - 1) q
+    pub calling_on : (q : Position) (m : ℕ) → left ≡ suc m → q ≡ next_of p → Calling n p₀ m q
     unfolding after
-    calling_on q h e = record { came = (p, e); rest = rw e (go left h g.rest) }
-      where
-        go : (k : ℕ) → 0 < k → (after n p₀).item ≡ (after k p).item → (after n p₀).item ≡ (after (k - 1) (next_of p)).item
-        go zero h r = absurd (omega arith)
-        go (suc k) h r = rw (sub_one k) r
+    calling_on q m h e = record { came = (p, e); rest = rw e (rw h at g.rest) }
 
     pub calling_ends : left ≤ 0 → p.item ≡ (after n p₀).item
     unfolding after
@@ -98,8 +125,8 @@ module _ (n : ℕ) (p₀ : Position) where
 -- call i, counted from 0, is the first call and i more
 pub first_call : (i : ℕ) (p q : Position) → q ≡ next_of p → (after i q).item ≡ item_after i p
 unfolding item_after after
-first_call i p q e = ap {B = Item} (λ (x : Position). (after i x).item) e
-    ∙ ap {B = Item} (λ (n : ℕ). (after n p).item) (sym (add-one i))
+first_call i p q e = ap {B = Result Item Fault} (λ (x : Position). (after i x).item) e
+    ∙ ap {B = Result Item Fault} (λ (n : ℕ). (after n p).item) (sym (add-one i))
 
 -- ---- the rows of the bag in turn
 
@@ -141,7 +168,7 @@ module _ (p : Position) where
   next_row_lem xs g = rw g.rest at (foremost p.bag (counted p) p.at (drop p.at (counted p)) refl)
 
   next_gives : (r : AttributeRow) (rs : List AttributeRow) → Left p (r ∷ rs)
-      → ((next_of p).item ≡ Item.Attribute r) × Left (next_of p) rs
+      → ((next_of p).item ≡ Ok (Item.Attribute r)) × Left (next_of p) rs
   unfolding moved_to next_of
   next_gives r rs g =
       let f = next_row_lem (r ∷ rs) g in
@@ -150,7 +177,7 @@ module _ (p : Position) where
       sym (get_or-take p.count p.rows (next_row p) no_attribute k) ∙ f.1 in
       rw (g.moves, lt-ltb (next_row p) (length (counted p)) f.0, e) (refl, record { moves = refl; rest = f.2 })
 
-  next_ends : Left p [] → ((next_of p).item ≡ Done) × Left (next_of p) []
+  next_ends : Left p [] → ((next_of p).item ≡ Ok Done) × Left (next_of p) []
   unfolding moved_to next_of own_rows
   next_ends g =
       let f = next_row_lem [] g in
@@ -158,8 +185,8 @@ module _ (p : Position) where
       (refl, record { moves = refl; rest = rw (drop_of_length-le (counted p) {i = next_row p} f) })
 
 -- call i is to return row i of them, and every call past them `Done`
-abbrev pub Turn : ℕ → List AttributeRow → Item → Type 0
-Turn i xs x = (i < length xs → x ≡ Item.Attribute (get_or xs i no_attribute)) × (length xs ≤ i → x ≡ Done)
+abbrev pub Turn : ℕ → List AttributeRow → Result Item Fault → Type 0
+Turn i xs x = (i < length xs → x ≡ Ok (Item.Attribute (get_or xs i no_attribute))) × (length xs ≤ i → x ≡ Ok Done)
 
 turn : (i : ℕ) (p : Position) (xs : List AttributeRow) → Left p xs → Turn i xs (after i (next_of p)).item
 unfolding after

@@ -16,8 +16,7 @@ use Rattle.pkcs12.specs.Valid.{bags_in, bags_in_safe, bags_in_safes}
 use Rattle.pkcs12.specs.Values.{BagValue, AttributeValue, stands, bag_values, own_values, set_values, attribute_values}
 use Rattle.pkcs12.specs.Values.{bags_of_safe, attributes_of_safe, bags_of_safes, attributes_of_safes}
 use Rattle.pkcs12.specs.Table.{attribute_shown}
-use Rattle.pkcs12.specs.declared.row.Enclosing.{Enclosing}
-use Rattle.pkcs12.specs.declared.row.Enclosing.TheVariants.{Bag}
+use Rattle.std.specs.Prelude.{None, Option, Some}
 use Rattle.pkcs12.specs.declared.row.AttributeRow.{AttributeRow}
 use Rattle.attributes.specs.Reader.{names}
 use Rattle.attributes.specs.Own.{own_rows, own_in, set_in, set_in_safe, set_in_safes, listed}
@@ -150,15 +149,15 @@ at_second xs ys d m n e h =
     ap (λ (i : ℕ). get_or (xs ++ ys) i d) k ∙ get_or-append-add xs ys (n - m) d
 
 -- as many rows as bags
-bags_long : (k : ℕ) (e : Enclosing) (m : ℕ) (x : Bags) → length (bag_values k e m x) ≡ bags_in x
+bags_long : (k : ℕ) (e : Option ℕ) (m : ℕ) (x : Bags) → length (bag_values k e m x) ≡ bags_in x
 unfolding bag_values bags_in
 bags_long k e m none = refl
 bags_long k e m (bag x set xs) = omega (arith, bags_long k e (m + 1) xs)
 bags_long k e m (nest inner set xs) =
-    rw length-append (omega (arith, bags_long k (Bag m) (m + 1) inner, bags_long k e (m + 1 + bags_in inner) xs))
+    rw length-append (omega (arith, bags_long k (Some m) (m + 1) inner, bags_long k e (m + 1 + bags_in inner) xs))
 
 safe_long : (k m : ℕ) (x : Safe) → length (bags_of_safe k m x) ≡ bags_in_safe x
-safe_long k m (plain xs) = bags_long k Enclosing.None m xs
+safe_long k m (plain xs) = bags_long k None m xs
 safe_long k m (encrypted x) = refl
 
 pub safes_long : (k m : ℕ) (xs : List Safe) → length (bags_of_safes k m xs) ≡ bags_in_safes xs
@@ -167,7 +166,7 @@ safes_long k m [] = refl
 safes_long k m (x ∷ xs) = rw length-append (omega (arith, safe_long k m x, safes_long (k + 1) (m + bags_in_safe x) xs))
 
 -- row n shows whether bag n has a set
-bag_numbered : (k : ℕ) (e : Enclosing) (m : ℕ) (x : Bags) (n : ℕ) (d : BagValue) → n < bags_in x
+bag_numbered : (k : ℕ) (e : Option ℕ) (m : ℕ) (x : Bags) (n : ℕ) (d : BagValue) → n < bags_in x
     → (get_or (bag_values k e m x) n d).has_set ≡ stands (set_in n x)
 unfolding bag_values bags_in set_in
 bag_numbered k e m none n d h = absurd (omega arith)
@@ -175,17 +174,17 @@ bag_numbered k e m (bag x set xs) zero d h = refl
 bag_numbered k e m (bag x set xs) (suc n) d h = bag_numbered k e (m + 1) xs n d (omega arith)
 bag_numbered k e m (nest inner set xs) zero d h = refl
 bag_numbered k e m (nest inner set xs) (suc n) d h =
-    let l : length (bag_values k (Bag m) (m + 1) inner) ≡ bags_in inner = bags_long k (Bag m) (m + 1) inner in
-    by_lt (λ v. (get_or (bag_values k (Bag m) (m + 1) inner ++ bag_values k e (m + 1 + bags_in inner) xs) n d).has_set
+    let l : length (bag_values k (Some m) (m + 1) inner) ≡ bags_in inner = bags_long k (Some m) (m + 1) inner in
+    by_lt (λ v. (get_or (bag_values k (Some m) (m + 1) inner ++ bag_values k e (m + 1 + bags_in inner) xs) n d).has_set
     ≡ stands v) _ _ n (bags_in inner)
     (λ i. rw (at_first _ (bag_values k e (m + 1 + bags_in inner) xs) d (bags_in inner) n l i)
-    (bag_numbered k (Bag m) (m + 1) inner n d i))
+    (bag_numbered k (Some m) (m + 1) inner n d i))
     (λ i. rw (at_second _ (bag_values k e (m + 1 + bags_in inner) xs) d (bags_in inner) n l i)
     (bag_numbered k e (m + 1 + bags_in inner) xs (n - bags_in inner) d (omega arith)))
 
 safe_numbered : (k m : ℕ) (x : Safe) (n : ℕ) (d : BagValue) → n < bags_in_safe x
     → (get_or (bags_of_safe k m x) n d).has_set ≡ stands (set_in_safe n x)
-safe_numbered k m (plain xs) n d h = bag_numbered k Enclosing.None m xs n d h
+safe_numbered k m (plain xs) n d h = bag_numbered k None m xs n d h
 safe_numbered k m (encrypted x) n d h = absurd (omega arith)
 
 safes_numbered : (k m : ℕ) (xs : List Safe) (n : ℕ) (d : BagValue) → n < bags_in_safes xs

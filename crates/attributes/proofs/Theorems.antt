@@ -7,6 +7,7 @@ use mathlib.Core.List.{List, [], map}
 use Prim.Native.Nat.{ℕ, ◌≤◌, ◌<◌}
 use native.Mathlib.Omega.{arith}
 use lib.ListN.{length, get_or}
+use Rattle.std.specs.Prelude.{Err, Ok}
 use Rattle.der.specs.Element.{fault}
 use Rattle.der.specs.Span.{Bytes}
 use Rattle.der.specs.declared.Fault.{Fault}
@@ -34,21 +35,21 @@ use Rattle.attributes.proofs.Listed as listing
 
 -- 11 exactly if the table is not sound for the bytes, then 12 exactly if the row isn't there
 pub refused_11_iff : (t : Table) (s : List ℕ) (n : ℕ) → Bytes s
-    → (opening_of t s n).item ≡ Item.Refused (fault not_sound 0) ↔ (Sound t s → ⊥)
+    → (opening_of t s n).item ≡ Err (fault not_sound 0) ↔ (Sound t s → ⊥)
 refused_11_iff = own.refused_11
 
 pub refused_12_iff : (t : Table) (s : List ℕ) (n : ℕ) → Bytes s
-    → (opening_of t s n).item ≡ Item.Refused (fault no_row 0) ↔ (Sound t s × (t.bag_count ≤ n))
+    → (opening_of t s n).item ≡ Err (fault no_row 0) ↔ (Sound t s × (t.bag_count ≤ n))
 refused_12_iff = own.refused_12
 
 -- and open exactly if it is sound and the row is there
 pub ready_iff : (t : Table) (s : List ℕ) (n : ℕ) → Bytes s
-    → (opening_of t s n).item ≡ Ready ↔ (Sound t s × (n < t.bag_count))
+    → (opening_of t s n).item ≡ Ok Ready ↔ (Sound t s × (n < t.bag_count))
 ready_iff = own.ready_iff
 
 -- a refused reader returns its refusal at every call
-pub refused_stays : (t : Table) (s : List ℕ) (n : ℕ) (f : Fault) → (opening_of t s n).item ≡ Item.Refused f → (i : ℕ)
-    → item_after i (opening_of t s n) ≡ Item.Refused f
+pub refused_stays : (t : Table) (s : List ℕ) (n : ℕ) (f : Fault) → (opening_of t s n).item ≡ Err f → (i : ℕ)
+    → item_after i (opening_of t s n) ≡ Err f
 refused_stays = own.refused_stays
 
 -- ---- whole runs
@@ -57,8 +58,8 @@ refused_stays = own.refused_stays
 -- reader is done, at every further call.
 pub rows_in_turn : (t : Table) (s : List ℕ) (n : ℕ) → Bytes s → Sound t s → n < t.bag_count → (i : ℕ)
     → (i < length (own_rows n (attributes_of t))
-    → item_after i (opening_of t s n) ≡ Item.Attribute (get_or (own_rows n (attributes_of t)) i no_attribute))
-    × (length (own_rows n (attributes_of t)) ≤ i → item_after i (opening_of t s n) ≡ Done)
+    → item_after i (opening_of t s n) ≡ Ok (Item.Attribute (get_or (own_rows n (attributes_of t)) i no_attribute)))
+    × (length (own_rows n (attributes_of t)) ≤ i → item_after i (opening_of t s n) ≡ Ok Done)
 rows_in_turn = own.rows_in_turn
 
 -- These are the attributes of the bag in the table's reading, equally many, in order, identifier
@@ -70,7 +71,7 @@ gives_bag = own.gives_bag
 -- Every row that a call returns names the bag.
 pub rows_name_bag : (t : Table) (s : List ℕ) (n : ℕ) → Bytes s → Sound t s → n < t.bag_count
     → (i : ℕ) (r : AttributeRow)
-    → item_after i (opening_of t s n) ≡ Item.Attribute r → r.bag ≡ n
+    → item_after i (opening_of t s n) ≡ Ok (Item.Attribute r) → r.bag ≡ n
 rows_name_bag = own.rows_name_bag
 
 -- `set_in_safes` counts bags as the rows do: bag row n has a set exactly if that finds one, and what

@@ -2,6 +2,7 @@
 -- the elements of an attribute by value.
 use Rattle.std.specs.Prelude.{◌≡◌, List, [], ◌∷◌, ℕ, zero, suc, ◌-◌, ◌≤◌, ◌<◌, ltb, eqb, length, get_or, take}
 use Rattle.std.specs.Prelude.{if◌then◌else◌}
+use Rattle.std.specs.Prelude.{Ok}
 use Rattle.der.specs.Tree.{Trees, none, more, encode}
 use Rattle.pkcs12.specs.Syntax.{Attribute, Set, absent, present, Bags, bag, nest, Safe, plain, encrypted}
 use Rattle.pkcs12.specs.Syntax as syntax
@@ -61,8 +62,9 @@ no_value = record { identifier = []; values = [] }
 -- attribute i of the list, and every call past the list reports that it is done.
 pub record Gives (s : List ℕ) (p : Position) (xs : List Attribute) : Type 0 where
   pub in_turn : (i : ℕ) → i < length xs
-      → (r : AttributeRow) × (item_after i p ≡ Item.Attribute r) × ((attribute_shown s r).attribute ≡ get_or xs i no_value)
-  pub done : (i : ℕ) → length xs ≤ i → item_after i p ≡ Done
+      → (r : AttributeRow) × (item_after i p ≡ Ok (Item.Attribute r))
+      × ((attribute_shown s r).attribute ≡ get_or xs i no_value)
+  pub done : (i : ℕ) → length xs ≤ i → item_after i p ≡ Ok Done
 
 -- ---- elements by value
 

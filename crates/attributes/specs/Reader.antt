@@ -3,7 +3,9 @@
 use Rattle.std.specs.Prelude.{Bool, true, false, List, [], ◌∷◌, ℕ, zero, suc, ◌+◌, ltb, eqb, length, get_or, take, drop, replicate}
 use Rattle.std.specs.Borrow.{Bor}
 use Rattle.std.specs.Prelude.{if◌then◌else◌}
-use Rattle.der.specs.Element.{fault}
+use Rattle.std.specs.Prelude.{Err, Ok, Result}
+use Rattle.der.specs.Element.{fault, on_result}
+use Rattle.der.specs.declared.Fault.{Fault}
 use Rattle.pkcs12.specs.Numbers.{attribute_rows, no_row}
 use Rattle.buffer.specs.Numbers.{not_sound}
 use Rattle.pkcs12.specs.Table.{no_attribute}
@@ -15,12 +17,12 @@ use Rattle.attributes.specs.declared.Item.TheVariants.{Ready, Done}
 use Rattle.attributes.specs.declared.Position.{Position}
 use Rattle.attributes.specs.declared.Attributes.{Attributes}
 
-abbrev pub position : List AttributeRow → ℕ → ℕ → ℕ → Item → Position
+abbrev pub position : List AttributeRow → ℕ → ℕ → ℕ → Result Item Fault → Position
 position rows count bag at item = record { rows = rows; count = count; bag = bag; at = at; item = item }
 
 -- Rule 5.37: 11 and 12 have the offset 0.
 unfoldable pub refused_by : ℕ → Position
-refused_by number = position (replicate attribute_rows no_attribute) 0 0 0 (Item.Refused (fault number 0))
+refused_by number = position (replicate attribute_rows no_attribute) 0 0 0 (Err (fault number 0))
 
 -- Rule 7.2: 11 for a table that is not sound for the bytes, then 12 for a row that isn't there. A
 -- table that is not sound has no file.
@@ -29,7 +31,7 @@ opening_of t s bag =
     on_file (file_of t s)
     (refused_by not_sound)
     (λ f. if ltb bag t.bag_count then
-    position t.attributes t.attribute_count bag 0 Ready else
+    position t.attributes t.attribute_count bag 0 (Ok Ready) else
     refused_by no_row)
 
 -- the number of the first row that passes a test, where `at` rows come before these; past the last
@@ -53,18 +55,12 @@ next_row p = first_from (names p.bag) (drop p.at (counted p)) p.at
 unfoldable pub moved_to : Position → ℕ → Position
 moved_to p i =
     if ltb i (length (counted p)) then
-    position p.rows p.count p.bag (i + 1) (Item.Attribute (get_or p.rows i no_attribute)) else
-    position p.rows p.count p.bag i Done
-
-abbrev pub on_item : {A : Type 0} → Item → A → A → A
-on_item (Item.Refused f) bad good = bad
-on_item Ready bad good = good
-on_item (Item.Attribute r) bad good = good
-on_item Done bad good = good
+    position p.rows p.count p.bag (i + 1) (Ok (Item.Attribute (get_or p.rows i no_attribute))) else
+    position p.rows p.count p.bag i (Ok Done)
 
 -- one call; after the last row it is done at every further call (Rule 7.1), and a refusal stays
 unfoldable pub next_of : Position → Position
-next_of p = on_item p.item p (moved_to p (next_row p))
+next_of p = on_result p.item (λ f. p) (λ x. moved_to p (next_row p))
 
 -- so many calls
 unfoldable pub after : ℕ → Position → Position
@@ -72,7 +68,7 @@ after zero p = p
 after (suc n) p = after n (next_of p)
 
 -- what call i returns, counted from 0
-unfoldable pub item_after : ℕ → Position → Item
+unfoldable pub item_after : ℕ → Position → Result Item Fault
 item_after i p = (after (i + 1) p).item
 
 -- Rule 7.1: a reader keeps the file; it is the file and a position
@@ -82,8 +78,8 @@ reader_of f p = record { file = f; position = p }
 -- ---- what a private function computes
 
 -- whether every further call returns the same
-unfoldable pub is_last : Item → Bool
-is_last Ready = false
-is_last (Item.Attribute r) = false
-is_last Done = true
-is_last (Item.Refused f) = true
+unfoldable pub is_last : Result Item Fault → Bool
+is_last (Ok Ready) = false
+is_last (Ok (Item.Attribute r)) = false
+is_last (Ok Done) = true
+is_last (Err f) = true

@@ -12,16 +12,14 @@ ghost use Rattle.attributes.specs.Reader.{item_after, reader_of, is_last};
 use der::Fault;
 use pkcs12::{AttributeRow, Table};
 use range::Range;
-use sound::Measured;
 
-// What a call returned: nothing yet, an attribute, that there are no more (`Done`), or the refusal
-// of opening.
+// What a call returned: nothing yet, an attribute, or that there are no more (`Done`). A reader
+// whose opening was refused returns that refusal instead.
 #[derive(Clone, Copy)]
 pub enum Item {
     Ready,
     Attribute(AttributeRow),
     Done,
-    Refused(Fault),
 }
 
 // The position of a reader: the attribute rows and their number, the bag's row, the next row to
@@ -32,7 +30,7 @@ pub struct Position {
     pub count: usize,
     pub bag: usize,
     pub at: usize,
-    pub item: Item,
+    pub item: Result<Item, Fault>,
 }
 
 // A reader of one bag's attributes. It keeps the file, the caller's bytes that its ranges point
@@ -52,7 +50,7 @@ fn refused(number: u8) -> Position
         count: 0,
         bag: 0,
         at: 0,
-        item: Item::Refused(Fault { number, offset: 0 }),
+        item: Err(Fault { number, offset: 0 }),
     }
 }
 
@@ -62,23 +60,20 @@ pub fn opening(table: Table, file: &[u8], bag: usize) -> Position
     ensures item_value { item_report result.item ≡ item_report (opening_of table file.now bag).item }
     ensures bytes { Bytes file.now }
 {
-    match sound::measure(table, file) {
-        Measured::Unsound => refused(buffer::NOT_SOUND),
-        Measured::Size(_) => {
-            if bag < table.bag_count {
-                let rows = table.attributes;
-                let count = table.attribute_count;
-                return Position {
-                    rows,
-                    count,
-                    bag,
-                    at: 0,
-                    item: Item::Ready,
-                };
-            }
-            refused(pkcs12::NO_ROW)
-        }
+    if sound::measure(table, file).is_none() {
+        return refused(buffer::NOT_SOUND);
     }
+    if bag < table.bag_count {
+        let rows = table.attributes;
+        return Position {
+            rows,
+            count: table.attribute_count,
+            bag,
+            at: 0,
+            item: Ok(Item::Ready),
+        };
+    }
+    refused(pkcs12::NO_ROW)
 }
 
 // The next row that names the position's bag; the end of the rows where there is none.
@@ -86,45 +81,30 @@ fn next_row(p: Position) -> usize
     ensures { result ≡ next_row p }
 {
     let end = range::fewer(p.count, pkcs12::ATTRIBUTE_ROWS);
-    let bag = p.bag;
-    let mut i = p.at;
-    while i < end {
-        let row = p.rows[i];
-        let owner = row.bag as usize;
-        if owner == bag {
+    for i in p.at..end {
+        if p.rows[i].bag as usize == p.bag {
             return i;
         }
-        i = i + 1;
     }
-    i
+    end.max(p.at)
 }
 
 // The position with the row that comes next, or with `Done` where there are no more.
 fn moved(p: Position) -> Position
     ensures { result ≡ moved_to p (next_row p) }
 {
-    let rows = p.rows;
-    let count = p.count;
-    let bag = p.bag;
     let i = next_row(p);
-    let end = range::fewer(count, pkcs12::ATTRIBUTE_ROWS);
-    if i < end {
-        let row = rows[i];
-        let at = i + 1;
+    if i < range::fewer(p.count, pkcs12::ATTRIBUTE_ROWS) {
         return Position {
-            rows,
-            count,
-            bag,
-            at,
-            item: Item::Attribute(row),
+            at: i + 1,
+            item: Ok(Item::Attribute(p.rows[i])),
+            ..p
         };
     }
     Position {
-        rows,
-        count,
-        bag,
         at: i,
-        item: Item::Done,
+        item: Ok(Item::Done),
+        ..p
     }
 }
 
@@ -134,13 +114,10 @@ impl Position {
         ensures value { result ≡ next_of self }
         ensures item_value { item_report result.item ≡ item_report (next_of self).item }
     {
-        let item = self.item;
-        match item {
-            Item::Ready => moved(self),
-            Item::Attribute(_) => moved(self),
-            Item::Done => moved(self),
-            Item::Refused(_) => self,
+        if self.item.is_err() {
+            return self;
         }
+        moved(self)
     }
 }
 
@@ -167,7 +144,7 @@ pub fn next<'a>(r: Attributes<'a>) -> Attributes<'a>
 }
 
 // What the last call returned.
-pub fn given<'a>(r: Attributes<'a>) -> Item
+pub fn given<'a>(r: Attributes<'a>) -> Result<Item, Fault>
     ensures value { result ≡ r.entry.position.item }
     ensures report { item_report result ≡ item_report r.entry.position.item }
 {
@@ -182,32 +159,27 @@ pub fn part<'a>(r: Attributes<'a>, range: Range) -> &'a [u8]
 }
 
 // Whether every further call returns the same.
-fn is_last(item: Item) -> bool
+fn is_last(item: Result<Item, Fault>) -> bool
     ensures { result ≡ is_last item }
 {
-    match item {
-        Item::Ready => false,
-        Item::Attribute(_) => false,
-        Item::Done => true,
-        Item::Refused(_) => true,
-    }
+    let Ok(found) = item else {
+        return true;
+    };
+    matches!(found, Item::Done)
 }
 
 // What call i returns, counted from 0, of a reader that is opened for it.
-pub fn attribute(table: Table, file: &[u8], bag: usize, i: usize) -> Item
+pub fn attribute(table: Table, file: &[u8], bag: usize, i: usize) -> Result<Item, Fault>
     ensures value { result ≡ item_after i (opening_of table file.now bag) }
     ensures report { item_report result ≡ item_report (item_after i (opening_of table file.now bag)) }
     ensures bytes { Bytes file.now }
 {
     let mut position = opening(table, file, bag).next();
-    let mut left = i;
-    while 0 < left {
-        let item = position.item;
-        if is_last(item) {
-            return item;
+    for _ in 0..i {
+        if is_last(position.item) {
+            return position.item;
         }
         position = position.next();
-        left = left - 1;
     }
     position.item
 }

@@ -1,7 +1,6 @@
 -- Laws of writing into a buffer.
 pub mod Placing
 pub mod Rows
-pub mod Past
 pub mod Writes
 pub mod Outcomes
 pub mod Decimal

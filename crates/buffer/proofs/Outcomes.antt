@@ -9,13 +9,13 @@ use Rattle.der.specs.Element.{fault}
 use Rattle.buffer.specs.Numbers.{short_buffer}
 use Rattle.buffer.specs.Placed.{greatest, Placed}
 use Rattle.buffer.specs.Written.{Outcome, refusal, success, into_buffer}
-use Rattle.buffer.specs.declared.Written.{Written}
-use Rattle.buffer.specs.declared.Written.TheVariants.{Length}
+use Rattle.der.specs.declared.Fault.{Fault}
+use Rattle.std.specs.Prelude.{Err, Ok, Result}
 use Rattle.buffer.proofs.Placing.{placed_whole}
 
 -- the answer and the buffer of a refusal
 module _ (o : Outcome) (number : ℕ) (buffer : List ℕ) (e : o ≡ refusal number buffer) where
-  pub refusal_answer : (r : Written) → r ≡ Written.Refused (fault number 0) → r ≡ o.answer
+  pub refusal_answer : (r : Result ℕ Fault) → r ≡ Err (fault number 0) → r ≡ o.answer
   refusal_answer r p = p ∙ sym (ap (λ (x : Outcome). x.answer) e)
 
   pub refusal_buffer : buffer ≡ o.buffer
@@ -30,12 +30,12 @@ module _ (x buffer : List ℕ) where
   -- the answer and the buffer of what code does with a text whose length it knows
   module _ (n : ℕ) (p : n ≡ length x) where
     pub too_short : length buffer < n
-        → (Written.Refused (fault short_buffer 0) ≡ (into_buffer x buffer).answer) × (buffer ≡ (into_buffer x buffer).buffer)
+        → (Err (fault short_buffer 0) ≡ (into_buffer x buffer).answer) × (buffer ≡ (into_buffer x buffer).buffer)
     unfolding into_buffer
     too_short h = rw (lt-ltb (length buffer) (length x) (omega (arith, h, p))) (refl, refl)
 
     pub wrote : n ≤ length buffer → length x ≤ greatest → (z : List ℕ) (r : ℕ) → Placed buffer 0 x z r
-        → (Length n ≡ (into_buffer x buffer).answer) × (z ≡ (into_buffer x buffer).buffer)
+        → (Ok n ≡ (into_buffer x buffer).answer) × (z ≡ (into_buffer x buffer).buffer)
     wrote h g z r w =
         let fits : length x ≤ length buffer = omega (arith, h, p) in
-        rw (written fits) (ap {B = Written} Length p, placed_whole w fits g)
+        rw (written fits) (ap {B = (Result ℕ Fault)} Ok p, placed_whole w fits g)

@@ -1,21 +1,30 @@
 -- What the functions that write do, by the ways through their code.
-use mathlib.Core.Path.{◌≡◌, refl, ap, ◌∙◌}
-use mathlib.Core.List.{List, [], ◌∷◌}
+use mathlib.Core.Path.{◌≡◌, refl, sym, ◌∙◌}
+use mathlib.Core.List.{List, [], ◌∷◌, append_assoc}
 use Prim.Native.Nat.{ℕ, zero, suc, ◌+◌, ◌-◌, ◌/◌, ◌%◌, ◌≤◌, ◌<◌, min}
 use native.Mathlib.Omega.{arith}
-use lib.ListN.{length, get_or, set, take, length-take}
-use lib.Seq.{sets, set_out, length-sets, take-suc, take_all}
+use lib.ListN.{length, set, take, length-take}
+use lib.Seq.{sets, set_out, take_all}
+use borrow.Rule.Slice.PartMut.{put_mid}
+use mir.Syntax.{w16, w32}
+use lib.Seq.{sets-eq}
+use Rattle.std.proofs.lemmas.List.{drop-drop}
+use Rattle.std.specs.Int.{to_be_bytes}
+use Rattle.buffer.specs.BigEndian.{u16_octets, u32_octets}
 use borrow.Author.Tests.{lt-ltb, le-ltb}
 use Rattle.der.proofs.Choices.{either}
 use Rattle.buffer.specs.Placed.{greatest, behind, Placed}
 use Rattle.buffer.specs.Text.{digit, digits}
-use Rattle.buffer.proofs.Placing.{sets_then, sets_out, sets_cut, placed_nothing, placed_of, ◌then◌}
+use Rattle.buffer.proofs.Placing.{sets_out, sets_cut, placed_nothing, placed_of, ◌then◌}
 
 -- ---- one byte
 
 module _ (d : List ℕ) (at b : ℕ) (f : length d ≤ greatest) where
   pub byte_past : (r : ℕ) → length d ≤ at → r ≡ behind at 1 → Placed d at (b ∷ []) d r
   byte_past r h e = placed_of d at (b ∷ []) d r f (rw (set_out d at b h) refl) e
+
+  pub byte_put : (r : ℕ) → r ≡ behind at 1 → Placed d at (b ∷ []) (set d at b) r
+  byte_put r e = placed_of d at (b ∷ []) (set d at b) r f refl e
 
   pub byte_here : at < length d → Placed d at (b ∷ []) (set d at b) (at + 1)
   byte_here h = placed_of d at (b ∷ []) (set d at b) (at + 1) f refl (omega (arith, h, f))
@@ -26,34 +35,40 @@ module _ (d : List ℕ) (at : ℕ) (x : List ℕ) where
   pub bytes_past : (r : ℕ) → length d ≤ greatest → length d ≤ at → r ≡ behind at (length x) → Placed d at x d r
   bytes_past r f h e = placed_of d at x d r f (rw (sets_out x d at h) refl) e
 
-  -- i bytes were copied, of so many that the buffer has
-  pub record Copying (count : ℕ) (e : List ℕ) (i : ℕ) : Type 0 where
-    pub some : i ≤ count
-    pub bytes : e ≡ sets d at (take i x)
-    pub long : length e ≡ length d
+  -- those that the buffer has are copied into their place
+  module _ (count : ℕ) (h : at < length d) (c : count ≡ min (length x) (length d - at)) where
+    front : length (take count x) ≡ count
+    front = length-take count x ∙ omega (arith, c)
 
-  pub copy_start : (count : ℕ) → Copying count d 0
-  copy_start count = record { some = omega arith; bytes = refl; long = refl }
+    stored : put_mid at (at + count - at) d (take count x) ≡ sets d at (take count x)
+    stored =
+        let k : at + count - at ≡ count = omega arith in
+        let p : at + length (take count x) ≡ at + count = omega (arith, front) in
+        rw (k, drop-drop count at d) (sym (rw (p, append_assoc) at (sets-eq (take count x) d at (omega (arith, front, c, h)))))
 
-  module _ (count : ℕ) (e : List ℕ) (i : ℕ) (g : Copying count e i) where
-    pub copy_turn : i < count → count ≤ length x → Copying count (set e (at + i) (get_or x i 0)) (i + 1)
-    copy_turn h k =
-        let l : length (take i x) ≡ i = length-take i x ∙ omega (arith, h, k) in
-        let s : i + 1 ≡ suc i = omega arith in
-        let b : set e (at + i) (get_or x i 0) ≡ sets d at (take (suc i) x) =
-        rw (take-suc x i 0 (omega (arith, h, k)), sets_then (take i x) (get_or x i 0 ∷ []) d at, l, ← g.bytes) refl in
-        record { some = omega (arith, h); bytes = rw s b; long = ap length b ∙ length-sets d at (take (suc i) x) }
-
-    -- all that the buffer has
-    copied : count ≤ i → count ≡ min (length x) (length d - at) → at ≤ length d → sets d at (take i x) ≡ sets d at x
-    copied h c k =
+    all_kept : sets d at (take count x) ≡ sets d at x
+    all_kept =
         either (length d - at) (length x)
-        (λ l. sets_cut i x d at (omega (arith, h, c, k, l, g.some)))
-        (λ l. rw (take_all i x (omega (arith, h, c, k, l, g.some))) refl)
+        (λ l. sets_cut count x d at (omega (arith, c, l, h)))
+        (λ l. rw (take_all count x (omega (arith, c, l))) refl)
 
-    pub copy_end : (r : ℕ) → length d ≤ greatest → count ≤ i → count ≡ min (length x) (length d - at) → at ≤ length d
-        → r ≡ behind at (length x) → Placed d at x e r
-    copy_end r f h c k p = placed_of d at x e r f (g.bytes ∙ copied h c k) p
+    pub bytes_put : (y : List ℕ) (r : ℕ) → length d ≤ greatest → y ≡ take count x → r ≡ behind at (length x)
+        → Placed d at x (put_mid at (at + count - at) d y) r
+    bytes_put y r f q e = placed_of d at x (put_mid at (at + count - at) d y) r f (rw q (stored ∙ all_kept)) e
+
+-- ---- numbers of two and four bytes
+
+pub two_octets : (n : ℕ) (x : List ℕ) → n < 65536 → x ≡ to_be_bytes w16 n → x ≡ u16_octets n
+unfolding u16_octets
+two_octets n x h e = e ∙ (let a : n / 256 % 256 ≡ n / 256 = omega arith in rw a refl)
+
+pub four_octets : (n : ℕ) (x : List ℕ) → n < 4294967296 → x ≡ to_be_bytes w32 n → x ≡ u32_octets n
+unfolding u32_octets u16_octets
+four_octets n x h e =
+    let a : n / 16777216 % 256 ≡ n / 65536 / 256 = omega arith in
+    let b : n / 256 % 256 ≡ n % 65536 / 256 = omega arith in
+    let c : n % 256 ≡ n % 65536 % 256 = omega arith in
+    e ∙ rw (a, b, c) refl
 
 -- ---- numbers in decimal
 

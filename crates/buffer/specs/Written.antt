@@ -3,27 +3,27 @@ use Rattle.std.specs.Prelude.{List, ◌++◌, ℕ, ltb, length, drop}
 use Rattle.std.specs.Prelude.{if◌then◌else◌}
 use Rattle.der.specs.Element.{fault}
 use Rattle.buffer.specs.Numbers.{short_buffer}
-use Rattle.buffer.specs.declared.Written.{Written}
-use Rattle.buffer.specs.declared.Written.TheVariants.{Length}
+use Rattle.der.specs.declared.Fault.{Fault}
+use Rattle.std.specs.Prelude.{Err, Ok, Result}
 
 -- the length written, 0 where nothing is
-abbrev pub length_of : Written → ℕ
-length_of (Length n) = n
-length_of (Written.Refused f) = 0
+abbrev pub length_of : Result ℕ Fault → ℕ
+length_of (Ok n) = n
+length_of (Err f) = 0
 
 -- the answer, and the buffer afterwards
 pub record Outcome : Type 0 where
-  pub answer : Written
+  pub answer : Result ℕ Fault
   pub buffer : List ℕ
 
 -- Rules 5.37, 6.10: a refusal has the offset 0, and the whole buffer is as before.
 abbrev pub refusal : ℕ → List ℕ → Outcome
-refusal number buffer = record { answer = Written.Refused (fault number 0); buffer = buffer }
+refusal number buffer = record { answer = Err (fault number 0); buffer = buffer }
 
 -- Rule 6.9: the bytes are at the front of the buffer, their length is returned, and every byte
 -- behind them is as before.
 abbrev pub success : List ℕ → List ℕ → Outcome
-success f buffer = record { answer = Length (length f); buffer = f ++ drop (length f) buffer }
+success f buffer = record { answer = Ok (length f); buffer = f ++ drop (length f) buffer }
 
 -- refused, and the buffer as before, exactly where the buffer is shorter than the text
 unfoldable pub into_buffer : List ℕ → List ℕ → Outcome

@@ -1,11 +1,9 @@
-// What every crate that reads or writes a caller's bytes shares: the answer of a call that writes,
-// and bytes and numbers, read at an offset and written at one.
+// What every crate that reads or writes a caller's bytes shares: bytes and numbers, read at an offset
+// and written at one.
 #![tactic(auto)]
 
 pub mod read;
 pub mod write;
-
-use der::Fault;
 
 // The bytes of the longest file: offsets in it and its length fit 16 bits.
 pub const FILE_BYTES: usize = 65535;
@@ -17,11 +15,3 @@ pub const TOO_LONG: u8 = 9;
 pub const SHORT_BUFFER: u8 = 10;
 
 pub const NOT_SOUND: u8 = 11;
-
-// The answer of a call that writes: the number of bytes or words written, or the refusal, at offset
-// 0.
-#[derive(Clone, Copy)]
-pub enum Written {
-    Length(usize),
-    Refused(Fault),
-}

@@ -6,10 +6,7 @@ ghost use Rattle.buffer.specs.BigEndian.{byte_at, u16_at, u32_at};
 pub fn byte(bytes: &[u8], at: usize) -> u8
     ensures { result ≡ byte_at bytes.now at }
 {
-    if at < bytes.len() {
-        return bytes[at];
-    }
-    0
+    bytes.get(at).copied().unwrap_or(0)
 }
 
 // The two bytes at an offset as a number, high first. A byte past the end counts as 0.
@@ -19,9 +16,7 @@ pub fn u16_be(bytes: &[u8], at: usize) -> u16
     if bytes.len() <= at {
         return 0;
     }
-    let high = byte(bytes, at) as u16;
-    let low = byte(bytes, at + 1) as u16;
-    high * 256 + low
+    u16::from_be_bytes([byte(bytes, at), byte(bytes, at + 1)])
 }
 
 // The four bytes at an offset as a number, high first. A byte past the end counts as 0.
@@ -31,7 +26,10 @@ pub fn u32_be(bytes: &[u8], at: usize) -> u32
     if bytes.len() <= at {
         return 0;
     }
-    let high = u16_be(bytes, at) as u32;
-    let low = u16_be(bytes, at + 2) as u32;
-    high * 65536 + low
+    u32::from_be_bytes([
+        byte(bytes, at),
+        byte(bytes, at + 1),
+        byte(bytes, at + 2),
+        byte(bytes, at + 3),
+    ])
 }

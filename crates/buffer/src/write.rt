@@ -15,63 +15,44 @@ const ZERO: u8 = b'0';
 pub fn after(at: usize, n: usize) -> usize
     ensures { result ≡ behind at n }
 {
-    let left = usize::MAX - at;
-    if left < n {
-        return usize::MAX;
-    }
-    at + n
+    at.saturating_add(n)
 }
 
 // One byte.
 pub fn byte(out: &mut [u8], at: usize, b: u8) -> usize
     ensures { Placed out.old at (b ∷ []) out.new result }
 {
-    if out.len() <= at {
-        return after(at, 1);
+    if at < out.len() {
+        out[at] = b;
     }
-    out[at] = b;
-    at + 1
+    after(at, 1)
 }
 
 // The bytes x.
 pub fn bytes(out: &mut [u8], at: usize, x: &[u8]) -> usize
     ensures { Placed out.old at x.now out.new result }
 {
-    let n = x.len();
-    let size = out.len();
-    if size <= at {
-        return after(at, n);
+    if at < out.len() {
+        let count = x.len().min(out.len() - at);
+        out[at..at + count].copy_from_slice(&x[..count]);
     }
-    let left = size - at;
-    let count = range::fewer(n, left);
-    let mut i: usize = 0;
-    while i < count {
-        let b = x[i];
-        let to = at + i;
-        out[to] = b;
-        i = i + 1;
-    }
-    after(at, n)
+    after(at, x.len())
 }
 
 // A number of two bytes, high first.
 pub fn u16_be(out: &mut [u8], at: usize, n: u16) -> usize
     ensures { Placed out.old at (u16_octets n) out.new result }
 {
-    let high = (n / 256) as u8;
-    let low = (n % 256) as u8;
-    let second = byte(out, at, high);
-    byte(out, second, low)
+    let two = n.to_be_bytes();
+    bytes(out, at, &two)
 }
 
 // A number of four bytes, high first.
 pub fn u32_be(out: &mut [u8], at: usize, n: u32) -> usize
     ensures { Placed out.old at (u32_octets n) out.new result }
 {
-    let high = (n / 65536) as u16;
-    let low = (n % 65536) as u16;
-    let third = u16_be(out, at, high);
-    u16_be(out, third, low)
+    let four = n.to_be_bytes();
+    bytes(out, at, &four)
 }
 
 // The last digits of a number in decimal, so many at most.
@@ -81,14 +62,11 @@ fn digits(out: &mut [u8], at: usize, places: usize, n: usize) -> usize
     if places == 0 {
         return at;
     }
-    let last = (n % 10) as u8;
-    let digit = ZERO + last;
+    let digit = ZERO + (n % 10) as u8;
     if n < 10 {
         return byte(out, at, digit);
     }
-    let fewer = places - 1;
-    let high = n / 10;
-    let next = digits(out, at, fewer, high);
+    let next = digits(out, at, places - 1, n / 10);
     byte(out, next, digit)
 }
 

@@ -10,9 +10,8 @@ use Rattle.pkcs12.specs.declared.row.Mac.{Mac}
 use Rattle.pkcs12.specs.declared.kind.SafeKind.{SafeKind}
 use Rattle.pkcs12.specs.declared.kind.SafeKind.TheVariants.{Plain}
 use Rattle.pkcs12.specs.declared.kind.BagKind.{BagKind}
-use Rattle.pkcs12.specs.declared.row.Enclosing.{Enclosing}
+use Rattle.std.specs.Prelude.{None, Ok}
 use Rattle.pkcs12.specs.declared.table.Table.{Table}
-use Rattle.pkcs12.specs.declared.answers.Answer.TheVariants.{Accepted}
 use Rattle.pkcs12.specs.declared.answers.Reading.{Reading}
 
 -- a file and what reading it returns
@@ -28,7 +27,7 @@ abbrev pub case : List ℕ → Reading → Case
 case f r = record { file = f; gives = r }
 
 abbrev pub accepted : Table → Reading
-accepted t = record { answer = Accepted; table = t }
+accepted t = record { answer = Ok tt; table = t }
 
 -- a refusal by number and offset; both are written out in every case
 abbrev pub refusal : ℕ → ℕ → Reading
@@ -53,7 +52,7 @@ table_of_m =
           (record {
             kind = BagKind.None;
             safe = 0;
-            enclosing = Enclosing.None;
+            enclosing = None;
             parts = record { identifier = range 0 0; parameters = range 0 0; value = range 0 0 };
             has_set = false;
           });

@@ -6,8 +6,7 @@ use Rattle.range.specs.Range.{range, no_range}
 use Rattle.pkcs12.specs.Table.{parts, no_parts, safe_row, bag_row, attribute_row, Rows, table_of}
 use Rattle.pkcs12.specs.declared.kind.SafeKind.TheVariants.{Plain, Encrypted}
 use Rattle.pkcs12.specs.declared.kind.BagKind.TheVariants.{Key, ShroudedKey, Certificate, Crl, Secret, Nested}
-use Rattle.pkcs12.specs.declared.row.Enclosing.{Enclosing}
-use Rattle.pkcs12.specs.declared.row.Enclosing.TheVariants.{Bag}
+use Rattle.std.specs.Prelude.{None, Some}
 use Rattle.der.specs.Octets.{tlv}
 use Rattle.cases.specs.Bench.{Case, case, accepted, refusal, quiet, digested, m}
 
@@ -34,7 +33,7 @@ abbrev nested_rows : Rows
 nested_rows =
     record {
       safes = safe_row Plain no_parts ∷ [];
-      bags = bag_row Nested 0 Enclosing.None no_parts false ∷ bag_row Key 0 (Bag 0) (parts no_range no_range (range 79 81)) true ∷ [];
+      bags = bag_row Nested 0 None no_parts false ∷ bag_row Key 0 (Some 0) (parts no_range no_range (range 79 81)) true ∷ [];
       attributes = attribute_row 1 (range 87 88) (range 90 92) ∷ [];
       input = range 22 92;
       count = 31;
@@ -75,7 +74,7 @@ plain bags = info 0x01 (tlv 0x04 (tlv 0x30 bags))
 abbrev sealed : ℕ → ℕ → List ℕ → List ℕ
 sealed version type x = info 0x06 (tlv 0x30 (0x02 ∷ 0x01 ∷ version ∷ tlv 0x30 (pkcs7 type ++ (0x30 ∷ 0x03 ∷ 0x06 ∷ 0x01 ∷ 0x2A ∷ x))))
 
--- a bag of this kind; an x509_certificate with the value x
+-- a bag of this kind; an x509Certificate with the value x
 abbrev bag : ℕ → List ℕ → List ℕ
 bag last x = tlv 0x30 (kind last ++ tlv 0xA0 x)
 
@@ -124,12 +123,12 @@ every_kind =
     (record {
       safes = safe_row Encrypted (parts (range 67 68) (range 68 68) (range 70 71)) ∷ safe_row Plain no_parts ∷ [];
       bags =
-          bag_row Key 1 Enclosing.None (parts no_range no_range (range 111 113)) false
-          ∷ bag_row ShroudedKey 1 Enclosing.None (parts (range 136 137) (range 137 137) (range 139 140)) false
-          ∷ bag_row Certificate 1 Enclosing.None (parts (range 161 171) no_range (range 173 176)) false
-          ∷ bag_row Crl 1 Enclosing.None (parts (range 197 207) no_range (range 209 211)) false
-          ∷ bag_row Secret 1 Enclosing.None (parts (range 232 242) no_range (range 244 246)) false
-          ∷ bag_row Nested 1 Enclosing.None no_parts false
+          bag_row Key 1 None (parts no_range no_range (range 111 113)) false
+          ∷ bag_row ShroudedKey 1 None (parts (range 136 137) (range 137 137) (range 139 140)) false
+          ∷ bag_row Certificate 1 None (parts (range 161 171) no_range (range 173 176)) false
+          ∷ bag_row Crl 1 None (parts (range 197 207) no_range (range 209 211)) false
+          ∷ bag_row Secret 1 None (parts (range 232 242) no_range (range 244 246)) false
+          ∷ bag_row Nested 1 None no_parts false
           ∷ [];
       attributes = [];
       input = range 27 265;
@@ -145,7 +144,7 @@ sixteen_levels =
     (table_of
     (record {
       safes = safe_row Plain no_parts ∷ [];
-      bags = bag_row Key 0 Enclosing.None (parts no_range no_range (range 60 92)) false ∷ [];
+      bags = bag_row Key 0 None (parts no_range no_range (range 60 92)) false ∷ [];
       attributes = [];
       input = range 22 92;
       count = 37;
@@ -168,17 +167,17 @@ number_cases =
     ∷ case (0x00 ∷ []) (refusal 2 0)
     ∷ case (0x30 ∷ 0x80 ∷ []) (refusal 3 0)
     ∷ case (0x30 ∷ 0x83 ∷ []) (refusal 3 0)
-    -- 4: another tag than 80 for the ciphertext; an x509_certificate that is not an OCTET STRING
+    -- 4: another tag than 80 for the ciphertext; an x509Certificate that is not an OCTET STRING
     ∷ case (holding (sealed 0x00 0x01 (0x81 ∷ 0x01 ∷ 0x09 ∷ []))) (refusal 4 62)
     ∷ case (holding (plain (bag 0x03 (x509 null)))) (refusal 4 76)
-    -- 5: outer encrypted_data; a safe of signedData; an inner type that is not data; EncryptedData
+    -- 5: outer encryptedData; a safe of signedData; an inner type that is not data; EncryptedData
     -- version 1
     ∷ case (outer 0x06 (tlv 0x04 empty)) (refusal 5 7)
     ∷ case (holding (info 0x02 empty)) (refusal 5 26)
     ∷ case (holding (sealed 0x00 0x02 ciphertext)) (refusal 5 46)
     ∷ case (holding (sealed 0x01 0x01 ciphertext)) (refusal 5 41)
     -- 7: outer signedData; a safe of envelopedData; EncryptedData version 2; no ciphertext; no
-    -- MacData; a bag_id of another kind
+    -- MacData; a bagId of another kind
     ∷ case (outer 0x02 (tlv 0x04 empty)) (refusal 7 7)
     ∷ case (holding (info 0x03 empty)) (refusal 7 26)
     ∷ case (holding (sealed 0x02 0x01 ciphertext)) (refusal 7 41)

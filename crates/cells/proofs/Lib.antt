@@ -1,8 +1,7 @@
--- What is proved of cells: `Theorems` states it. Below: the rules by which the functions follow the
--- definitions (`Rules`), the ways out of the calls (`Outcomes`), what was stored read back
--- (`Back`), that the fields of every upload fit (`Fitting`), and calls one after another (`Held`).
+-- What is proved of cells: `Theorems` states it. Below: the ways out of the calls (`Outcomes`), what
+-- was stored read back (`Back`), that the fields of every upload fit (`Fitting`), and calls one after
+-- another (`Held`).
 pub mod Theorems
-pub mod Rules
 pub mod Outcomes
 pub mod Back
 pub mod Fitting

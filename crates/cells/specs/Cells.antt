@@ -1,14 +1,15 @@
 -- The cells of an upload, the upload that cells hold, and what each call makes of them.
 use Rattle.std.specs.Prelude.{List, ◌∷◌, ◌++◌, ℕ, ◌+◌, ◌*◌, ◌/◌, ◌%◌, ltb, eqb, length, get_or, take, drop}
 use Rattle.std.specs.Prelude.{if◌then◌else◌}
+use Rattle.std.specs.Prelude.{Err, Result, ⊤}
 use Rattle.der.specs.Element.{fault}
 use Rattle.buffer.specs.Numbers.{short_buffer, not_sound}
 use Rattle.header.specs.declared.Due.{Due}
 use Rattle.header.specs.declared.Due.TheVariants.{Tag, Length, One, First, Second, Body, Nothing}
 use Rattle.stream.specs.declared.Upload.{Upload}
-use Rattle.stream.specs.declared.Status.{Status}
-use Rattle.stream.specs.declared.End.{End}
-use Rattle.stream.specs.Upload.{begun, taken, status_of, ended}
+use Rattle.stream.specs.declared.Counts.{Counts}
+use Rattle.stream.specs.declared.Refusal.{Refusal}
+use Rattle.stream.specs.Upload.{refusal, begun, taken, status_of, ended}
 use Rattle.cells.specs.declared.Plain.{Plain}
 
 -- how many cells an upload takes
@@ -87,12 +88,12 @@ upload_in s =
 
 -- what a call leaves: its answer, and the cells afterwards
 pub record Outcome : Type 0 where
-  pub answer : Status
+  pub answer : Result ⊤ Refusal
   pub cells : List ℕ
 
 -- a call that is refused at once
-abbrev pub refused_by : ℕ → Status
-refused_by n = Status.Refused (fault n 0) 0
+abbrev pub refused_by : ℕ → Result ⊤ Refusal
+refused_by n = Err (refusal (fault n 0) 0)
 
 -- the cells are as before
 abbrev pub leaving : ℕ → List ℕ → Outcome
@@ -112,9 +113,9 @@ taken_in s portion =
     if ltb (length s) upload_length then leaving not_sound s else storing (taken (upload_in s) portion) s
 
 -- what is certain so far; 11 for fewer cells
-unfoldable pub status_in : List ℕ → Status
+unfoldable pub status_in : List ℕ → Result ⊤ Refusal
 status_in s = if ltb (length s) upload_length then refused_by not_sound else status_of (upload_in s)
 
 -- the answer at the end; 11 for fewer cells
-unfoldable pub end_in : List ℕ → End
-end_in s = if ltb (length s) upload_length then End.Refused (fault not_sound 0) 0 else ended (upload_in s)
+unfoldable pub end_in : List ℕ → Result Counts Refusal
+end_in s = if ltb (length s) upload_length then Err (refusal (fault not_sound 0) 0) else ended (upload_in s)

@@ -1,7 +1,7 @@
 -- Rules by which `search` follows a definition's tests as the code's own tests decided them. Each
 -- proves that an answer r is the value of a choice, from the fact that the code learnt and from
 -- the value of the chosen side.
-use mathlib.Core.Path.{◌≡◌, refl, sym, ◌∙◌}
+use mathlib.Core.Path.{◌≡◌, refl, sym, ◌∙◌, ap}
 use mathlib.Core.Bool.{Bool, true, false, not}
 use Prim.Native.Nat.{ℕ, ◌<◌, ◌≤◌}
 use native.Mathlib.Omega.{arith}
@@ -10,17 +10,9 @@ use lib.Dec.{leb, ltb, eqb}
 use borrow.Author.Tests.{not-true, not-false, lt-ltb, le-ltb, le-leb, lt-leb, eq-eqb, ne_eqb}
 use borrow.Author.Tests.{ltb-true, ltb-false, leb-true, leb-false, eqb-true, eqb-false}
 use Rattle.std.specs.Prelude.{if◌then◌else◌}
-use Rattle.der.specs.Element.{Extent, Body, on_extent, on_element}
-use Rattle.der.specs.Content.{on_integer}
-use Rattle.der.specs.Opaque.{on_checked}
+use Rattle.der.specs.Element.{on_result}
 use Rattle.der.specs.declared.Fault.{Fault}
-use Rattle.der.specs.declared.Cursor.{Cursor}
-use Rattle.der.specs.declared.Element.{Element}
-use Rattle.der.specs.declared.Element.TheVariants.{Found}
-use Rattle.der.specs.declared.Checked.{Checked}
-use Rattle.der.specs.declared.Checked.TheVariants.{Passed}
-use Rattle.der.specs.declared.Integer.{Integer}
-use Rattle.der.specs.declared.Integer.TheVariants.{Value}
+use Rattle.std.specs.Prelude.{Err, IsErr, IsErrAnd, Ok, Result}
 
 -- a bool is not both
 pub never : {A : Type 0} → false ≡ true → A
@@ -63,37 +55,21 @@ module _ {A : Type 0} where
   same x = refl
 
   -- an answer of a callee, taken apart: v is what the definition names, w what the code matched on
-  pub extent_refused : (v w : Extent) (f : Fault) (r : A) (bad : Fault → A) (good : Cursor → A)
-      → w ≡ v → w ≡ Extent.Refused f → r ≡ bad f → r ≡ on_extent v bad good
-  extent_refused v w f r bad good p q e = rw (sym p ∙ q) e
+  pub result_refused : {T : Type 0} (v w : Result T Fault) (f : Fault) (r : A) (bad : Fault → A) (good : T → A)
+      → w ≡ v → w ≡ Err f → r ≡ bad f → r ≡ on_result v bad good
+  result_refused v w f r bad good p q e = rw (sym p ∙ q) e
 
-  pub extent_body : (v w : Extent) (b : Cursor) (r : A) (bad : Fault → A) (good : Cursor → A)
-      → w ≡ v → w ≡ Body b → r ≡ good b → r ≡ on_extent v bad good
-  extent_body v w b r bad good p q e = rw (sym p ∙ q) e
+  pub result_found : {T : Type 0} (v w : Result T Fault) (x : T) (r : A) (bad : Fault → A) (good : T → A)
+      → w ≡ v → w ≡ Ok x → r ≡ good x → r ≡ on_result v bad good
+  result_found v w x r bad good p q e = rw (sym p ∙ q) e
 
-  pub element_refused : (v w : Element) (f : Fault) (r : A) (bad : Fault → A) (good : ℕ → Cursor → Cursor → A)
-      → w ≡ v → w ≡ Element.Refused f → r ≡ bad f → r ≡ on_element v bad good
-  element_refused v w f r bad good p q e = rw (sym p ∙ q) e
+-- what `?` returns for a refusal: the same one
+pub handed : {A : Type 0} (r : Result A Fault) (f : Fault) → IsErr r × IsErrAnd r (λ g. g ≡ f) → r ≡ Err f
+handed (Ok x) f h = never h.0
+handed (Err g) f h = ap Err h.1
 
-  pub element_found : (v w : Element) (t : ℕ) (b n : Cursor) (r : A) (bad : Fault → A) (good : ℕ → Cursor → Cursor → A)
-      → w ≡ v → w ≡ Found t b n → r ≡ good t b n → r ≡ on_element v bad good
-  element_found v w t b n r bad good p q e = rw (sym p ∙ q) e
-
-  pub checked_refused : (v w : Checked) (f : Fault) (r : A) (bad : Fault → A) (good : ℕ → Cursor → A)
-      → w ≡ v → w ≡ Checked.Refused f → r ≡ bad f → r ≡ on_checked v bad good
-  checked_refused v w f r bad good p q e = rw (sym p ∙ q) e
-
-  pub checked_passed : (v w : Checked) (m : ℕ) (n : Cursor) (r : A) (bad : Fault → A) (good : ℕ → Cursor → A)
-      → w ≡ v → w ≡ Passed m n → r ≡ good m n → r ≡ on_checked v bad good
-  checked_passed v w m n r bad good p q e = rw (sym p ∙ q) e
-
-  pub integer_refused : (v w : Integer) (f : Fault) (r : A) (bad : Fault → A) (good : ℕ → Cursor → A)
-      → w ≡ v → w ≡ Integer.Refused f → r ≡ bad f → r ≡ on_integer v bad good
-  integer_refused v w f r bad good p q e = rw (sym p ∙ q) e
-
-  pub integer_value_lem : (v w : Integer) (x : ℕ) (n : Cursor) (r : A) (bad : Fault → A) (good : ℕ → Cursor → A)
-      → w ≡ v → w ≡ Value x n → r ≡ good x n → r ≡ on_integer v bad good
-  integer_value_lem v w x n r bad good p q e = rw (sym p ∙ q) e
+pub handed_as : {A : Type 0} (r : Result A Fault) (f : Fault) (x : Result A Fault) → Err f ≡ x → IsErr r × IsErrAnd r (λ g. g ≡ f) → r ≡ x
+handed_as r f x e h = handed r f h ∙ e
 
 -- what holds of either side of a choice, each with its fact, holds of the choice
 module _ {A : Type 0} (P : A → Type 0) (x y : A) where
@@ -117,15 +93,10 @@ pub ruleset choices = (
   at_not_le,
   at_eq,
   at_ne,
-  extent_refused,
-  extent_body,
-  element_refused,
-  element_found,
-  checked_refused,
-  checked_passed,
-  integer_refused,
-  integer_value_lem,
+  result_refused,
+  result_found,
   same,
+  handed,
 )
 
 -- a choice by an order that is known, and a proof by cases of an order

@@ -1,7 +1,7 @@
 -- The laws of the bodies of OBJECT IDENTIFIER and INTEGER: the tests against the rules of X.690,
 -- and the number that an INTEGER holds.
 use mathlib.Core.Bool.{Bool, true, false}
-use mathlib.Core.Path.{◌≡◌, refl, sym, ◌∙◌}
+use mathlib.Core.Path.{◌≡◌, refl, sym, ap, ◌∙◌}
 use mathlib.Core.List.{List, [], ◌∷◌}
 use Prim.Native.Nat.{ℕ, zero, suc, ◌+◌, ◌-◌, ◌*◌, ◌≤◌, ◌<◌}
 use native.Mathlib.Nat.{add-zero, zero-add}
@@ -16,10 +16,14 @@ use borrow.Author.Tests.{ltb-true, ltb-false, leb-true, leb-false, eqb-true, eqb
 use borrow.Author.Tests.{lt-ltb, le-ltb, le-leb, lt-leb, eq-eqb, ne_eqb}
 use Rattle.std.specs.Prelude.{if◌then◌else◌}
 use Rattle.der.proofs.Choices.{never}
+use Rattle.std.specs.Prelude.{Ok, Result}
+use Rattle.der.specs.Element.{valued}
+use Rattle.der.specs.declared.Fault.{Fault}
+use Rattle.der.specs.declared.Integer.{Integer}
 use Rattle.der.specs.Content.{breaks, parts, identifier_body, bytes_of, integer_body}
 use Rattle.der.specs.Content.{and_digit, integer_value, IntegerAt}
 use Rattle.der.specs.Octets.{number, number_from, IntegerRule, IdentifierRule}
-use Rattle.der.specs.Scan.{begins_at}
+use Rattle.der.specs.Content.{begins_at}
 use Rattle.der.specs.declared.Cursor.{Cursor}
 
 -- What a choice with a constant arm implies of its test and of its other arm.
@@ -217,6 +221,10 @@ pub integer_at_lem : (s : List ℕ) (b : Cursor) (u : Bool) → u ≡ integer_bo
 integer_at_lem s b u p q h =
     let r = held_of s b (sym p ∙ q) in
     record { inside = h; some = r.some; first = r.positive }
+
+-- an INTEGER by the number that was read
+pub same_valued : (v w : ℕ) (n : Cursor) → v ≡ w → ◌≡◌ {A = Result Integer Fault} (Ok (valued v n)) (Ok (valued w n))
+same_valued v w n e = ap {B = Result Integer Fault} (λ (i : ℕ). Ok (valued i n)) e
 
 -- whether a byte breaks an identifier, as the code tests it: first the byte, then where it is
 pub breaks_there : (begins u : Bool) (b : ℕ) → b ≡ 128 → u ≡ begins → u ≡ breaks begins b

@@ -15,9 +15,10 @@ use Rattle.der.specs.Tree.{Tree, primitive, constructed, Trees, none, more, enco
 use Rattle.der.specs.Tree.{elements, elements_in, depth, deepest, Formed, AllFormed}
 use Rattle.der.specs.Follows.{OpaqueIs, RunIs}
 use Rattle.der.specs.declared.Cursor.{Cursor}
-use Rattle.der.specs.declared.Element.TheVariants.{Found}
+use Rattle.der.specs.Element.{checked, element}
 use Rattle.der.specs.declared.Checked.{Checked}
-use Rattle.der.specs.declared.Checked.TheVariants.{Passed}
+use Rattle.der.specs.declared.Fault.{Fault}
+use Rattle.std.specs.Prelude.{Err, Ok, Result}
 use Rattle.der.proofs.Choices.{by_eq}
 use Rattle.der.proofs.Placed.{by_element}
 use Rattle.der.proofs.Many.{many_holds, many_end, going_on}
@@ -29,31 +30,31 @@ use Rattle.der.proofs.Trees.{tree_long, tree_some}
 -- what a tree is written as is accepted, and so is what a run of trees is written as, with any fuel
 -- that reaches its end
 module _ (s : List ℕ) where
-  abbrev looped : ℕ → ℕ → ℕ → ℕ → ℕ → Checked
+  abbrev looped : ℕ → ℕ → ℕ → ℕ → ℕ → Result Checked Fault
   looped l end fuel m at = many go_on (at_end end) (counted (opaque_at l s) end) fuel end m at
 
-  primitive_is : (l at end t : ℕ) (b n : Cursor) → element_at s (cursor at end) ≡ Found t b n → 1 ≤ l → t / 32 % 2 ≡ 0
-      → opaque_at l s (cursor at end) ≡ Passed 1 n
+  primitive_is : (l at end t : ℕ) (b n : Cursor) → element_at s (cursor at end) ≡ Ok (element t b n) → 1 ≤ l → t / 32 % 2 ≡ 0
+      → opaque_at l s (cursor at end) ≡ Ok (checked 1 n)
   primitive_is l at end t b n f h k =
       sym
-      (opaque_step_lem l s (cursor at end) (Passed 1 n) (rw (f, ne_eqb l 0 (λ z. omega arith), eq-eqb (t / 32 % 2) 0 k)))
+      (opaque_step_lem l s (cursor at end) (Ok (checked 1 n)) (rw (f, ne_eqb l 0 (λ z. omega arith), eq-eqb (t / 32 % 2) 0 k)))
 
   constructed_is : (l at end t m : ℕ) (b n e : Cursor)
-      → element_at s (cursor at end) ≡ Found t b n → 1 ≤ l → t / 32 % 2 ≡ 1
-      → elements_at (l - 1) s b ≡ Passed m e → opaque_at l s (cursor at end) ≡ Passed (m + 1) n
+      → element_at s (cursor at end) ≡ Ok (element t b n) → 1 ≤ l → t / 32 % 2 ≡ 1
+      → elements_at (l - 1) s b ≡ Ok (checked m e) → opaque_at l s (cursor at end) ≡ Ok (checked (m + 1) n)
   constructed_is l at end t m b n e f h k r =
-      sym (opaque_step_lem l s (cursor at end) (Passed (m + 1) n)
+      sym (opaque_step_lem l s (cursor at end) (Ok (checked (m + 1) n))
       (rw (f, ne_eqb l 0 (λ z. omega arith), ne_eqb (t / 32 % 2) 0 (λ z. omega arith), r)))
 
-  elements_is : (l b e m : ℕ) → looped l e (e - b) 0 b ≡ Passed (0 + m) (cursor e e)
-      → elements_at l s (cursor b e) ≡ Passed m (cursor e e)
+  elements_is : (l b e m : ℕ) → looped l e (e - b) 0 b ≡ Ok (checked (0 + m) (cursor e e))
+      → elements_at l s (cursor b e) ≡ Ok (checked m (cursor e e))
   unfolding elements_at run
   elements_is l b e m p = let z : 0 + m ≡ m = omega arith in rw z at p
 
   loop_is : (l end fuel m at b i r : ℕ) → end ≤ at + fuel → at < end
-      → opaque_at l s (cursor at end) ≡ Passed i (cursor b end)
-      → ((f : ℕ) → end ≤ at + 1 + f → looped l end f (m + i) b ≡ Passed (m + i + r) (cursor end end))
-      → looped l end fuel m at ≡ Passed (m + (i + r)) (cursor end end)
+      → opaque_at l s (cursor at end) ≡ Ok (checked i (cursor b end))
+      → ((f : ℕ) → end ≤ at + 1 + f → looped l end f (m + i) b ≡ Ok (checked (m + i + r) (cursor end end)))
+      → looped l end fuel m at ≡ Ok (checked (m + (i + r)) (cursor end end))
   loop_is l end fuel m at b i r h k o go =
       let g = going_on go_on (at_end end) (counted (opaque_at l s) end) end (looped l end fuel m at) m at
       (record { fuel = fuel; enough = h; rest = refl }) k in
@@ -65,7 +66,7 @@ module _ (s : List ℕ) where
 
     pub tree_accepted : (x : Tree) (l at e end : ℕ) → Formed x → depth x ≤ l → Span s at e (encode x)
         → e ≤ end → end ≤ length s
-        → opaque_at l s (cursor at end) ≡ Passed (elements x) (cursor e end)
+        → opaque_at l s (cursor at end) ≡ Ok (checked (elements x) (cursor e end))
     tree_accepted (primitive t body) l at e end f d p h i =
         header_then s at e end t body f.0 f.2 p h i
         (λ b g q. primitive_is l at end t (cursor b e) (cursor e end) g d f.1)
@@ -78,7 +79,7 @@ module _ (s : List ℕ) where
 
     trees_accepted : (xs : Trees) (l at end fuel m : ℕ) → AllFormed xs → deepest xs ≤ l
         → Span s at end (encodes xs) → end ≤ at + fuel
-        → looped l end fuel m at ≡ Passed (m + elements_in xs) (cursor end end)
+        → looped l end fuel m at ≡ Ok (checked (m + elements_in xs) (cursor end end))
     trees_accepted none l at end fuel m f d p h =
         let z : at ≡ end = omega (arith, p.size) in
         let y : m + 0 ≡ m = omega arith in
@@ -103,24 +104,24 @@ module _ (s : List ℕ) (bytes : Bytes s) where
     whole : Span s at end (encodes trees)
     next : n ≡ cursor end end
 
-  abbrev OfTree : ℕ → Cursor → Checked → Type 0
-  OfTree l c (Checked.Refused f) = Unit {0}
-  OfTree l c (Passed m n) = OpaqueIs l s c m n
+  abbrev OfTree : ℕ → Cursor → Result Checked Fault → Type 0
+  OfTree l c (Err f) = Unit {0}
+  OfTree l c (Ok x) = OpaqueIs l s c x.count x.next
 
-  abbrev OfRest : ℕ → ℕ → ℕ → ℕ → Checked → Type 0
-  OfRest l end m at (Checked.Refused f) = Unit {0}
-  OfRest l end m at (Passed m' n) = RunFrom l end m at m' n
+  abbrev OfRest : ℕ → ℕ → ℕ → ℕ → Result Checked Fault → Type 0
+  OfRest l end m at (Err f) = Unit {0}
+  OfRest l end m at (Ok x) = RunFrom l end m at x.count x.next
 
-  abbrev OfTrees : ℕ → Cursor → Checked → Type 0
-  OfTrees l c (Checked.Refused f) = Unit {0}
-  OfTrees l c (Passed m n) = RunIs l s c m n
+  abbrev OfTrees : ℕ → Cursor → Result Checked Fault → Type 0
+  OfTrees l c (Err f) = Unit {0}
+  OfTrees l c (Ok x) = RunIs l s c x.count x.next
 
   -- one tree more in front of the rest
-  rest_more : (l end m at i : ℕ) (n : Cursor) → OpaqueIs l s (cursor at end) i n → (x : Checked)
+  rest_more : (l end m at i : ℕ) (n : Cursor) → OpaqueIs l s (cursor at end) i n → (x : Result Checked Fault)
       → OfRest l end (m + i) n.at x → OfRest l end m at x
   unfolding encode elements depth Formed
-  rest_more l end m at i n o (Checked.Refused f) r = tt
-  rest_more l end m at i n o (Passed m' e) r =
+  rest_more l end m at i n o (Err f) r = tt
+  rest_more l end m at i n o (Ok x) r =
       record {
         trees = more o.tree r.trees;
         formed = (o.formed, r.formed);
@@ -130,7 +131,7 @@ module _ (s : List ℕ) (bytes : Bytes s) where
         next = r.next;
       }
 
-  trees_of : (l : ℕ) (check : Cursor → Checked) → ((c : Cursor) → OfTree l c (check c)) → (c : Cursor)
+  trees_of : (l : ℕ) (check : Cursor → Result Checked Fault) → ((c : Cursor) → OfTree l c (check c)) → (c : Cursor)
       → c.at ≤ c.end → c.end ≤ length s
       → OfRest l c.end 0 c.at (run check c)
   unfolding run encode elements depth Formed
@@ -153,9 +154,9 @@ module _ (s : List ℕ) (bytes : Bytes s) where
       (each (cursor at c.end)))
       (c.end - c.at) 0 c.at (omega arith) h
 
-  run_is : (l : ℕ) (c : Cursor) (x : Checked) → OfRest l c.end 0 c.at x → OfTrees l c x
-  run_is l c (Checked.Refused f) r = tt
-  run_is l c (Passed m n) r =
+  run_is : (l : ℕ) (c : Cursor) (x : Result Checked Fault) → OfRest l c.end 0 c.at x → OfTrees l c x
+  run_is l c (Err f) r = tt
+  run_is l c (Ok x) r =
       record {
         trees = r.trees;
         formed = r.formed;
@@ -201,11 +202,11 @@ module _ (s : List ℕ) (bytes : Bytes s) where
       (element_at s c) refl
 
 pub opaque_sound : (l : ℕ) (s : List ℕ) (c : Cursor) (m : ℕ) (n : Cursor) → Bytes s
-    → opaque_at l s c ≡ Passed m n → OpaqueIs l s c m n
+    → opaque_at l s c ≡ Ok (checked m n) → OpaqueIs l s c m n
 opaque_sound l s c m n bytes e = rw e at (tree_of s bytes l c)
 
 pub opaque_complete : (l : ℕ) (s : List ℕ) (c : Cursor) (m : ℕ) (n : Cursor) → OpaqueIs l s c m n
-    → opaque_at l s c ≡ Passed m n
+    → opaque_at l s c ≡ Ok (checked m n)
 opaque_complete l s c m n o =
     tree_accepted s o.tree l c.at n.at c.end o.formed o.levels o.whole
     o.moved.within o.moved.inside
@@ -213,13 +214,13 @@ opaque_complete l s c m n o =
 
 pub elements_sound : (l : ℕ) (s : List ℕ) (c : Cursor) (m : ℕ) (n : Cursor) → Bytes s
     → c.at ≤ c.end → c.end ≤ length s
-    → elements_at l s c ≡ Passed m n → RunIs l s c m n
+    → elements_at l s c ≡ Ok (checked m n) → RunIs l s c m n
 unfolding elements_at
 elements_sound l s c m n bytes h i e =
     rw e at (run_is s bytes l c (run (opaque_at l s) c) (trees_of s bytes l (opaque_at l s) (tree_of s bytes l) c h i))
 
 pub elements_complete : (l : ℕ) (s : List ℕ) (c : Cursor) (m : ℕ) (n : Cursor) → RunIs l s c m n
-    → elements_at l s c ≡ Passed m n
+    → elements_at l s c ≡ Ok (checked m n)
 elements_complete l s c m n r =
     elements_is s l c.at c.end (elements_in r.trees)
     (trees_accepted s r.trees l c.at c.end (c.end - c.at) 0 r.formed r.levels r.whole (omega arith))

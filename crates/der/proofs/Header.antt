@@ -12,18 +12,18 @@ use lib.ListN.{length, get_or, drop}
 use lib.Seq.{length-slice}
 use borrow.Author.Tests.{lt-ltb, le-ltb, le-leb, lt-leb, ne_eqb, eqb-false}
 use Rattle.der.specs.Element.{cursor, fault, tag_at, finish_at, within, one_octet, two_octets, extent_at, element_at}
-use Rattle.der.specs.Element.{Extent, Body, on_extent}
 use Rattle.der.specs.Numbers.{left_over, overrun, no_tag, length_bound}
 use Rattle.der.specs.Content.{bytes_of}
 use Rattle.der.specs.Octets.{length_octets, tlv, TagForm}
 use Rattle.der.specs.Span.{Span, Bytes}
 use Rattle.der.specs.Follows.{Moved, HeaderIs}
+use Rattle.der.specs.Element.{on_result}
+use Rattle.std.specs.Prelude.{Result}
+use Rattle.der.specs.declared.Fault.{Fault}
 use Rattle.der.specs.Overrun.{ByteLeft, HeaderCut, no_length, after_81, after_82, BodyPast, RunsPast}
 use Rattle.der.specs.declared.Cursor.{Cursor}
-use Rattle.der.specs.declared.Element.{Element}
-use Rattle.der.specs.declared.Element.TheVariants.{Found}
-use Rattle.der.specs.declared.Checked.{Checked}
-use Rattle.der.specs.declared.Checked.TheVariants.{Passed}
+use Rattle.der.specs.Element.{checked, element}
+use Rattle.std.specs.Prelude.{Err, Ok}
 use Rattle.der.proofs.Choices.{either}
 use Rattle.der.proofs.Octets.{octets_short, octets_one, octets_two}
 use Rattle.der.proofs.Placed.{found, element_of_lem, left_is, left_none, none_is}
@@ -34,11 +34,11 @@ pub tag_form_lem : (t : ℕ) → eqb t 0 ≡ false → eqb (t % 32) 31 ≡ false
 tag_form_lem t p q = record { not_zero = eqb-false t 0 p; low_bits = eqb-false (t % 32) 31 q }
 
 -- a body that ends within its parent, and one that ends past it
-within_fits : (at b n end : ℕ) → b + n ≤ end → within at b n end ≡ Body (cursor b (b + n))
+within_fits : (at b n end : ℕ) → b + n ≤ end → within at b n end ≡ Ok (cursor b (b + n))
 unfolding within
 within_fits at b n end h = rw (le-ltb end (b + n) h)
 
-within_past : (at b n end : ℕ) → end < b + n → within at b n end ≡ Extent.Refused (fault overrun at)
+within_past : (at b n end : ℕ) → end < b + n → within at b n end ≡ Err (fault overrun at)
 unfolding within
 within_past at b n end h = rw (lt-ltb end (b + n) h)
 
@@ -93,7 +93,7 @@ module _ (s : List ℕ) (at end b n : ℕ) (whole : b ≤ end) where
 
 -- a header that has a byte missing
 cut_is : (s : List ℕ) (c : Cursor) → HeaderCut s c
-    → extent_at s c.at c.end ≡ Extent.Refused (fault overrun c.at)
+    → extent_at s c.at c.end ≡ Err (fault overrun c.at)
 unfolding extent_at one_octet two_octets
 cut_is s c (no_length e) = rw (le-leb c.end (c.at + 1) (omega arith))
 cut_is s c (after_81 g e) =
@@ -103,15 +103,15 @@ cut_is s c (after_82 g h k) =
 
 -- a header or a body that runs past its parent
 past_is : (s : List ℕ) (c : Cursor) → HeaderCut s c ⊎ BodyPast s c
-    → extent_at s c.at c.end ≡ Extent.Refused (fault overrun c.at)
+    → extent_at s c.at c.end ≡ Err (fault overrun c.at)
 past_is s c (inl h) = cut_is s c h
 past_is s c (inr h) =
     extent_is s c.at c.end h.start h.size h.whole h.octets h.small
     ∙ within_past c.at h.start h.size c.end h.past
 
-element_is : (s : List ℕ) (at end t : ℕ) (x : Extent) → end ≤ length s → at < end → get_or s at 0 ≡ t → TagForm t
+element_is : (s : List ℕ) (at end t : ℕ) (x : Result Cursor Fault) → end ≤ length s → at < end → get_or s at 0 ≡ t → TagForm t
     → extent_at s at end ≡ x
-    → element_at s (cursor at end) ≡ on_extent x Element.Refused (λ b. Found t b (cursor b.end end))
+    → element_at s (cursor at end) ≡ on_result x Err (λ b. Ok (element t b (cursor b.end end)))
 unfolding element_at
 element_is s at end t x i l g form e =
     rw (left_is s (cursor at end) l i, g, ne_eqb t 0 form.not_zero, ne_eqb (t % 32) 31 form.low_bits, e) refl
@@ -119,7 +119,7 @@ element_is s at end t x i l g form e =
 -- what is written as `tlv` is found; the continuation k takes the offset of the body
 pub header_then : {P : Type 0} (s : List ℕ) (at e end t : ℕ) (body : List ℕ) → TagForm t → length body < length_bound
     → Span s at e (tlv t body) → e ≤ end → end ≤ length s
-    → ((b : ℕ) → element_at s (cursor at end) ≡ Found t (cursor b e) (cursor e end) → Span s b e body → P) → P
+    → ((b : ℕ) → element_at s (cursor at end) ≡ Ok (element t (cursor b e) (cursor e end)) → Span s b e body → P) → P
 unfolding tlv
 header_then s at e end t body form small p h i k =
     span_split s at e (t ∷ []) (length_octets (length body) ++ body) p
@@ -128,15 +128,15 @@ header_then s at e end t body form small p h i k =
     (λ b o c.
     let z : at + 1 ≡ a = q.size in
     let g : get_or s at 0 ≡ t = span_at s at a 0 at (t ∷ []) q (omega arith) (omega arith) in
-    let x : extent_at s at end ≡ Body (cursor b e) =
+    let x : extent_at s at end ≡ Ok (cursor b e) =
     rw (← c.size)
     (extent_is s at end b (length body) (omega (arith, c.size)) (rw (← z) at o) small
     ∙ within_fits at b (length body) end (omega (arith, c.size))) in
-    k b (element_is s at end t (Body (cursor b e)) i (omega (arith, o.size, c.size)) g form x) c))
+    k b (element_is s at end t (Ok (cursor b e)) i (omega (arith, o.size, c.size)) g form x) c))
 
 -- what is found is written as `tlv`, in a list of bytes
 pub header_sound : (s : List ℕ) (c : Cursor) (t : ℕ) (b n : Cursor) → Bytes s
-    → element_at s c ≡ Found t b n → HeaderIs s c t b n
+    → element_at s c ≡ Ok (element t b n) → HeaderIs s c t b n
 unfolding tlv
 header_sound s c t b n bs e =
     let p = found s c (element_at s c) t b n refl e in
@@ -158,7 +158,7 @@ header_sound s c t b n bs e =
     }
 
 pub header_complete : (s : List ℕ) (c : Cursor) (t : ℕ) (b n : Cursor) → HeaderIs s c t b n
-    → element_at s c ≡ Found t b n
+    → element_at s c ≡ Ok (element t b n)
 header_complete s c t b n h =
     header_then s c.at b.end c.end t (bytes_of s b) h.form h.small h.whole
     h.moved.within h.moved.inside
@@ -167,25 +167,25 @@ header_complete s c t b n h =
     e ∙ rw (z, h.moved.next))
 
 -- the refusals 1 and 15 of an element
-pub missing_sound : (s : List ℕ) (c : Cursor) (p : ℕ) → element_at s c ≡ Element.Refused (fault 1 p)
+pub missing_sound : (s : List ℕ) (c : Cursor) (p : ℕ) → element_at s c ≡ Err (fault 1 p)
     → (ByteLeft s c → ⊥) × (p ≡ c.end)
 missing_sound s c p e = (rw e at (element_of_lem s c)).missing refl
 
 pub missing_complete : (s : List ℕ) (c : Cursor) (p : ℕ) → (ByteLeft s c → ⊥) × (p ≡ c.end)
-    → element_at s c ≡ Element.Refused (fault 1 p)
+    → element_at s c ≡ Err (fault 1 p)
 unfolding element_at
 missing_complete s c p h = rw (none_is s c h.0, h.1) refl
 
-pub overrun_sound : (s : List ℕ) (c : Cursor) (p : ℕ) → Bytes s → element_at s c ≡ Element.Refused (fault 15 p)
+pub overrun_sound : (s : List ℕ) (c : Cursor) (p : ℕ) → Bytes s → element_at s c ≡ Err (fault 15 p)
     → RunsPast s c × (p ≡ c.at)
 overrun_sound s c p b e = (rw e at (element_of_lem s c)).past b refl
 
 pub overrun_complete : (s : List ℕ) (c : Cursor) (p : ℕ) → RunsPast s c × (p ≡ c.at)
-    → element_at s c ≡ Element.Refused (fault 15 p)
+    → element_at s c ≡ Err (fault 15 p)
 overrun_complete s c p h =
     let r = h.0 in
     rw h.1
-    (element_is s c.at c.end (get_or s c.at 0) (Extent.Refused (fault overrun c.at)) r.left.inside
+    (element_is s c.at c.end (get_or s c.at 0) (Err (fault overrun c.at)) r.left.inside
     r.left.some refl r.form (past_is s c r.past))
 
 -- the cursor past an element is at its body's end
@@ -196,18 +196,18 @@ header_next s c t b n h =
     (span_to s c.at b.end n.at (tlv t (bytes_of s b)) stop h.whole, rw stop at h.moved)
 
 -- what is left in a parent, and the next byte
-pub finish_done : (c : Cursor) → c.end ≤ c.at → finish_at c ≡ Passed 0 c
+pub finish_done : (c : Cursor) → c.end ≤ c.at → finish_at c ≡ Ok (checked 0 c)
 unfolding finish_at
 finish_done c h = rw (le-ltb c.at c.end h)
 
-pub finish_left : (c : Cursor) → c.at < c.end → finish_at c ≡ Checked.Refused (fault left_over c.at)
+pub finish_left : (c : Cursor) → c.at < c.end → finish_at c ≡ Err (fault left_over c.at)
 unfolding finish_at
 finish_left c h = rw (lt-ltb c.at c.end h)
 
-pub finish_sound : (c : Cursor) → finish_at c ≡ Passed 0 c → c.end ≤ c.at
+pub finish_sound : (c : Cursor) → finish_at c ≡ Ok (checked 0 c) → c.end ≤ c.at
 finish_sound c e =
     either c.at c.end
-    (λ h. let z = finish_left c h in let y : Checked.Refused (fault left_over c.at) ≡ Passed 0 c = cc in
+    (λ h. let z = finish_left c h in let y : Err (fault left_over c.at) ≡ Ok (checked 0 c) = cc in
     let x : ◌≡◌ {A = ℕ} 0 1 = cc in absurd (omega arith))
     (λ h. h)
 

@@ -7,11 +7,8 @@ pub mod Choices
 pub mod Octets
 pub mod Content
 pub mod Placed
-pub mod Codes
-pub mod Dues
 pub mod Many
 pub mod Opaque
-pub mod Weights
 pub mod Spans
 pub mod Header
 pub mod Values

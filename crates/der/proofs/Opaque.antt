@@ -14,10 +14,10 @@ use Rattle.der.specs.Numbers.{too_many}
 use Rattle.der.specs.Opaque.{on_checked, counted, go_on, at_end, run, opaque_at, elements_at}
 use Rattle.der.specs.declared.Fault.{Fault}
 use Rattle.der.specs.declared.Cursor.{Cursor}
-use Rattle.der.specs.declared.Element.{Element}
-use Rattle.der.specs.declared.Element.TheVariants.{Found}
+use Rattle.der.specs.Element.{checked}
 use Rattle.der.specs.declared.Checked.{Checked}
-use Rattle.der.specs.declared.Checked.TheVariants.{Passed}
+use Rattle.der.specs.declared.Element.{Element}
+use Rattle.std.specs.Prelude.{Err, Ok, Result}
 use Rattle.der.proofs.Choices.{by_eq}
 use Rattle.der.proofs.Placed.{OfElement, element_of_lem, by_element, found}
 use Rattle.der.proofs.Many.{many_holds, Going, going_start, going_on, going_end}
@@ -36,34 +36,34 @@ pub record Ran (c : Cursor) (m : ℕ) (n : Cursor) : Type 0 where
   pub stop : c.at ≤ c.end → n.at ≡ c.end
   pub end : n.end ≡ c.end
 
-abbrev OfOpaque : List ℕ → Cursor → Checked → Type 0
-OfOpaque s c (Checked.Refused f) = Unit {0}
-OfOpaque s c (Passed m n) = Went s c m n
+abbrev OfOpaque : List ℕ → Cursor → Result Checked Fault → Type 0
+OfOpaque s c (Err f) = Unit {0}
+OfOpaque s c (Ok x) = Went s c x.count x.next
 
-abbrev OfRun : Cursor → Checked → Type 0
-OfRun c (Checked.Refused f) = Unit {0}
-OfRun c (Passed m n) = Ran c m n
+abbrev OfRun : Cursor → Result Checked Fault → Type 0
+OfRun c (Err f) = Unit {0}
+OfRun c (Ok x) = Ran c x.count x.next
 
 -- what holds of a refusal and of a check that passed holds of what is made of them
-pub by_checked : {A : Type 0} (P : A → Type 0) (Q : Checked → Type 0) (bad : Fault → A) (good : ℕ → Cursor → A)
-    → ((f : Fault) → P (bad f)) → ((m : ℕ) (n : Cursor) → Q (Passed m n) → P (good m n)) → (x : Checked) → Q x
+pub by_checked : {A : Type 0} (P : A → Type 0) (Q : Result Checked Fault → Type 0) (bad : Fault → A) (good : ℕ → Cursor → A)
+    → ((f : Fault) → P (bad f)) → ((m : ℕ) (n : Cursor) → Q (Ok (checked m n)) → P (good m n)) → (x : Result Checked Fault) → Q x
     → P (on_checked x bad good)
-by_checked P Q bad good f g (Checked.Refused e) q = f e
-by_checked P Q bad good f g (Passed m n) q = g m n q
+by_checked P Q bad good f g (Err e) q = f e
+by_checked P Q bad good f g (Ok x) q = g x.count x.next q
 
 -- one step of the loop over siblings: a refusal, or the loop from where the checked element ends
-pub by_step : (P : Checked → Type 0) (check : Cursor → Checked) (end m at : ℕ)
-    (k : ℕ → ℕ → Checked) (Q : Checked → Type 0)
-    → ((f : Fault) → P (Checked.Refused f)) → ((i : ℕ) (n : Cursor) → Q (Passed i n) → P (k (m + i) n.at))
+pub by_step : (P : Result Checked Fault → Type 0) (check : Cursor → Result Checked Fault) (end m at : ℕ)
+    (k : ℕ → ℕ → Result Checked Fault) (Q : Result Checked Fault → Type 0)
+    → ((f : Fault) → P (Err f)) → ((i : ℕ) (n : Cursor) → Q (Ok (checked i n)) → P (k (m + i) n.at))
     → Q (check (cursor at end))
     → P (go_on (counted check end m at) k)
 by_step P check end m at k Q f g q = go (check (cursor at end)) q
   where
-    go : (x : Checked) → Q x → P (go_on (on_checked x Checked.Refused (λ i n. Passed (m + i) n)) k)
-    go (Checked.Refused e) r = f e
-    go (Passed i n) r = g i n r
+    go : (x : Result Checked Fault) → Q x → P (go_on (on_checked x Err (λ i n. Ok (checked (m + i) n))) k)
+    go (Err e) r = f e
+    go (Ok x) r = g x.count x.next r
 
-run_of : (s : List ℕ) (check : Cursor → Checked) → ((c : Cursor) → OfOpaque s c (check c))
+run_of : (s : List ℕ) (check : Cursor → Result Checked Fault) → ((c : Cursor) → OfOpaque s c (check c))
     → (c : Cursor) → OfRun c (run check c)
 unfolding run
 run_of s check each c =
@@ -104,26 +104,26 @@ opaque_of (suc l) s c =
     (element_at s c) (element_of_lem s c)
 
 -- the facts of an element, or of a run of them, that was checked
-pub went : (l : ℕ) (s : List ℕ) (c : Cursor) (w : Checked) (m : ℕ) (n : Cursor) → w ≡ opaque_at l s c
-    → w ≡ Passed m n → Went s c m n
+pub went : (l : ℕ) (s : List ℕ) (c : Cursor) (w : Result Checked Fault) (m : ℕ) (n : Cursor) → w ≡ opaque_at l s c
+    → w ≡ Ok (checked m n) → Went s c m n
 went l s c w m n p q = rw (sym p ∙ q) at (opaque_of l s c)
 
-pub ran : (l : ℕ) (s : List ℕ) (c : Cursor) (w : Checked) (m : ℕ) (n : Cursor) → w ≡ elements_at l s c
-    → w ≡ Passed m n → Ran c m n
+pub ran : (l : ℕ) (s : List ℕ) (c : Cursor) (w : Result Checked Fault) (m : ℕ) (n : Cursor) → w ≡ elements_at l s c
+    → w ≡ Ok (checked m n) → Ran c m n
 unfolding elements_at
 ran l s c w m n p q = rw (sym p ∙ q) at (run_of s (opaque_at l s) (opaque_of l s) c)
 
 -- the check by its level as the code has it, which tests the level and takes one from it
-abbrev pub opaque_step : ℕ → List ℕ → Cursor → Checked
+abbrev pub opaque_step : ℕ → List ℕ → Cursor → Result Checked Fault
 opaque_step l s c =
     on_element (element_at s c)
-    Checked.Refused
+    Err
     (λ t b n.
-    if eqb l 0 then Checked.Refused (fault too_many c.at) else
-    if eqb (t / 32 % 2) 0 then Passed 1 n else
-    on_checked (elements_at (l - 1) s b) Checked.Refused (λ m e. Passed (m + 1) n))
+    if eqb l 0 then Err (fault too_many c.at) else
+    if eqb (t / 32 % 2) 0 then Ok (checked 1 n) else
+    on_checked (elements_at (l - 1) s b) Err (λ m e. Ok (checked (m + 1) n)))
 
-pub opaque_step_lem : (l : ℕ) (s : List ℕ) (c : Cursor) (r : Checked) → r ≡ opaque_step l s c → r ≡ opaque_at l s c
+pub opaque_step_lem : (l : ℕ) (s : List ℕ) (c : Cursor) (r : Result Checked Fault) → r ≡ opaque_step l s c → r ≡ opaque_at l s c
 unfolding opaque_at elements_at
 opaque_step_lem zero s c r e = e
 opaque_step_lem (suc l) s c r e =
@@ -132,28 +132,28 @@ opaque_step_lem (suc l) s c r e =
 
 -- the loop over siblings in the code: its invariant, what it begins with, its two ways out and its
 -- turn
-pub record Running (l : ℕ) (s : List ℕ) (end : ℕ) (whole : Checked) (m at : ℕ) : Type 0 where
+pub record Running (l : ℕ) (s : List ℕ) (end : ℕ) (whole : Result Checked Fault) (m at : ℕ) : Type 0 where
   pub going : Going go_on (at_end end) (counted (opaque_at l s) end) end whole m at
 
 pub running_start : (l : ℕ) (s : List ℕ) (c : Cursor) → Running l s c.end (elements_at l s c) 0 c.at
 unfolding elements_at run
 running_start l s c = record { going = going_start _ _ _ c.end 0 c.at }
 
-module _ (l : ℕ) (s : List ℕ) (end : ℕ) (whole : Checked) (m at : ℕ) where
-  pub running_end : Running l s end whole m at → end ≤ at → Passed m (cursor at end) ≡ whole
+module _ (l : ℕ) (s : List ℕ) (end : ℕ) (whole : Result Checked Fault) (m at : ℕ) where
+  pub running_end : Running l s end whole m at → end ≤ at → Ok (checked m (cursor at end)) ≡ whole
   running_end g h = going_end _ _ _ end whole m at g.going h
 
-  pub running_refused : (w : Checked) (f : Fault) → Running l s end whole m at → at < end
+  pub running_refused : (w : Result Checked Fault) (f : Fault) → Running l s end whole m at → at < end
       → w ≡ opaque_at l s (cursor at end)
-      → w ≡ Checked.Refused f → Checked.Refused f ≡ whole
+      → w ≡ Err f → Err f ≡ whole
   running_refused w f g h p q = sym ((going_on _ _ _ end whole m at g.going h).rest ∙ rw (sym p ∙ q))
 
-  pub running_on : (w : Checked) (i : ℕ) (n : Cursor) → Running l s end whole m at → at < end
+  pub running_on : (w : Result Checked Fault) (x : Checked) → Running l s end whole m at → at < end
       → w ≡ opaque_at l s (cursor at end)
-      → w ≡ Passed i n → Running l s end whole (m + i) n.at
-  running_on w i n g h p q =
+      → w ≡ Ok x → Running l s end whole (m + x.count) x.next.at
+  running_on w x g h p q =
       let o = going_on _ _ _ end whole m at g.going h in
-      let v = went l s (cursor at end) w i n p q in
+      let v = went l s (cursor at end) w x.count x.next p q in
       record {
         going = record {
           fuel = o.fuel;
@@ -164,21 +164,21 @@ module _ (l : ℕ) (s : List ℕ) (end : ℕ) (whole : Checked) (m at : ℕ) whe
 
 -- the numbers of a turn: the position moves on, and the count stays at most half of what was
 -- passed
-module _ (l : ℕ) (s : List ℕ) (end at : ℕ) (w : Checked) (i : ℕ) (n : Cursor) (p : w ≡ opaque_at l s (cursor at end))
-    (q : w ≡ Passed i n) where
-  pub step_falls : at < end → end - n.at < end - at
-  step_falls h = let v = went l s (cursor at end) w i n p q in omega (arith, v.some, v.long)
+module _ (l : ℕ) (s : List ℕ) (end at : ℕ) (w : Result Checked Fault) (x : Checked) (p : w ≡ opaque_at l s (cursor at end))
+    (q : w ≡ Ok x) where
+  pub step_falls : at < end → end - x.next.at < end - at
+  step_falls h = let v = went l s (cursor at end) w x.count x.next p q in omega (arith, v.some, v.long)
 
-  pub step_long : (m from : ℕ) → from + 2 * m ≤ at → from + 2 * (m + i) ≤ n.at
-  step_long m from h = let v = went l s (cursor at end) w i n p q in omega (arith, v.long)
+  pub step_long : (m from : ℕ) → from + 2 * m ≤ at → from + 2 * (m + x.count) ≤ x.next.at
+  step_long m from h = let v = went l s (cursor at end) w x.count x.next p q in omega (arith, v.long)
 
-  pub step_fits : (m from : ℕ) → from + 2 * m ≤ at → length s < 2 ^ 64 → Fits w64 (m + i)
-  step_fits m from h k = let v = went l s (cursor at end) w i n p q in omega (arith, v.long, v.within, v.inside)
+  pub step_fits : (m from : ℕ) → from + 2 * m ≤ at → length s < 2 ^ 64 → Fits w64 (m + x.count)
+  step_fits m from h k = let v = went l s (cursor at end) w x.count x.next p q in omega (arith, v.long, v.within, v.inside)
 
 -- a run's count with one more for its parent, which was found in the bytes, fits 64 bits
-pub run_fits : (l : ℕ) (s : List ℕ) (c : Cursor) (x : Element) (t : ℕ) (b n : Cursor) (w : Checked) (m : ℕ) (e : Cursor)
-    → x ≡ element_at s c → x ≡ Found t b n → w ≡ elements_at l s b → w ≡ Passed m e → length s < 2 ^ 64 → Fits w64 (m + 1)
-run_fits l s c x t b n w m e o f p q h =
-    let v = found s c x t b n o f in
-    let r = ran l s b w m e p q in
+pub run_fits : (l : ℕ) (s : List ℕ) (c : Cursor) (x : Result Element Fault) (e : Element) (w : Result Checked Fault) (k : Checked)
+    → x ≡ element_at s c → x ≡ Ok e → w ≡ elements_at l s e.body → w ≡ Ok k → length s < 2 ^ 64 → Fits w64 (k.count + 1)
+run_fits l s c x e w k o f p q h =
+    let v = found s c x e.tag e.body e.next o f in
+    let r = ran l s e.body w k.count k.next p q in
     omega (arith, v.body.past, v.body.within, v.inside, r.long, r.stop v.body.size)

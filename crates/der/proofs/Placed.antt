@@ -13,14 +13,15 @@ use lib.Seq.{drop-cons}
 use borrow.Author.Tests.{le-ltb, le-leb, lt-leb, eq-eqb, leb-false, eqb-false}
 use Rattle.der.specs.Numbers.{tag_form, length_form, overrun, length_bound}
 use Rattle.der.specs.Element.{cursor, fault, no_byte_left, within, one_octet, two_octets, extent_at}
-use Rattle.der.specs.Element.{Extent, Body, element_at, expect_at, on_extent, on_element}
+use Rattle.der.specs.Element.{element_at, expect_at, on_result, on_element}
 use Rattle.der.specs.Octets.{length_octets}
 use Rattle.der.specs.Span.{Bytes}
 use Rattle.der.specs.Overrun.{ByteLeft, HeaderCut, no_length, after_81, after_82, BodyPast, RunsPast}
 use Rattle.der.specs.declared.Fault.{Fault}
 use Rattle.der.specs.declared.Cursor.{Cursor}
+use Rattle.der.specs.Element.{element}
 use Rattle.der.specs.declared.Element.{Element}
-use Rattle.der.specs.declared.Element.TheVariants.{Found}
+use Rattle.std.specs.Prelude.{Err, Ok, Result}
 use Rattle.der.proofs.Choices.{never, by_test, by_lt, by_le, by_eq}
 use Rattle.der.proofs.Octets.{octets_short, octets_one, octets_two}
 use Rattle.der.proofs.Spans.{span_of}
@@ -77,19 +78,19 @@ record Late (s : List ℕ) (at end : ℕ) (f : Fault) : Type 0 where
   not_missing : f.number ≡ 1 → ⊥
   past : Bytes s → f.number ≡ 15 → HeaderCut s (cursor at end) ⊎ BodyPast s (cursor at end)
 
-abbrev OfExtent : List ℕ → ℕ → ℕ → Extent → Type 0
-OfExtent s at end (Extent.Refused f) = Late s at end f
-OfExtent s at end (Body b) = BodyOf s at end b
+abbrev OfExtent : List ℕ → ℕ → ℕ → Result Cursor Fault → Type 0
+OfExtent s at end (Err f) = Late s at end f
+OfExtent s at end (Ok b) = BodyOf s at end b
 
 -- two numbers that are written out differ
 apart : {A : Type 0} (n m : ℕ) → eqb n m ≡ false → n ≡ m → A
 apart n m p e = absurd (eqb-false n m p e)
 
-form_of : (s : List ℕ) (at end : ℕ) → OfExtent s at end (Extent.Refused (fault length_form at))
+form_of : (s : List ℕ) (at end : ℕ) → OfExtent s at end (Err (fault length_form at))
 form_of s at end = record { offset = refl; not_missing = apart 3 1 refl; past = λ b. apart 3 15 refl }
 
 past_of : (s : List ℕ) (at end : ℕ) → (Bytes s → HeaderCut s (cursor at end) ⊎ BodyPast s (cursor at end))
-    → OfExtent s at end (Extent.Refused (fault overrun at))
+    → OfExtent s at end (Err (fault overrun at))
 past_of s at end p = record { offset = refl; not_missing = apart 15 1 refl; past = λ b e. p b }
 
 -- a body of `size` bytes from `start`, whose length octets are before it and within the parent
@@ -159,7 +160,7 @@ module _ (s : List ℕ) (at end : ℕ) (inside : end ≤ length s) where
         f,
       ))
 
-  cut_of : HeaderCut s (cursor at end) → OfExtent s at end (Extent.Refused (fault overrun at))
+  cut_of : HeaderCut s (cursor at end) → OfExtent s at end (Err (fault overrun at))
   cut_of h = past_of s at end (λ b. inl h)
 
   extent_of : at < end → OfExtent s at end (extent_at s at end)
@@ -191,21 +192,21 @@ pub record Why (s : List ℕ) (c : Cursor) (f : Fault) : Type 0 where
   pub missing : f.number ≡ 1 → (ByteLeft s c → ⊥) × (f.offset ≡ c.end)
   pub past : Bytes s → f.number ≡ 15 → RunsPast s c × (f.offset ≡ c.at)
 
-abbrev pub OfElement : List ℕ → Cursor → Element → Type 0
-OfElement s c (Element.Refused f) = Why s c f
-OfElement s c (Found t b n) = Placed s c t b n
+abbrev pub OfElement : List ℕ → Cursor → Result Element Fault → Type 0
+OfElement s c (Err f) = Why s c f
+OfElement s c (Ok x) = Placed s c x.tag x.body x.next
 
 -- what holds of a refusal and of a body holds of what is made of an extent
-pub by_extent : {A : Type 0} (P : A → Type 0) (Q : Extent → Type 0) (bad : Fault → A) (good : Cursor → A)
-    → ((f : Fault) → Q (Extent.Refused f) → P (bad f)) → ((b : Cursor) → Q (Body b) → P (good b))
-    → (x : Extent) → Q x → P (on_extent x bad good)
-by_extent P Q bad good f g (Extent.Refused e) q = f e q
-by_extent P Q bad good f g (Body b) q = g b q
+pub by_extent : {A : Type 0} (P : A → Type 0) (Q : Result Cursor Fault → Type 0) (bad : Fault → A) (good : Cursor → A)
+    → ((f : Fault) → Q (Err f) → P (bad f)) → ((b : Cursor) → Q (Ok b) → P (good b))
+    → (x : Result Cursor Fault) → Q x → P (on_result x bad good)
+by_extent P Q bad good f g (Err e) q = f e q
+by_extent P Q bad good f g (Ok b) q = g b q
 
 placed_of : (s : List ℕ) (c : Cursor) → c.end ≤ length s → c.at < c.end → (get_or s c.at 0 ≡ 0 → ⊥)
     → (get_or s c.at 0 % 32 ≡ 31 → ⊥)
-    → OfElement s c (on_extent (extent_at s c.at c.end) Element.Refused
-    (λ b. Found (get_or s c.at 0) b (cursor b.end c.end)))
+    → OfElement s c (on_result (extent_at s c.at c.end) Err
+    (λ b. Ok (element (get_or s c.at 0) b (cursor b.end c.end))))
 placed_of s c h k l m =
     by_extent (OfElement s c) (OfExtent s c.at c.end) _ _
     (λ f p.
@@ -235,21 +236,21 @@ element_of_lem s c =
     tag_of = record { missing = apart 2 1 refl; past = λ b. apart 2 15 refl }
 
 -- the facts of an element that was found
-pub found : (s : List ℕ) (c : Cursor) (w : Element) (t : ℕ) (b n : Cursor) → w ≡ element_at s c
-    → w ≡ Found t b n → Placed s c t b n
+pub found : (s : List ℕ) (c : Cursor) (w : Result Element Fault) (t : ℕ) (b n : Cursor) → w ≡ element_at s c
+    → w ≡ Ok (element t b n) → Placed s c t b n
 found s c w t b n p q = rw (sym p ∙ q) at (element_of_lem s c)
 
 -- what holds of a refusal and of an element that is found holds of what is made of them
-pub by_element : {A : Type 0} (P : A → Type 0) (Q : Element → Type 0) (bad : Fault → A) (good : ℕ → Cursor → Cursor → A)
-    → ((f : Fault) → P (bad f)) → ((t : ℕ) (b n : Cursor) → Q (Found t b n) → P (good t b n)) → (x : Element) → Q x
+pub by_element : {A : Type 0} (P : A → Type 0) (Q : Result Element Fault → Type 0) (bad : Fault → A) (good : ℕ → Cursor → Cursor → A)
+    → ((f : Fault) → P (bad f)) → ((t : ℕ) (b n : Cursor) → Q (Ok (element t b n)) → P (good t b n)) → (x : Result Element Fault) → Q x
     → P (on_element x bad good)
-by_element P Q bad good f g (Element.Refused e) q = f e
-by_element P Q bad good f g (Found t b n) q = g t b n q
+by_element P Q bad good f g (Err e) q = f e
+by_element P Q bad good f g (Ok x) q = g x.tag x.body x.next q
 
 -- an element with the tag that is due is one that was found
-abbrev OfExpected : ℕ → List ℕ → Cursor → Element → Type 0
-OfExpected due s c (Element.Refused f) = Unit {0}
-OfExpected due s c (Found t b n) = (t ≡ due) × (element_at s c ≡ Found t b n)
+abbrev OfExpected : ℕ → List ℕ → Cursor → Result Element Fault → Type 0
+OfExpected due s c (Err f) = Unit {0}
+OfExpected due s c (Ok x) = (x.tag ≡ due) × (element_at s c ≡ Ok (element x.tag x.body x.next))
 
 expected_of : (due : ℕ) (s : List ℕ) (c : Cursor) → OfExpected due s c (expect_at due s c)
 unfolding expect_at
@@ -258,18 +259,18 @@ expected_of due s c =
     (λ t b n p. by_eq (OfExpected due s c) _ _ t due (λ h. (h, p)) (λ h. tt))
     (element_at s c) refl
 
-pub expected : (due : ℕ) (s : List ℕ) (c : Cursor) (w : Element) (t : ℕ) (b n : Cursor)
-    → w ≡ expect_at due s c → w ≡ Found t b n → (t ≡ due) × (element_at s c ≡ Found t b n)
+pub expected : (due : ℕ) (s : List ℕ) (c : Cursor) (w : Result Element Fault) (t : ℕ) (b n : Cursor)
+    → w ≡ expect_at due s c → w ≡ Ok (element t b n) → (t ≡ due) × (element_at s c ≡ Ok (element t b n))
 expected due s c w t b n p q = rw (sym p ∙ q) at (expected_of due s c)
 
-pub expect_is : (s : List ℕ) (c : Cursor) (t : ℕ) (b n : Cursor) → element_at s c ≡ Found t b n
-    → expect_at t s c ≡ Found t b n
+-- a body that was found reaches no further than the bytes
+pub expected_inside : (due : ℕ) (s : List ℕ) (c : Cursor) (w : Result Element Fault) (x : Element)
+    → w ≡ expect_at due s c → w ≡ Ok x → x.body.end ≤ length s
+expected_inside due s c w x p q =
+    let o = found s c (element_at s c) x.tag x.body x.next refl (expected due s c w x.tag x.body x.next p q).1 in
+    omega (arith, o.body.within, o.inside)
+
+pub expect_is : (s : List ℕ) (c : Cursor) (t : ℕ) (b n : Cursor) → element_at s c ≡ Ok (element t b n)
+    → expect_at t s c ≡ Ok (element t b n)
 unfolding expect_at
 expect_is s c t b n e = rw (e, eq-eqb t t refl)
-
--- a body that was found reaches no further than the bytes
-pub expected_inside : (due : ℕ) (s : List ℕ) (c : Cursor) (w : Element) (t : ℕ) (b n : Cursor)
-    → w ≡ expect_at due s c → w ≡ Found t b n → b.end ≤ length s
-expected_inside due s c w t b n p q =
-    let h = found s c (element_at s c) t b n refl (expected due s c w t b n p q).1 in
-    omega (arith, h.body.within, h.inside)

@@ -13,10 +13,11 @@ use Rattle.der.specs.Octets.{tlv, number, integer_octets, IdentifierRule, Intege
 use Rattle.der.specs.Span.{Span, Bytes}
 use Rattle.der.specs.Follows.{IdentifierIs, IntegerIs}
 use Rattle.der.specs.declared.Cursor.{Cursor}
+use Rattle.der.specs.Element.{element, valued}
 use Rattle.der.specs.declared.Element.{Element}
-use Rattle.der.specs.declared.Element.TheVariants.{Found}
+use Rattle.der.specs.declared.Fault.{Fault}
 use Rattle.der.specs.declared.Integer.{Integer}
-use Rattle.der.specs.declared.Integer.TheVariants.{Value}
+use Rattle.std.specs.Prelude.{Err, Ok, Result}
 use Rattle.der.proofs.Choices.{by_test}
 use Rattle.der.proofs.Placed.{by_element, expected, expect_is}
 use Rattle.der.proofs.Octets.{integer_octets_lem, integer_below, integer_number, integer_rule}
@@ -26,9 +27,9 @@ use Rattle.der.proofs.Spans.{slice_span, bytes_take, bytes_drop}
 use Rattle.der.proofs.Header.{tag_form_lem, header_then, header_sound, header_next, header_complete}
 
 -- identifiers
-abbrev OfIdentifier : List ℕ → Cursor → Element → Type 0
-OfIdentifier s c (Element.Refused f) = Unit {0}
-OfIdentifier s c (Found t b n) = (expect_at identifier_tag s c ≡ Found t b n) × (identifier_body (bytes_of s b) ≡ true)
+abbrev OfIdentifier : List ℕ → Cursor → Result Element Fault → Type 0
+OfIdentifier s c (Err f) = Unit {0}
+OfIdentifier s c (Ok x) = (expect_at identifier_tag s c ≡ Ok (element x.tag x.body x.next)) × (identifier_body (bytes_of s x.body) ≡ true)
 
 identifier_of_lem : (s : List ℕ) (c : Cursor) → OfIdentifier s c (identifier_at s c)
 unfolding identifier_at
@@ -38,26 +39,26 @@ identifier_of_lem s c =
     (expect_at identifier_tag s c) refl
 
 -- an identifier that was accepted is an element that was found
-pub identified : (s : List ℕ) (c : Cursor) (w : Element) (t : ℕ) (b n : Cursor) → w ≡ identifier_at s c → w ≡ Found t b n
-    → element_at s c ≡ Found t b n
+pub identified : (s : List ℕ) (c : Cursor) (w : Result Element Fault) (t : ℕ) (b n : Cursor) → w ≡ identifier_at s c → w ≡ Ok (element t b n)
+    → element_at s c ≡ Ok (element t b n)
 identified s c w t b n p q =
     let o = rw (sym p ∙ q) at (identifier_of_lem s c) in
     (expected identifier_tag s c (expect_at identifier_tag s c) t b n refl o.0).1
 
 pub identifier_sound : (s : List ℕ) (c : Cursor) (t : ℕ) (b n : Cursor) → Bytes s
-    → identifier_at s c ≡ Found t b n → IdentifierIs s c t b n
+    → identifier_at s c ≡ Ok (element t b n) → IdentifierIs s c t b n
 identifier_sound s c t b n bs e =
     let p = rw e at (identifier_of_lem s c) in
     let q = expected identifier_tag s c (expect_at identifier_tag s c) t b n refl p.0 in
     record { tag = q.0; header = header_sound s c t b n bs q.1; rule = identifier_rule (bytes_of s b) p.1 }
 
-identifier_is : (s : List ℕ) (c b n : Cursor) → element_at s c ≡ Found identifier_tag b n → IdentifierRule (bytes_of s b)
-    → identifier_at s c ≡ Found identifier_tag b n
+identifier_is : (s : List ℕ) (c b n : Cursor) → element_at s c ≡ Ok (element identifier_tag b n) → IdentifierRule (bytes_of s b)
+    → identifier_at s c ≡ Ok (element identifier_tag b n)
 unfolding identifier_at
 identifier_is s c b n e r = rw (expect_is s c identifier_tag b n e, identifier_body_lem (bytes_of s b) r)
 
 pub identifier_complete : (s : List ℕ) (c : Cursor) (t : ℕ) (b n : Cursor) → IdentifierIs s c t b n
-    → identifier_at s c ≡ Found t b n
+    → identifier_at s c ≡ Ok (element t b n)
 identifier_complete s c t b n h =
     rw h.tag (identifier_is s c b n (rw h.tag at (header_complete s c t b n h.header)) h.rule)
 
@@ -65,17 +66,17 @@ identifier_complete s c t b n h =
 pub identifier_then : {P : Type 0} (s : List ℕ) (at e end : ℕ) (body : List ℕ) → IdentifierRule body
     → length body < length_bound
     → Span s at e (tlv identifier_tag body) → e ≤ end → end ≤ length s
-    → ((b : ℕ) → identifier_at s (cursor at end) ≡ Found identifier_tag (cursor b e) (cursor e end) → Span s b e body → P)
+    → ((b : ℕ) → identifier_at s (cursor at end) ≡ Ok (element identifier_tag (cursor b e) (cursor e end)) → Span s b e body → P)
     → P
 identifier_then s at e end body r small p h i k =
     header_then s at e end identifier_tag body (tag_form_lem identifier_tag refl refl) small p h i
     (λ b f q. k b (identifier_is s (cursor at end) (cursor b e) (cursor e end) f (rw (slice_span s b e body q) r)) q)
 
 -- integers
-abbrev OfInteger : List ℕ → Cursor → Integer → Type 0
-OfInteger s c (Integer.Refused f) = Unit {0}
-OfInteger s c (Value v n) =
-    (t : ℕ) × (b : Cursor) × (expect_at integer_tag s c ≡ Found t b n) × (integer_body s b ≡ true) × (v ≡ integer_value s b)
+abbrev OfInteger : List ℕ → Cursor → Result Integer Fault → Type 0
+OfInteger s c (Err f) = Unit {0}
+OfInteger s c (Ok x) =
+    (t : ℕ) × (b : Cursor) × (expect_at integer_tag s c ≡ Ok (element t b x.next)) × (integer_body s b ≡ true) × (x.value ≡ integer_value s b)
 
 integer_of : (s : List ℕ) (c : Cursor) → OfInteger s c (integer_at s c)
 unfolding integer_at
@@ -85,7 +86,7 @@ integer_of s c =
     (expect_at integer_tag s c) refl
 
 pub integer_sound : (s : List ℕ) (c : Cursor) (v : ℕ) (n : Cursor) → Bytes s
-    → integer_at s c ≡ Value v n → IntegerIs s c v n
+    → integer_at s c ≡ Ok (valued v n) → IntegerIs s c v n
 integer_sound s c v n bs e =
     let p = rw e at (integer_of s c) in
     let b = p.1 in
@@ -98,16 +99,16 @@ integer_sound s c v n bs e =
     let o = header_next s c p.0 b n d in
     record { small = rw value (integer_below (bytes_of s b) bytes r); whole = rw (q.0, octets) at o.0; moved = o.1 }
 
-integer_is : (s : List ℕ) (c b n : Cursor) → element_at s c ≡ Found integer_tag b n → b.end ≤ length s
+integer_is : (s : List ℕ) (c b n : Cursor) → element_at s c ≡ Ok (element integer_tag b n) → b.end ≤ length s
     → IntegerRule (bytes_of s b)
-    → integer_at s c ≡ Value (number (bytes_of s b)) n
+    → integer_at s c ≡ Ok (valued (number (bytes_of s b)) n)
 unfolding integer_at
 integer_is s c b n e i r = rw (expect_is s c integer_tag b n e, integer_body_of s b i r, integer_value_of s b i r)
 
 -- an INTEGER that is written is read
 pub integer_then : (s : List ℕ) (at e end v : ℕ) → v < integer_bound → Span s at e (tlv integer_tag (integer_octets v))
     → e ≤ end → end ≤ length s
-    → integer_at s (cursor at end) ≡ Value v (cursor e end)
+    → integer_at s (cursor at end) ≡ Ok (valued v (cursor e end))
 integer_then s at e end v small p h i =
     header_then s at e end integer_tag (integer_octets v) (tag_form_lem integer_tag refl refl)
     (omega (arith, (integer_rule v small).four)) p h i
@@ -116,7 +117,7 @@ integer_then s at e end v small p h i =
     integer_is s (cursor at end) (cursor b e) (cursor e end) f q.inside (rw r (integer_rule v small))
     ∙ rw (r, integer_number v))
 
-pub integer_complete : (s : List ℕ) (c : Cursor) (v : ℕ) (n : Cursor) → IntegerIs s c v n → integer_at s c ≡ Value v n
+pub integer_complete : (s : List ℕ) (c : Cursor) (v : ℕ) (n : Cursor) → IntegerIs s c v n → integer_at s c ≡ Ok (valued v n)
 integer_complete s c v n h =
     integer_then s c.at n.at c.end v h.small h.whole h.moved.within h.moved.inside
-    ∙ ap (Value v) (sym h.moved.next)
+    ∙ ap ((λ x0. Ok (valued v x0))) (sym h.moved.next)

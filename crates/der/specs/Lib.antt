@@ -9,7 +9,6 @@ pub mod Element
 pub mod Content
 pub mod Many
 pub mod Opaque
-pub mod Scan
 pub mod Report
 pub mod Octets
 pub mod Tree

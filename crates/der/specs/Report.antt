@@ -2,12 +2,10 @@
 use Rattle.std.specs.Prelude.{List, [], ◌∷◌, ℕ}
 use Rattle.der.specs.declared.Fault.{Fault}
 use Rattle.der.specs.declared.Cursor.{Cursor}
-use Rattle.der.specs.declared.Element.{Element}
-use Rattle.der.specs.declared.Element.TheVariants.{Found}
 use Rattle.der.specs.declared.Checked.{Checked}
-use Rattle.der.specs.declared.Checked.TheVariants.{Passed}
+use Rattle.der.specs.declared.Element.{Element}
 use Rattle.der.specs.declared.Integer.{Integer}
-use Rattle.der.specs.declared.Integer.TheVariants.{Value}
+use Rattle.std.specs.Prelude.{Err, Ok, Result}
 
 -- the number of a refusal, 0 where there is none; its offset, 0 where there is none; the values of
 -- what is no refusal
@@ -27,16 +25,16 @@ abbrev pub cursor_values : Cursor → List ℕ
 cursor_values c = c.at ∷ c.end ∷ []
 
 -- an element: its tag, its body from and to, what follows it from and to
-unfoldable pub element_report : Element → Report
-element_report (Found t b n) = passing (t ∷ b.at ∷ b.end ∷ n.at ∷ n.end ∷ [])
-element_report (Element.Refused f) = refusing f
+unfoldable pub element_report : Result Element Fault → Report
+element_report (Ok x) = passing (x.tag ∷ x.body.at ∷ x.body.end ∷ x.next.at ∷ x.next.end ∷ [])
+element_report (Err f) = refusing f
 
 -- a check: the number of elements, what follows them from and to
-unfoldable pub checked_report : Checked → Report
-checked_report (Passed m n) = passing (m ∷ n.at ∷ n.end ∷ [])
-checked_report (Checked.Refused f) = refusing f
+unfoldable pub checked_report : Result Checked Fault → Report
+checked_report (Ok x) = passing (x.count ∷ x.next.at ∷ x.next.end ∷ [])
+checked_report (Err f) = refusing f
 
 -- an INTEGER: its number, what follows it from and to
-unfoldable pub integer_report : Integer → Report
-integer_report (Value v n) = passing (v ∷ n.at ∷ n.end ∷ [])
-integer_report (Integer.Refused f) = refusing f
+unfoldable pub integer_report : Result Integer Fault → Report
+integer_report (Ok x) = passing (x.value ∷ x.next.at ∷ x.next.end ∷ [])
+integer_report (Err f) = refusing f

@@ -11,8 +11,9 @@ use Rattle.std.specs.Prelude.{if◌then◌else◌}
 use Rattle.der.specs.Element.{cursor, element_at}
 use Rattle.der.specs.declared.Fault.{Fault}
 use Rattle.der.specs.declared.Cursor.{Cursor}
+use Rattle.der.specs.Element.{element}
 use Rattle.der.specs.declared.Element.{Element}
-use Rattle.der.specs.declared.Element.TheVariants.{Found}
+use Rattle.std.specs.Prelude.{Err, Ok, Result}
 use Rattle.der.proofs.Choices.{by_eq}
 use Rattle.der.proofs.Placed.{found as found_at}
 use Rattle.range.specs.Range.{range, no_range}
@@ -38,7 +39,7 @@ unfolding elements_from
 run_end zero s end at h = refl
 run_end (suc fuel) s end at h = rw (le-ltb at end h)
 
-run_broken : (fuel : ℕ) (s : List ℕ) (end at : ℕ) (f : Fault) → element_at s (cursor at end) ≡ Element.Refused f
+run_broken : (fuel : ℕ) (s : List ℕ) (end at : ℕ) (f : Fault) → element_at s (cursor at end) ≡ Err f
     → elements_from fuel s end at ≡ []
 unfolding elements_from
 run_broken zero s end at f e = refl
@@ -49,7 +50,7 @@ run_broken (suc fuel) s end at f e = rw e (go (ltb at end))
     go false = refl
 
 pub run_more : (fuel : ℕ) (s : List ℕ) (end at t : ℕ) (b n : Cursor) → at < end
-    → element_at s (cursor at end) ≡ Found t b n
+    → element_at s (cursor at end) ≡ Ok (element t b n)
     → elements_from (suc fuel) s end at ≡ range at n.at ∷ elements_from fuel s end n.at
 unfolding elements_from
 run_more fuel s end at t b n h e = rw (lt-ltb at end h, e)
@@ -97,11 +98,11 @@ module _ (s : List ℕ) (i end start : ℕ) where
         none_left : (fuel : ℕ) → elements_from fuel s end at ≡ []
         none_left fuel = run_end fuel s end at h
 
-    module _ (h : at < end) (w : Element) (e : w ≡ element_at s (cursor at end)) where
-      pub walking_stops : (f : Fault) → w ≡ Element.Refused f → counts count found ≡ counted_of Whole i
+    module _ (h : at < end) (w : Result Element Fault) (e : w ≡ element_at s (cursor at end)) where
+      pub walking_stops : (f : Fault) → w ≡ Err f → counts count found ≡ counted_of Whole i
       walking_stops f q = all_seen (run_broken g.fuel s end at f (sym e ∙ q))
 
-      module _ (t : ℕ) (b n : Cursor) (q : w ≡ Found t b n) where
+      module _ (t : ℕ) (b n : Cursor) (q : w ≡ Ok (element t b n)) where
         -- the element ends past its own offset and within its parent
         ends_within : (at < n.at) × (n.at ≤ end)
         ends_within =

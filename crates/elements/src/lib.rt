@@ -9,7 +9,7 @@ use der::{Cursor, Element};
 use range::Range;
 
 // The number of elements in a range, and one of them.
-#[derive(Clone, Copy)]
+#[derive(Clone, Copy, Debug, PartialEq, Eq)]
 pub struct Counted {
     pub count: usize,
     pub element: Range,
@@ -19,10 +19,7 @@ pub struct Counted {
 fn chosen(n: usize, i: usize, found: Range, here: Range) -> Range
     ensures { result ≡ chosen_of n i found here }
 {
-    if n == i {
-        return here;
-    }
-    found
+    if n == i { here } else { found }
 }
 
 // The number of elements in a range, as in an attribute's values, and element i, whole; 0..0 where
@@ -33,34 +30,20 @@ pub fn element(bytes: &[u8], values: Range, i: usize) -> Counted
 {
     let end = values.end as usize;
     let mut at = values.start as usize;
-    let mut count: usize = 0;
+    let mut count = 0;
     let mut found = Range::EMPTY;
     while at < end {
         let here = Cursor { at, end };
-        match here.element(bytes) {
-            Element::Refused(_) => {
-                return Counted {
-                    count,
-                    element: found,
-                };
-            }
-            Element::Found {
-                tag: _,
-                body: _,
-                next,
-            } => {
-                let stop = next.at;
-                let start16 = at as u16;
-                let stop16 = stop as u16;
-                let met = Range {
-                    start: start16,
-                    end: stop16,
-                };
-                found = chosen(count, i, found, met);
-                count = count + 1;
-                at = stop;
-            }
-        }
+        let Ok(Element { next, .. }) = here.element(bytes) else {
+            break;
+        };
+        let met = Range {
+            start: at as u16,
+            end: next.at as u16,
+        };
+        found = chosen(count, i, found, met);
+        count += 1;
+        at = next.at;
     }
     Counted {
         count,

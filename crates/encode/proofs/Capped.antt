@@ -2,7 +2,7 @@
 -- the rules by which `search` follows the code's sums.
 use mathlib.Core.Path.{◌≡◌, refl, sym, ◌∙◌}
 use mathlib.Core.List.{List, ◌++◌}
-use Prim.Native.Nat.{ℕ, ◌+◌, ◌≤◌, ◌<◌}
+use Prim.Native.Nat.{ℕ, ◌+◌, ◌≤◌, ◌<◌, min}
 use native.Mathlib.Omega.{arith}
 use lib.ListN.{length, length-append}
 use borrow.Author.Tests.{le-leb, lt-leb}
@@ -127,18 +127,12 @@ pub ruleset sizing = (
 
 -- ---- the leaves, as the code computes them
 
-module _ (a b : ℕ) where
-  pub first_past : file_bytes < a → file_bytes + 1 ≡ capped (a + b)
-  first_past h = sym (capped_past (a + b) (omega (arith, h)))
-
-  pub second_past : file_bytes < b → file_bytes + 1 ≡ capped (a + b)
-  second_past h = sym (capped_past (a + b) (omega (arith, h)))
-
-  pub sum_past : file_bytes < a + b → file_bytes + 1 ≡ capped (a + b)
-  sum_past h = sym (capped_past (a + b) h)
-
-  pub sum_small : a + b ≤ file_bytes → a + b ≡ capped (a + b)
-  sum_small h = sym (capped_small (a + b) h)
+-- a sum that stops at the greatest number, and is then cut
+pub sum_cut : (a b s r : ℕ) → s ≡ min (a + b) 18446744073709551615 → r ≡ min s 65536 → r ≡ capped (a + b)
+sum_cut a b s r p q =
+    by_size (a + b)
+    (λ h e. let z : r ≡ a + b = omega (arith, p, q, h) in z ∙ sym e)
+    (λ h e. let z : r ≡ file_bytes + 1 = omega (arith, p, q, h) in z ∙ sym e)
 
 module _ (n : ℕ) where
   pub element_short : n < 128 → n + 2 ≡ capped (element_size n)

@@ -14,9 +14,7 @@ pub(crate) fn count(n: usize) -> usize
     if n < 256 {
         return 1;
     }
-    let high = n / 256;
-    let more = count(high);
-    more + 1
+    count(n / 256) + 1
 }
 
 // The first of these digits.
@@ -26,6 +24,5 @@ pub(crate) fn first(n: usize) -> u8
     if n < 256 {
         return n as u8;
     }
-    let high = n / 256;
-    first(high)
+    first(n / 256)
 }

@@ -10,30 +10,18 @@ pub const PAST: usize = 65536;
 pub fn sum(a: usize, b: usize) -> usize
     ensures { result ≡ capped (a + b) }
 {
-    if buffer::FILE_BYTES < a {
-        return PAST;
-    }
-    if buffer::FILE_BYTES < b {
-        return PAST;
-    }
-    let both = a + b;
-    if buffer::FILE_BYTES < both {
-        return PAST;
-    }
-    both
+    a.saturating_add(b).min(PAST)
 }
 
 // An element whose body has n bytes.
 pub fn element(n: usize) -> usize
     ensures { result ≡ capped (element_size n) }
 {
-    if n < 0x80 {
-        return n + 2;
+    match n {
+        0..=0x7F => n + 2,
+        0x80..=0xFF => n + 3,
+        _ => sum(n, 4),
     }
-    if n < 256 {
-        return n + 3;
-    }
-    sum(n, 4)
 }
 
 // The body of the INTEGER n.
@@ -43,7 +31,8 @@ pub fn integer(n: u32) -> usize
     let wide = n as usize;
     let octets = crate::count(wide);
     if crate::first(wide) < 0x80 {
-        return octets;
+        octets
+    } else {
+        octets + 1
     }
-    octets + 1
 }

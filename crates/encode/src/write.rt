@@ -16,8 +16,7 @@ fn digits(out: &mut [u8], at: usize, n: usize) -> usize
     if n < 256 {
         return write::byte(out, at, low);
     }
-    let high = n / 256;
-    let next = digits(out, at, high);
+    let next = digits(out, at, n / 256);
     write::byte(out, next, low)
 }
 
@@ -27,12 +26,10 @@ pub fn header(out: &mut [u8], at: usize, tag: u8, n: usize) -> usize
 {
     let second = write::byte(out, at, tag);
     if n < 0x80 {
-        let short = n as u8;
-        return write::byte(out, second, short);
+        return write::byte(out, second, n as u8);
     }
     let form = 0x80 + crate::count(n);
-    let long = form as u8;
-    let third = write::byte(out, second, long);
+    let third = write::byte(out, second, form as u8);
     digits(out, third, n)
 }
 
@@ -66,7 +63,6 @@ fn octets(out: &mut [u8], at: usize, n: usize) -> usize
 pub fn integer(out: &mut [u8], at: usize, n: u32) -> usize
     ensures { Placed out.old at (integer n) out.new result }
 {
-    let wide = n as usize;
     let body = header(out, at, der::INTEGER, crate::size::integer(n));
-    octets(out, body, wide)
+    octets(out, body, n as usize)
 }

@@ -1,3 +1,2 @@
--- The rules by which the functions follow the definitions.
+-- The numbers, each with its name.
 pub mod Numbered
-pub mod Rules

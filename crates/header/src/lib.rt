@@ -5,6 +5,7 @@
 ghost use Rattle.std.specs.Prelude.{◌≡◌, ◌+◌, ◌^◌, ◌<◌};
 ghost use Rattle.header.specs.Header.{arrived_at, entering, on_tag, on_length, on_one, on_first};
 ghost use Rattle.header.specs.Header.{on_second, moved};
+ghost use Rattle.header.specs.declared.Move.TheVariants.{Refuse};
 
 // The numbers of the refusals that only uploads have (Rules 5.19 and 5.20): more bytes than were
 // announced, and fewer.
@@ -17,7 +18,7 @@ pub const UPLOAD_LEVELS: u8 = 20;
 
 // What the next byte is. `at` is the offset of the tag of its element, and of the byte itself in a
 // body.
-#[derive(Clone, Copy)]
+#[derive(Clone, Copy, Debug, PartialEq, Eq)]
 pub enum Due {
     // a tag
     Tag { at: u16 },
@@ -39,7 +40,7 @@ pub enum Due {
 // What a byte does: refuses the element at `at`, after so many bytes, waits for the next byte of
 // a header, enters the body of an element, passes a byte of a body, comes after the last one, or
 // changes nothing.
-#[derive(Clone, Copy)]
+#[derive(Clone, Copy, Debug, PartialEq, Eq)]
 pub enum Move {
     Refuse {
         number: u8,
@@ -61,28 +62,27 @@ pub enum Move {
     Stay,
 }
 
+// The element at `at` is refused, after so many bytes.
+fn refuse(number: u8, at: u16, after: u32) -> Move
+    ensures { result ≡ Refuse number at after }
+{
+    Move::Refuse { number, at, after }
+}
+
 // The header of the element at `at` is complete.
 fn entering(at: u16, tag: u8, start: usize, size: usize, end: u16) -> Move
     requires { (start < 2 ^ 32) × (size < 2 ^ 32) }
     ensures { result ≡ entering at tag start size end }
 {
-    let after = start as u32;
     let stop = start + size;
-    let wide = end as usize;
-    if wide < stop {
-        return Move::Refuse {
-            number: der::OVERRUN,
-            at,
-            after,
-        };
+    if (end as usize) < stop {
+        return refuse(der::OVERRUN, at, start as u32);
     }
-    let start16 = start as u16;
-    let stop16 = stop as u16;
     Move::Enter {
         at,
         tag,
-        start: start16,
-        stop: stop16,
+        start: start as u16,
+        stop: stop as u16,
     }
 }
 
@@ -90,29 +90,13 @@ fn entering(at: u16, tag: u8, start: usize, size: usize, end: u16) -> Move
 fn on_tag(at: u16, b: u8, end: u16) -> Move
     ensures { result ≡ on_tag at b end }
 {
-    let after = at as u32 + 1;
-    if b == 0 {
-        return Move::Refuse {
-            number: der::TAG_FORM,
-            at,
-            after,
-        };
-    }
-    if b % 0x20 == 0x1F {
-        return Move::Refuse {
-            number: der::TAG_FORM,
-            at,
-            after,
-        };
-    }
     let next = at as usize + 1;
-    let wide = end as usize;
-    if wide <= next {
-        return Move::Refuse {
-            number: der::OVERRUN,
-            at,
-            after,
-        };
+    let after = at as u32 + 1;
+    if b == 0 || b % 0x20 == 0x1F {
+        return refuse(der::TAG_FORM, at, after);
+    }
+    if end as usize <= next {
+        return refuse(der::OVERRUN, at, after);
     }
     Move::Await(Due::Length { at, tag: b })
 }
@@ -121,39 +105,17 @@ fn on_tag(at: u16, b: u8, end: u16) -> Move
 fn on_length(at: u16, tag: u8, b: u8, end: u16) -> Move
     ensures { result ≡ on_length at tag b end }
 {
-    let after = at as u32 + 2;
-    let offset = at as usize;
+    let second = at as usize + 2;
+    let third = at as usize + 3;
     let wide = end as usize;
-    let second = offset + 2;
-    let third = offset + 3;
-    if b < 0x80 {
-        let size = b as usize;
-        return entering(at, tag, second, size, end);
-    }
-    if b == 0x81 {
-        if wide <= second {
-            return Move::Refuse {
-                number: der::OVERRUN,
-                at,
-                after,
-            };
-        }
-        return Move::Await(Due::One { at, tag });
-    }
-    if b == 0x82 {
-        if wide <= third {
-            return Move::Refuse {
-                number: der::OVERRUN,
-                at,
-                after,
-            };
-        }
-        return Move::Await(Due::First { at, tag });
-    }
-    Move::Refuse {
-        number: der::LENGTH_FORM,
-        at,
-        after,
+    let after = at as u32 + 2;
+    match b {
+        0..=0x7F => entering(at, tag, second, b as usize, end),
+        0x81 if wide <= second => refuse(der::OVERRUN, at, after),
+        0x81 => Move::Await(Due::One { at, tag }),
+        0x82 if wide <= third => refuse(der::OVERRUN, at, after),
+        0x82 => Move::Await(Due::First { at, tag }),
+        _ => refuse(der::LENGTH_FORM, at, after),
     }
 }
 
@@ -161,17 +123,10 @@ fn on_length(at: u16, tag: u8, b: u8, end: u16) -> Move
 fn on_one(at: u16, tag: u8, b: u8, end: u16) -> Move
     ensures { result ≡ on_one at tag b end }
 {
-    let after = at as u32 + 3;
     if b < 0x80 {
-        return Move::Refuse {
-            number: der::LENGTH_FORM,
-            at,
-            after,
-        };
+        return refuse(der::LENGTH_FORM, at, at as u32 + 3);
     }
-    let start = at as usize + 3;
-    let size = b as usize;
-    entering(at, tag, start, size, end)
+    entering(at, tag, at as usize + 3, b as usize, end)
 }
 
 // The next byte is the first one after 82. The second can make the length greater by 255 at most:
@@ -182,11 +137,7 @@ fn on_first(at: u16, tag: u8, b: u8, end: u16, deep: bool) -> Move
 {
     let after = at as u32 + 3;
     if b == 0 {
-        return Move::Refuse {
-            number: der::LENGTH_FORM,
-            at,
-            after,
-        };
+        return refuse(der::LENGTH_FORM, at, after);
     }
     let wide = end as usize;
     let start = at as usize + 4;
@@ -194,20 +145,10 @@ fn on_first(at: u16, tag: u8, b: u8, end: u16, deep: bool) -> Move
     let least = start + high * 256;
     let most = least + 255;
     if wide < least {
-        return Move::Refuse {
-            number: der::OVERRUN,
-            at,
-            after,
-        };
+        return refuse(der::OVERRUN, at, after);
     }
-    if deep {
-        if most <= wide {
-            return Move::Refuse {
-                number: der::TOO_MANY,
-                at,
-                after,
-            };
-        }
+    if deep && most <= wide {
+        return refuse(der::TOO_MANY, at, after);
     }
     Move::Await(Due::Second { at, tag, first: b })
 }
@@ -216,11 +157,8 @@ fn on_first(at: u16, tag: u8, b: u8, end: u16, deep: bool) -> Move
 fn on_second(at: u16, tag: u8, first: u8, b: u8, end: u16) -> Move
     ensures { result ≡ on_second at tag first b end }
 {
-    let start = at as usize + 4;
-    let high = first as usize;
-    let low = b as usize;
-    let size = high * 256 + low;
-    entering(at, tag, start, size, end)
+    let size = first as usize * 256 + b as usize;
+    entering(at, tag, at as usize + 4, size, end)
 }
 
 // What the byte b does, if `due` is due, the parent ends at `end`, and one element more would be
@@ -236,11 +174,7 @@ pub fn moved(due: Due, b: u8, end: u16, deep: bool) -> Move
         Due::Second { at, tag, first } => on_second(at, tag, first, b, end),
         Due::Body { at, end: stop } => Move::Pass { at, end: stop },
         Due::Nothing => Move::Surplus,
-        Due::Refused {
-            number: _,
-            offset: _,
-            after: _,
-        } => Move::Stay,
+        Due::Refused { .. } => Move::Stay,
     }
 }
 
@@ -249,21 +183,11 @@ pub fn arrived(due: Due, total: u16) -> u32
     ensures { result ≡ arrived_at due total }
 {
     match due {
-        Due::Tag { at } => at as u32,
-        Due::Length { at, tag: _ } => at as u32 + 1,
-        Due::One { at, tag: _ } => at as u32 + 2,
-        Due::First { at, tag: _ } => at as u32 + 2,
-        Due::Second {
-            at,
-            tag: _,
-            first: _,
-        } => at as u32 + 3,
-        Due::Body { at, end: _ } => at as u32,
+        Due::Tag { at } | Due::Body { at, .. } => at as u32,
+        Due::Length { at, .. } => at as u32 + 1,
+        Due::One { at, .. } | Due::First { at, .. } => at as u32 + 2,
+        Due::Second { at, .. } => at as u32 + 3,
         Due::Nothing => total as u32,
-        Due::Refused {
-            number: _,
-            offset: _,
-            after,
-        } => after,
+        Due::Refused { after, .. } => after,
     }
 }

@@ -1,6 +1,6 @@
 -- The identity rows of a table, the answers of the call for a key's certificate, and both by the
 -- table's reading.
-use mathlib.Core.Bool.{true}
+use mathlib.Core.Bool.{Bool, true, false}
 use mathlib.Core.Logic.{◌↔◌, ◌⊎◌, inl, inr}
 use mathlib.Core.Path.{◌≡◌, refl, sym, ◌∙◌, ap}
 use mathlib.Core.List.{List, map}
@@ -17,7 +17,8 @@ use Rattle.pkcs12.specs.Numbers.{bag_rows, no_row}
 use Rattle.pairing.specs.Numbers.{no_certificate, more_certificates}
 use Rattle.buffer.specs.Numbers.{not_sound}
 use Rattle.pkcs12.specs.Table.{no_bag, padded, content_in, bag_shown}
-use Rattle.range.specs.Range.{bytes_in}
+use Rattle.range.specs.Range.{no_range, bytes_in}
+use Rattle.range.specs.declared.Range.{Range}
 use Rattle.pkcs12.specs.Sound.{Sound, Lies}
 use Rattle.pkcs12.specs.Written.{file_of, on_file}
 use Rattle.pkcs12.specs.declared.row.Parts.{Parts}
@@ -26,14 +27,18 @@ use Rattle.pkcs12.specs.declared.kind.BagKind.TheVariants.{Key, ShroudedKey, Cer
 use Rattle.pkcs12.specs.declared.table.Table.{Table}
 use Rattle.attributes.specs.Own.{set_in_safes, listed}
 use Rattle.pairing.specs.Pairs.{no_identity, refused_by, paired}
+use Rattle.pairing.specs.declared.IdentityRow.{IdentityRow}
 use Rattle.pairing.specs.Only.{Matches, IdsLie, IsKey, Answered, answer_11}
-use Rattle.pairing.specs.declared.Paired.{Paired}
+use Rattle.der.specs.declared.Fault.{Fault}
+use Rattle.std.specs.Prelude.{Err, None, Ok, Option as Maybe, Result, Some, is_some}
+use Rattle.std.specs.Prelude.{if◌then◌else◌}
+use Rattle.std.specs.Option.{unwrap_or}
 use Rattle.pairing.proofs.Theorems.{only_certificate, five_answers, refused_11_iff, refused_12_iff}
 use Rattle.pairing.proofs.Theorems.{refused_13_iff, refused_14_iff}
-use Rattle.identities.specs.Identities.{identity_of, first_of, identities_of, identity_rows, certificate_for}
-use Rattle.identities.specs.Ids.{Shows, id_in_row, no_bag_value, kind_of_content, kind_in, KeyBag, Certifies}
+use Rattle.identities.specs.Identities.{id_of, identity_of, first_of, identities_of, identity_rows, certificate_for}
+use Rattle.identities.specs.Ids.{Holds, Shows, id_in_row, no_bag_value, kind_of_content, kind_in, KeyBag, Certifies}
 use Rattle.identities.proofs.Fills.{first_length, first_at_lem}
-use Rattle.identities.proofs.Ids.{id_lies_lem, id_of_bag}
+use Rattle.identities.proofs.Ids.{IfLies, id_lies_if, id_of_bag}
 use Rattle.attributes.proofs.Shown.{by_file, shown_bags}
 
 -- ---- the rows
@@ -82,7 +87,11 @@ module _ (t : Table) (s : List ℕ) where
   -- every id that is there lies in the bytes
   row_lies : (j : ℕ) → (identity_of t s j).has_id ≡ true → Lies s (identity_of t s j).id
   unfolding identity_of
-  row_lies j = id_lies_lem t s j
+  row_lies j = go (id_of t s j) (id_lies_if t s j)
+    where
+      go : (i : Maybe Range) → IfLies s i → is_some i ≡ true → Lies s (unwrap_or i no_range)
+      go None h e = never e
+      go (Some r) h e = h
 
   pub ids_lie : IdsLie s (identity_rows t s)
   unfolding identity_rows
@@ -95,9 +104,9 @@ module _ (t : Table) (s : List ℕ) where
 -- ---- the answers
 
 -- an answer by number: a refusal is one more than its number
-abbrev code : Paired → ℕ
-code (Paired.Certificate j) = 0
-code (Paired.Refused f) = 1 + f.number
+abbrev code : Result ℕ Fault → ℕ
+code (Ok j) = 0
+code (Err f) = 1 + f.number
 
 module _ (t : Table) (s : List ℕ) (k : ℕ) where
   pub certificate_answers : Answered (certificate_for t s k)
@@ -109,7 +118,7 @@ module _ (t : Table) (s : List ℕ) (k : ℕ) where
       go (some f) = five_answers s (identity_rows t s) k
 
   module _ (b : Bytes s) where
-    by_certificate : (P : Paired → Type 0) → ((Sound t s → ⊥) → P (refused_by not_sound))
+    by_certificate : (P : Result ℕ Fault → Type 0) → ((Sound t s → ⊥) → P (refused_by not_sound))
         → (Sound t s → P (paired s (identity_rows t s) k)) → P (certificate_for t s k)
     unfolding certificate_for
     by_certificate P bad good = by_file P t s b _ _ bad (λ o f. good o)
@@ -122,7 +131,7 @@ module _ (t : Table) (s : List ℕ) (k : ℕ) where
     )
 
     -- another answer than 11 is returned exactly if the table is sound and pairing returns it
-    given : (r : Paired) (X : Type 0) → (refused_by not_sound ≡ r → ⊥)
+    given : (r : Result ℕ Fault) (X : Type 0) → (refused_by not_sound ≡ r → ⊥)
         → (Sound t s → paired s (identity_rows t s) k ≡ r → X)
         → (X → Sound t s × (paired s (identity_rows t s) k ≡ r)) → certificate_for t s k ≡ r ↔ X
     given r X other p q = (
@@ -130,11 +139,11 @@ module _ (t : Table) (s : List ℕ) (k : ℕ) where
       λ x. by_certificate (λ v. v ≡ r) (λ h. absurd (h (q x).0)) (λ o. (q x).1),
     )
 
-    pub certificate_iff : (j : ℕ) → certificate_for t s k ≡ Paired.Certificate j
+    pub certificate_iff : (j : ℕ) → certificate_for t s k ≡ Ok j
         ↔ (Sound t s × IsKey (identity_rows t s) k × Matches s (identity_rows t s) k j
         × ((i : ℕ) → Matches s (identity_rows t s) k i → i ≡ j))
     certificate_iff j =
-        given (Paired.Certificate j) _ (λ e. omega (arith, ap code e))
+        given (Ok j) _ (λ e. omega (arith, ap code e))
         (λ o e. let p = (only_certificate s (identity_rows t s) k j).0 e in (o, p.1, p.2, p.3))
         (λ x. (x.0, (only_certificate s (identity_rows t s) k j).1 (ids_lie t s, x.1, x.2, x.3)))
 
@@ -159,6 +168,23 @@ module _ (t : Table) (s : List ℕ) (k : ℕ) where
         (λ x. (x.0, (refused_14_iff s (identity_rows t s) k).1 (ids_lie t s, x.1, x.2)))
 
 -- ---- by the reading
+
+-- the id of a row that was made of an id is that id
+row_shows : (i : Maybe Range) → (if is_some i then Some (unwrap_or i no_range) else None) ≡ i
+row_shows None = refl
+row_shows (Some r) = refl
+
+-- the id of a row is there if the row says so
+module _ (s : List ℕ) (r : IdentityRow) (x : List ℕ) where
+  holds : r.has_id ≡ true → bytes_in s r.id ≡ x → Holds s (id_in_row r) x
+  holds e q = rw e q
+
+  held : Holds s (id_in_row r) x → (r.has_id ≡ true) × (bytes_in s r.id ≡ x)
+  held = go r.has_id
+    where
+      go : (u : Bool) → Holds s (if u then Some r.id else None) x → (u ≡ true) × (bytes_in s r.id ≡ x)
+      go true h = (refl, h)
+      go false h = absurd h
 
 -- the kind that a row's content shows is the row's
 kind_shown : (s : List ℕ) (k : BagKind) (p : Parts) → kind_of_content (content_in s k p) ≡ k
@@ -219,7 +245,7 @@ module _ (t : Table) (s : List ℕ) (o : Sound t s) where
     -- the id in a row is that of its bag
     pub identity_id : (n : ℕ) → Shows s (id_in_row (identity_of t s n)) (listed (set_in_safes n o.reading.safes))
     unfolding identity_of
-    identity_id n = id_of_bag t s n b o
+    identity_id n = rw (row_shows (id_of t s n)) (id_of_bag t s n b o)
 
     row_id : (n : ℕ) → n < t.bag_count
         → Shows s (id_in_row (get_or (identity_rows t s) n no_identity)) (listed (set_in_safes n o.reading.safes))
@@ -233,13 +259,16 @@ module _ (t : Table) (s : List ℕ) (o : Sound t s) where
             record {
               certificate = c;
               id = bytes_in s (get_or (identity_rows t s) k no_identity).id;
-              of_key = (row_id k (key_counted k key) _).0 (m.key_id, refl);
-              of_certificate = (row_id j (certificate_counted j c) _).0 (m.row_id, sym m.equal);
+              of_key = (row_id k (key_counted k key) _).0
+                  (holds s (get_or (identity_rows t s) k no_identity) _ m.key_id refl);
+              of_certificate = (row_id j (certificate_counted j c) _).0
+                  (holds s (get_or (identity_rows t s) j no_identity) _ m.row_id (sym m.equal));
             },
         λ y.
             let h : j < t.bag_count = certificate_counted j y.certificate in
-            let p = (row_id k (key_counted k key) y.id).1 y.of_key in
-            let q = (row_id j h y.id).1 y.of_certificate in
+            let p = held s (get_or (identity_rows t s) k no_identity) y.id
+            ((row_id k (key_counted k key) y.id).1 y.of_key) in
+            let q = held s (get_or (identity_rows t s) j no_identity) y.id ((row_id j h y.id).1 y.of_certificate) in
             record {
               there = omega (arith, o.bag_count, rows_length t s);
               certificate = kind_of_bag j ∙ y.certificate;
@@ -250,7 +279,7 @@ module _ (t : Table) (s : List ℕ) (o : Sound t s) where
       )
 
 pub certificate_by_reading : (t : Table) (s : List ℕ) (k : ℕ) → Bytes s → (o : Sound t s) → (j : ℕ)
-    → certificate_for t s k ≡ Paired.Certificate j
+    → certificate_for t s k ≡ Ok j
     ↔ (KeyBag o.reading.safes k × Certifies o.reading.safes k j
     × ((i : ℕ) → Certifies o.reading.safes k i → i ≡ j))
 certificate_by_reading t s k b o j = (

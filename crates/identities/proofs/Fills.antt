@@ -1,33 +1,30 @@
 -- Rows made one by one: collected in an array, or stored at the front of a caller's rows; and what
 -- filling comes to.
 use mathlib.Core.Path.{◌≡◌, refl, sym, ◌∙◌, ap}
-use mathlib.Core.Bool.{Bool, true, false}
-use mathlib.Core.List.{List, [], ◌∷◌, ◌++◌, append_assoc}
+use mathlib.Core.Bool.{true, false}
+use mathlib.Core.List.{List, [], ◌∷◌, ◌++◌}
 use mathlib.Core.Option.{Option, some}
 use mathlib.Core.Option as option
 use Prim.Native.Nat.{ℕ, zero, suc, ◌+◌, ◌≤◌, ◌<◌, min}
 use native.Mathlib.Numerals.{add-one}
 use native.Mathlib.Omega.{arith}
-use borrow.Author.Tests.{leb-true, ltb-false}
+use borrow.Author.Tests.{leb-true}
 use lib.Dec.{leb, ltb}
-use lib.ListN.{length, get_or, set, drop, length-append, length-drop, get_or-append}
-use lib.Seq.{drop-cons, get_or_at, set-append_seam}
+use lib.ListN.{length, get_or, set, take, drop, length-append, get_or-append}
+use lib.Seq.{get_or_at, take_at}
 use Rattle.std.specs.Prelude.{if◌then◌else◌}
-use Rattle.der.proofs.Choices.{never, by_test, either}
+use Rattle.der.proofs.Choices.{never, by_lt, by_test, either}
 use Rattle.pkcs12.specs.Numbers.{safe_rows, bag_rows}
 use Rattle.buffer.specs.Numbers.{not_sound, short_buffer}
 use Rattle.pkcs12.specs.Table.{padded, rows_in, reading_of}
 use Rattle.pkcs12.specs.Checks.{counts_fit, rows_test, keeps_rules}
 use Rattle.pkcs12.specs.Written.{written_as, file_of, on_file}
 use Rattle.pkcs12.specs.declared.table.Table.{Table}
-use Rattle.buffer.specs.declared.Written.{Written}
-use Rattle.buffer.specs.declared.Written.TheVariants.{Length}
 use Rattle.pkcs12.proofs.Stored.{stored}
 use Rattle.pairing.specs.Pairs.{no_identity}
 use Rattle.pairing.specs.declared.IdentityRow.{IdentityRow}
 use Rattle.identities.specs.Identities.{first_of, identity_of, identities_of, identity_rows}
-use Rattle.identities.specs.Filling.{Filled, refusal, success, fill_of, filling_as, refused_filling, filling_of}
-use Rattle.identities.specs.declared.Filling.{Filling}
+use Rattle.identities.specs.Filling.{Filled, refusal, success, fill_of}
 
 -- ---- the first n of what f numbers
 
@@ -87,38 +84,6 @@ module _ (t : Table) (s : List ℕ) (end : ℕ) where
     unfolding identity_rows
     collect_end h = let e : i ≡ min t.bag_count bag_rows = omega (arith, g.within, g.due) in g.so_far ∙ rw e
 
--- ---- storing rows at the front of others
-
--- the first i of `rows` in place of the first i of `out`
-unfoldable pub stored_to : List IdentityRow → List IdentityRow → ℕ → List IdentityRow
-stored_to rows out i = first_of (λ j. get_or rows j no_identity) i ++ drop i out
-
-set_at : {A : Type 0} (xs : List A) (y : A) (ys : List A) (v : A) (n : ℕ) → length xs ≡ n
-    → set (xs ++ (y ∷ ys)) n v ≡ xs ++ (v ∷ ys)
-set_at xs y ys v n e = rw (← e) (set-append_seam xs y ys v)
-
-module _ (rows out : List IdentityRow) where
-  pub stored_none : stored_to rows out 0 ≡ out
-  unfolding stored_to first_of
-  stored_none = refl
-
-  pub stored_more : (i : ℕ) → i < length out
-      → set (stored_to rows out i) i (get_or rows i no_identity) ≡ stored_to rows out (i + 1)
-  unfolding stored_to first_of
-  stored_more i h =
-      ap (λ (l : List IdentityRow). set (first_of (λ j. get_or rows j no_identity) i ++ l) i (get_or rows i no_identity))
-      (drop-cons out i no_identity h)
-      ∙ set_at (first_of (λ j. get_or rows j no_identity) i) (get_or out i no_identity) (drop (suc i) out)
-      (get_or rows i no_identity) i (first_length (λ j. get_or rows j no_identity) i)
-      ∙ sym (append_assoc (first_of (λ j. get_or rows j no_identity) i) (get_or rows i no_identity ∷ []) (drop (suc i) out))
-      ∙ ap (λ (k : ℕ). first_of (λ j. get_or rows j no_identity) k ++ drop k out) (sym (add-one i))
-
-  pub stored_length : (i : ℕ) → i ≤ length out → length (stored_to rows out i) ≡ length out
-  unfolding stored_to
-  stored_length i h =
-      length-append (first_of (λ j. get_or rows j no_identity) i) (drop i out)
-      ∙ omega (arith, first_length (λ j. get_or rows j no_identity) i, length-drop i out)
-
 -- ---- filling
 
 -- a table that has a file has no more bags than a table can
@@ -145,61 +110,31 @@ bags_fit t s f =
 
 module _ (t : Table) (s : List ℕ) (out : List IdentityRow) where
   -- what holds of each outcome holds of the one that filling has
-  pub by_filling : (P : Filling → Filled → Type 0)
-      → ((n : ℕ) → P (refused_filling n) (refusal n out))
-      → (t.bag_count ≤ length out → t.bag_count ≤ bag_rows
-      → P (filling_as (Length t.bag_count) t.bag_count (identity_rows t s)) (success (identities_of t s) out))
-      → P (filling_of t s (length out)) (fill_of t s out)
-  unfolding filling_of fill_of
+  pub by_filling : (P : Filled → Type 0)
+      → ((n : ℕ) → P (refusal n out))
+      → (t.bag_count ≤ length out → t.bag_count ≤ bag_rows → P (success (identities_of t s) out))
+      → P (fill_of t s out)
+  unfolding fill_of
   by_filling P bad good = go (file_of t s) (bags_fit t s)
     where
       go : (u : Option (List ℕ)) → ((f : List ℕ) → u ≡ some f → t.bag_count ≤ bag_rows)
           → P
-          (on_file u (refused_filling not_sound)
-          (λ f. if ltb (length out) t.bag_count then refused_filling short_buffer
-          else filling_as (Length t.bag_count) t.bag_count (identity_rows t s)))
-          (on_file u (refusal not_sound out) (λ f. if ltb (length out) t.bag_count then refusal short_buffer out else success (identities_of t s) out))
+          (on_file u (refusal not_sound out)
+          (λ f. if ltb (length out) t.bag_count then refusal short_buffer out else success (identities_of t s) out))
       go option.none h = bad not_sound
-      go (some f) h = two (ltb (length out) t.bag_count) (ltb-false (length out) t.bag_count)
-        where
-          two : (b : Bool) → (b ≡ false → t.bag_count ≤ length out)
-              → P
-              (if b then refused_filling short_buffer else filling_as (Length t.bag_count) t.bag_count (identity_rows t s))
-              (if b then refusal short_buffer out else success (identities_of t s) out)
-          two true k = bad short_buffer
-          two false k = good (k refl) (h f refl)
+      go (some f) h =
+          by_lt P _ _ (length out) t.bag_count (λ l. bad short_buffer) (λ l. good l (h f refl))
 
-  -- no more rows are stored than the caller has
-  pub fill_count : (filling_of t s (length out)).count ≤ length out
-  unfolding refused_filling
-  fill_count = by_filling (λ p q. p.count ≤ length out) (λ n. omega arith) (λ h k. h)
+  -- as many rows are collected as there are bags
+  pub all_rows : t.bag_count ≤ bag_rows → length (identities_of t s) ≡ t.bag_count
+  all_rows h = first_length (identity_of t s) _ ∙ omega (arith, h)
 
-  all_bags : t.bag_count ≤ bag_rows → min t.bag_count bag_rows ≡ t.bag_count
-  all_bags k = omega (arith, k)
-
-  pub fill_answer : (filling_of t s (length out)).answer ≡ (fill_of t s out).answer
-  unfolding refused_filling
-  fill_answer =
-      by_filling (λ p q. p.answer ≡ q.answer) (λ n. refl)
-      (λ h k. ap {B = Written} Length (sym (first_length (identity_of t s) (min t.bag_count bag_rows) ∙ all_bags k)))
-
-  -- the rows that were collected, stored one by one
-  all_stored : t.bag_count ≤ bag_rows
-      → stored_to (identity_rows t s) out t.bag_count ≡ (success (identities_of t s) out).rows
-  unfolding stored_to identity_rows
-  all_stored k =
-      rw (all_bags k)
-      (ap {B = List IdentityRow} (λ (l : List IdentityRow). l ++ drop t.bag_count out)
-      (first_same (identity_of t s)
-      (λ j. get_or (padded bag_rows no_identity (first_of (identity_of t s) t.bag_count)) j no_identity) t.bag_count
-      (λ i h. get_or-append (first_of (identity_of t s) t.bag_count) _ no_identity i
-      (omega (arith, first_length (identity_of t s) t.bag_count))
-      ∙ first_at_lem (identity_of t s) t.bag_count i no_identity h))
-      ∙ ap (λ (m : ℕ). first_of (identity_of t s) t.bag_count ++ drop m out)
-      (sym (first_length (identity_of t s) t.bag_count)))
-
-  pub fill_rows : stored_to (filling_of t s (length out)).rows out
-      (filling_of t s (length out)).count ≡ (fill_of t s out).rows
-  unfolding refused_filling
-  fill_rows = by_filling (λ p q. stored_to p.rows out p.count ≡ q.rows)
-      (λ n. stored_none _ out) (λ h k. all_stored k)
+  -- the rows that were collected, in front of those behind them
+  pub all_stored : t.bag_count ≤ bag_rows
+      → take t.bag_count (identity_rows t s) ++ drop t.bag_count out ≡ (success (identities_of t s) out).rows
+  unfolding identity_rows
+  all_stored h =
+      let l : length (identities_of t s) ≡ t.bag_count = all_rows h in
+      ap {B = List IdentityRow} (λ (xs : List IdentityRow). xs ++ drop t.bag_count out)
+      (take_at (identities_of t s) _ t.bag_count l)
+      ∙ ap {B = List IdentityRow} (λ (n : ℕ). identities_of t s ++ drop n out) (sym l)

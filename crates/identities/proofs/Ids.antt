@@ -6,7 +6,7 @@ use mathlib.Core.Path.{◌≡◌, refl, sym, ◌∙◌, ap}
 use mathlib.Core.List.{List, [], ◌∷◌, ◌++◌, append-nil, map}
 use mathlib.Core.Option.{Option, some}
 use mathlib.Core.Option as option
-use Prim.Native.Nat.{ℕ, suc, ◌+◌, ◌≤◌, ◌<◌}
+use Prim.Native.Nat.{ℕ, suc, ◌≤◌, ◌<◌}
 use native.Mathlib.Omega.{arith}
 use borrow.Author.Tests.{lt-ltb, le-ltb, le-leb}
 use lib.Dec.{ltb, leb}
@@ -20,9 +20,11 @@ use Rattle.der.specs.Element.{cursor, expect_at, on_element}
 use Rattle.der.specs.Span.{Bytes}
 use Rattle.der.specs.Tree.{Tree, primitive, constructed, Trees, none, more, encode, encodes, Formed, AllFormed}
 use Rattle.der.specs.declared.Cursor.{Cursor}
+use Rattle.der.specs.Element.{element}
 use Rattle.der.specs.declared.Element.{Element}
-use Rattle.der.specs.declared.Element.TheVariants.{Found}
-use Rattle.der.proofs.Choices.{never, by_lt, by_le}
+use Rattle.der.specs.declared.Fault.{Fault}
+use Rattle.std.specs.Prelude.{Err, None, Ok, Option as Maybe, Result, Some, ⊤}
+use Rattle.der.proofs.Choices.{by_lt, by_le}
 use Rattle.der.proofs.Header.{header_then}
 use Rattle.der.proofs.Laws.{header_iff, header_bounds, expect_iff, element_unique, run_unique}
 use Rattle.der.proofs.Spans.{span_slice, slice_span, span_to}
@@ -40,22 +42,11 @@ use Rattle.attributes.specs.Own.{own_rows, set_in_safes, listed, attributes_of}
 use Rattle.attributes.proofs.Shown.{shown_set}
 use Rattle.attributes.proofs.Sets.{shown_by}
 use Rattle.attributes.proofs.Theorems.{attribute_values_hold}
-use Rattle.identities.specs.Identities.{local_key_type, an_id, no_id, is_local_key, key_row, id_in, id_of}
+use Rattle.identities.specs.Identities.{local_key_type, is_local_key, key_row, id_in, id_of}
 use Rattle.identities.specs.Ids.{first_key_id, IsId, Holds, Shows}
-use Rattle.identities.specs.declared.Id.{Id}
+use Rattle.identities.proofs.Rules.{first_shift}
 
 -- ---- the first localKeyID attribute, in the rows and in what they show
-
--- rows that come before a list are counted
-shift_choice : (u : Bool) (at a b : ℕ) → a ≡ at + b → (if u then at else a) ≡ at + (if u then 0 else b)
-shift_choice true at a b e = omega arith
-shift_choice false at a b e = e
-
-first_shift : {A : Type 0} (test : A → Bool) (xs : List A) (at : ℕ) → first_from test xs at ≡ at + first_from test xs 0
-unfolding first_from
-first_shift test [] at = omega arith
-first_shift test (x ∷ xs) at =
-    shift_choice (test x) at _ _ (omega (arith, first_shift test xs (at + 1), first_shift test xs 1))
 
 -- the values of row j, if there is one
 abbrev values_at : List ℕ → List AttributeRow → ℕ → Option (List ℕ)
@@ -97,27 +88,33 @@ module _ (s : List ℕ) (n : ℕ) where
 
 -- what holds of no id, and of the body that is found where nothing is left behind it, holds of the
 -- id
-by_found : (P : Id → Type 0) (s : List ℕ) (r : Range)
-    → P no_id
-    → ((b n : Cursor) → expect_at octet_string_tag s (cursor r.start r.end) ≡ Found octet_string_tag b n
-    → n.end ≤ n.at → P (an_id true (range b.at b.end)))
+by_found : (P : Maybe Range → Type 0) (s : List ℕ) (r : Range)
+    → P None
+    → ((b n : Cursor) → expect_at octet_string_tag s (cursor r.start r.end) ≡ Ok (element octet_string_tag b n)
+    → n.end ≤ n.at → P (Some (range b.at b.end)))
     → P (id_in s r)
 unfolding id_in
 by_found P s r bad good = go (expect_at octet_string_tag s (cursor r.start r.end)) refl
   where
-    go : (w : Element) → expect_at octet_string_tag s (cursor r.start r.end) ≡ w
+    go : (w : Result Element Fault) → expect_at octet_string_tag s (cursor r.start r.end) ≡ w
         → P
-        (on_element w (λ f. no_id) (λ t b n. if leb n.end n.at then an_id true (range b.at b.end) else no_id))
-    go (Element.Refused f) e = bad
-    go (Found t b n) e =
-        let q : t ≡ octet_string_tag = ((expect_iff octet_string_tag s (cursor r.start r.end) t b n).0 e).0 in
-        by_le P _ _ n.end n.at (λ h. good b n (rw q at e) h) (λ h. bad)
+        (on_element w (λ f. None) (λ t b n. if leb n.end n.at then Some (range b.at b.end) else None))
+    go (Err f) e = bad
+    go (Ok x) e =
+        let q : x.tag ≡ octet_string_tag =
+        ((expect_iff octet_string_tag s (cursor r.start r.end) x.tag x.body x.next).0 e).0 in
+        by_le P _ _ x.next.end x.next.at (λ h. good x.body x.next (rw q at e) h) (λ h. bad)
 
 -- an id that is there lies in the bytes
-pub id_in_lies : (s : List ℕ) (r : Range) → (id_in s r).present ≡ true → Lies s (id_in s r).range
+-- where one is there
+abbrev pub IfLies : List ℕ → Maybe Range → Type 0
+IfLies s None = ⊤
+IfLies s (Some r) = Lies s r
+
+pub id_in_lies : (s : List ℕ) (r : Range) → IfLies s (id_in s r)
 id_in_lies s r =
-    by_found (λ i. i.present ≡ true → Lies s i.range) s r (λ q. never q)
-    (λ b n e h q.
+    by_found (IfLies s) s r tt
+    (λ b n e h.
     let p = header_bounds s (cursor r.start r.end) octet_string_tag b n
     ((expect_iff octet_string_tag s (cursor r.start r.end) octet_string_tag b n).0 e).1 in
     record { order = omega arith; inside = omega arith })
@@ -125,13 +122,13 @@ id_in_lies s r =
 module _ (s : List ℕ) (r : Range) (bytes : Bytes s) where
   id_sound : (x : List ℕ) → Holds s (id_in s r) x → bytes_in s r ≡ tlv octet_string_tag x
   id_sound x =
-      by_found (λ i. Holds s i x → bytes_in s r ≡ tlv octet_string_tag x) s r (λ q. never q.0)
+      by_found (λ i. Holds s i x → bytes_in s r ≡ tlv octet_string_tag x) s r (λ q. absurd q)
       (λ b n e h q.
       let p = (header_iff s (cursor r.start r.end) octet_string_tag b n bytes).0
       ((expect_iff octet_string_tag s (cursor r.start r.end) octet_string_tag b n).0 e).1 in
       let z : n ≡ cursor b.end r.end = p.moved.next in
       let k : b.end ≡ r.end = omega (arith, p.moved.within, rw z at h) in
-      rw (← q.1) (slice_span s r.start r.end _ (span_to s r.start b.end r.end _ k p.whole)))
+      rw (← q) (slice_span s r.start r.end _ (span_to s r.start b.end r.end _ k p.whole)))
 
   id_complete : (x : List ℕ) → Lies s r → length x < length_bound
       → bytes_in s r ≡ tlv octet_string_tag x → Holds s (id_in s r) x
@@ -142,10 +139,10 @@ module _ (s : List ℕ) (r : Range) (bytes : Bytes s) where
       (rw e at (span_slice s r.start r.end l.order l.inside)) (omega arith) l.inside
       (λ b f p.
       let g : expect_at octet_string_tag s (cursor r.start r.end)
-      ≡ Found octet_string_tag (cursor b r.end) (cursor r.end r.end) =
+      ≡ Ok (element octet_string_tag (cursor b r.end) (cursor r.end r.end)) =
       (expect_iff octet_string_tag s (cursor r.start r.end) octet_string_tag (cursor b r.end)
       (cursor r.end r.end)).1 (refl, f) in
-      rw (g, le-leb r.end r.end (omega arith)) (refl, slice_span s b r.end x p))
+      rw (g, le-leb r.end r.end (omega arith)) (slice_span s b r.end x p))
 
 -- the body of an opaque element is of a length that is read
 module _ (t : ℕ) (x : List ℕ) where
@@ -182,11 +179,13 @@ one_element v x p = (
 
 -- ---- the id of a bag
 
-pub id_lies_lem : (t : Table) (s : List ℕ) (n : ℕ) → (id_of t s n).present ≡ true → Lies s (id_of t s n).range
+pub id_lies_if : (t : Table) (s : List ℕ) (n : ℕ) → IfLies s (id_of t s n)
 unfolding id_of
-id_lies_lem t s n =
-    by_lt (λ (i : Id). i.present ≡ true → Lies s i.range) _ _ (key_row t s n) (length (attributes_of t))
-    (λ h. id_in_lies s _) (λ h q. never q)
+id_lies_if t s n =
+    by_lt (IfLies s) _ _ (key_row t s n) (length (attributes_of t)) (λ h. id_in_lies s _) (λ h. tt)
+
+pub id_lies_lem : (t : Table) (s : List ℕ) (n : ℕ) (r : Range) → id_of t s n ≡ Some r → Lies s r
+id_lies_lem t s n r e = rw e at (id_lies_if t s n)
 
 module _ (t : Table) (s : List ℕ) (n : ℕ) (bytes : Bytes s) (o : Sound t s) where
   key_values : first_key_id (listed (set_in_safes n o.reading.safes)) ≡ values_at s (attributes_of t) (key_row t s n)
@@ -213,26 +212,24 @@ module _ (t : Table) (s : List ℕ) (n : ℕ) (bytes : Bytes s) (o : Sound t s) 
   unfolding id_of
   id_of_bag x =
       rw key_values
-      (by_lt (λ (i : Id). Holds s i x ↔ values_at s (attributes_of t) (key_row t s n) ≡ some (tlv octet_string_tag x)) _ _
+      (by_lt
+      (λ (i : Maybe Range). Holds s i x ↔ values_at s (attributes_of t) (key_row t s n) ≡ some (tlv octet_string_tag x)) _ _
       (key_row t s n) (length (attributes_of t))
       (λ h.
       rw (lt-ltb (key_row t s n) (length (attributes_of t)) h, ← (same_row (key_row t s n) h))
       (let p = in_row (key_row t s n) h x in (λ q. ap some (p.0 q), λ e. p.1 (cc))))
       (λ h. rw (le-ltb (key_row t s n) (length (attributes_of t)) h)
-      (λ q. never q.0, λ e. let z : ◌≡◌ {A = ℕ} 0 1 = cc in absurd (omega arith))))
+      (λ q. absurd q, λ e. let z : ◌≡◌ {A = ℕ} 0 1 = cc in absurd (omega arith))))
 
 -- there is no id exactly if the attributes have none
-none_shown : (s : List ℕ) (i : Id) (xs : List Attribute) → Shows s i xs
-    → i.present ≡ false ↔ ((x : List ℕ) → IsId xs x → ⊥)
-none_shown s i xs p = (
-  λ e x q. never (sym e ∙ ((p x).1 q).0),
-  λ h. go i.present (λ e. h (bytes_in s i.range) ((p (bytes_in s i.range)).0 (e, refl))),
+none_shown : (s : List ℕ) (i : Maybe Range) (xs : List Attribute) → Shows s i xs
+    → i ≡ None ↔ ((x : List ℕ) → IsId xs x → ⊥)
+none_shown s None xs p = (λ e x q. (p x).1 q, λ h. refl)
+none_shown s (Some r) xs p = (
+  λ e. let z : ◌≡◌ {A = ℕ} 0 1 = cc in absurd (omega arith),
+  λ h. absurd (h (bytes_in s r) ((p (bytes_in s r)).0 refl)),
 )
-  where
-    go : (u : Bool) → (u ≡ true → ⊥) → u ≡ false
-    go true h = absurd (h refl)
-    go false h = refl
 
 pub no_id_iff : (t : Table) (s : List ℕ) (n : ℕ) → Bytes s → (o : Sound t s)
-    → (id_of t s n).present ≡ false ↔ ((x : List ℕ) → IsId (listed (set_in_safes n o.reading.safes)) x → ⊥)
+    → id_of t s n ≡ None ↔ ((x : List ℕ) → IsId (listed (set_in_safes n o.reading.safes)) x → ⊥)
 no_id_iff t s n b o = none_shown s (id_of t s n) _ (id_of_bag t s n b o)

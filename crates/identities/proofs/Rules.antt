@@ -1,167 +1,199 @@
 -- Rules by which `search` follows the definitions of identity rows as the code's own tests decided
 -- them (see der's Choices), and bounds.
-use mathlib.Core.Path.{◌≡◌, refl, sym, ◌∙◌}
-use mathlib.Core.Bool.{Bool, true, false}
-use mathlib.Core.List.{List}
-use Prim.Native.Nat.{ℕ, ◌+◌, ◌≤◌, ◌<◌, min}
+use mathlib.Core.Path.{◌≡◌, refl, sym, ◌∙◌, ap}
+use mathlib.Core.Bool.{Bool, true, false, not, cond}
+use mathlib.Core.List.{List, [], ◌∷◌}
+use mathlib.Core.Option as option
+use Prim.Native.Nat.{ℕ, suc, ◌+◌, ◌≤◌, ◌<◌, min}
 use native.Mathlib.Omega.{arith}
-use borrow.Author.Tests.{eq-eqb, ne_eqb, lt-ltb, le-ltb, le-leb, lt-leb}
-use lib.ListN.{length, get_or, length-take, get_or-eq_default}
+use borrow.Author.Tests.{lt-ltb, le-ltb, le-leb, lt-leb}
+use lib.Dec.{ltb}
+use lib.ListN.{length, get_or, length-take}
+use lib.Seq.{get_or-take}
+use Rattle.std.specs.Prelude.{if◌then◌else◌}
+use Rattle.std.specs.Prelude.{Err, None, Ok, Option, Result, Some, is_some}
+use Rattle.std.specs.Option.{ok_or}
+use Rattle.std.specs.Result.{result_ok}
+use Rattle.std.specs.List.{find}
 use Rattle.der.specs.Numbers.{octet_string_tag}
-use Rattle.der.specs.Element.{cursor, element_at, expect_at}
+use Rattle.der.specs.Element.{cursor, element_at, expect_at, fault}
 use Rattle.der.specs.declared.Fault.{Fault}
-use Rattle.der.specs.declared.Cursor.{Cursor}
 use Rattle.der.specs.declared.Element.{Element}
-use Rattle.der.specs.declared.Element.TheVariants.{Found}
 use Rattle.der.proofs.Placed.{expected, found}
-use Rattle.der.proofs.Choices.{at_lt, at_not_lt}
+use Rattle.der.proofs.Choices.{never, by_lt, either, at_lt, at_not_lt}
 use Rattle.buffer.specs.Numbers.{not_sound, short_buffer}
-use Rattle.buffer.specs.declared.Written.TheVariants.{Length}
-use Rattle.range.specs.Bytes.{same_bytes}
-use Rattle.range.specs.Range.{bytes_in, range}
+use Rattle.pkcs12.specs.Numbers.{bag_rows}
+use Rattle.range.specs.Range.{greatest16, body_range}
 use Rattle.pkcs12.specs.Table.{no_attribute}
+use Rattle.pkcs12.specs.Written.{file_of, on_file}
+use Rattle.encode.specs.Sizes.{capped}
 use Rattle.range.specs.declared.Range.{Range}
 use Rattle.pkcs12.specs.declared.row.AttributeRow.{AttributeRow}
 use Rattle.pkcs12.specs.declared.table.Table.{Table}
-use Rattle.attributes.specs.Reader.{opening_of}
+use Rattle.attributes.specs.Reader.{first_from, opening_of}
+use Rattle.attributes.specs.Own.{attributes_of}
 use Rattle.attributes.specs.declared.Item.{Item}
-use Rattle.attributes.specs.declared.Item.TheVariants.{Ready, Done}
 use Rattle.attributes.specs.declared.Position.{Position}
 use Rattle.sound.specs.Measured.{measured}
-use Rattle.sound.specs.declared.Measured.{Measured}
-use Rattle.sound.specs.declared.Measured.TheVariants.{Unsound, Size}
 use Rattle.attributes.proofs.Rules.{has_no_file, has_file}
 use Rattle.pairing.specs.Pairs.{refused_by, paired}
-use Rattle.pairing.specs.declared.Paired.{Paired}
 use Rattle.pairing.specs.declared.IdentityRow.{IdentityRow}
-use Rattle.attributes.proofs.First.{counted_length, get_d_in, Looking, look_start, look_found, look_on, look_end}
-use Rattle.attributes.specs.Own.{attributes_of}
-use Rattle.identities.specs.Identities.{local_key_type, an_id, no_id, is_local_key, key_row, id_in, id_of}
-use Rattle.identities.specs.Identities.{identity_of, identity_at, identity_rows, certificate_for}
-use Rattle.identities.specs.Filling.{filling_as, refused_filling, filling_of}
-use Rattle.identities.specs.declared.Filling.{Filling}
-use Rattle.identities.specs.declared.Id.{Id}
-use Rattle.identities.specs.declared.Identity.{Identity}
+use Rattle.identities.specs.Identities.{is_local_key, key_row, id_in, id_of}
+use Rattle.identities.specs.Identities.{identity_of, identity_at, identities_of, identity_rows, certificate_for}
+use Rattle.identities.specs.Filling.{refusal, success, fill_of}
+use Rattle.identities.proofs.Fills.{bags_fit}
 
--- a body lies within its parent, which ends where a u16 can say
-module _ (due : ℕ) (s : List ℕ) (c : Cursor) (w : Element) (t : ℕ) (b n : Cursor) (e : w ≡ expect_at due s c)
-    (q : w ≡ Found t b n) (h : c.end < 65536) where
-  pub body_fits : (b.at < 65536) × (b.end < 65536)
-  body_fits =
-      let p = found s c (element_at s c) t b n refl (expected due s c w t b n e q).1 in
-      (omega (arith, p.body.size, p.body.within), omega (arith, p.body.within))
+-- what `ok` made of an answer
+pub was_ok : {A : Type 0} (w : Result A Fault) (o : Option A) (x : A) → o ≡ result_ok w → o ≡ Some x → w ≡ Ok x
+was_ok (Ok y) o x e q = cc
+was_ok (Err f) o x e q = let z : ◌≡◌ {A = ℕ} 0 1 = cc in absurd (omega arith)
 
--- the id in an attribute's values
-module _ (s : List ℕ) (r : Range) (w : Element) (e : w ≡ expect_at octet_string_tag s (cursor r.start r.end)) where
-  pub id_refused : (f : Fault) → w ≡ Element.Refused f → no_id ≡ id_in s r
+pub was_refused : {A : Type 0} (w : Result A Fault) (o : Option A) → o ≡ result_ok w → o ≡ None
+    → (f : Fault) × (w ≡ Err f)
+was_refused (Ok y) o e q = let z : ◌≡◌ {A = ℕ} 0 1 = cc in absurd (omega arith)
+was_refused (Err f) o e q = (f, refl)
+
+-- the id in an attribute's values, whose end a u16 can say: so can those of a body within them
+module _ (s : List ℕ) (r : Range) (w : Result Element Fault)
+    (e : w ≡ expect_at octet_string_tag s (cursor r.start r.end)) where
+  pub id_refused : (x : Option Range) → (f : Fault) × (w ≡ Err f) → x ≡ None → x ≡ id_in s r
   unfolding id_in
-  id_refused f q = rw (sym e ∙ q)
+  id_refused x q p = rw (sym e ∙ q.1) p
 
-  module _ (t : ℕ) (b n : Cursor) (q : w ≡ Found t b n) where
-    pub id_only : n.end ≤ n.at → an_id true (range b.at b.end) ≡ id_in s r
+  module _ (x : Element) (q : w ≡ Ok x) where
+    pub id_more : x.next.at < x.next.end → None ≡ id_in s r
     unfolding id_in
-    id_only h = rw (sym e ∙ q, le-leb n.end n.at h)
+    id_more h = rw (sym e ∙ q, lt-leb x.next.end x.next.at h)
 
-    pub id_more : n.at < n.end → no_id ≡ id_in s r
-    unfolding id_in
-    id_more h = rw (sym e ∙ q, lt-leb n.end n.at h)
+    pub id_only : r.end < 65536 → x.next.end ≤ x.next.at → (v : Range) → v ≡ body_range x.body → Some v ≡ id_in s r
+    unfolding id_in body_range
+    id_only l h v g =
+        let p = found s (cursor r.start r.end) (element_at s (cursor r.start r.end)) x.tag x.body x.next refl
+        (expected octet_string_tag s (cursor r.start r.end) w x.tag x.body x.next e q).1 in
+        let a : min x.body.at greatest16 ≡ x.body.at = omega (arith, p.body.size, p.body.within) in
+        let b : min x.body.end greatest16 ≡ x.body.end = omega (arith, p.body.within) in
+        rw (sym e ∙ q, le-leb x.next.end x.next.at h, g, a, b)
 
--- a localKeyID attribute of the bag: x is the part that the code took
-module _ (s : List ℕ) (bag : ℕ) (r : AttributeRow) where
-  pub local_named : (x : List ℕ) (u : Bool) → r.bag ≡ bag → x ≡ bytes_in s r.identifier
-      → u ≡ same_bytes x local_key_type → u ≡ is_local_key s bag r
-  unfolding is_local_key
-  local_named x u h p e = rw (eq-eqb r.bag bag h, ← p) e
+-- ---- the first row that passes a test, as the rules number it and as the library finds it
 
-  pub local_other : (r.bag ≡ bag → ⊥) → false ≡ is_local_key s bag r
-  unfolding is_local_key
-  local_other h = rw (ne_eqb r.bag bag h)
+-- rows that come before a list are counted
+shift_choice : (u : Bool) (at a b : ℕ) → a ≡ at + b → (if u then at else a) ≡ at + (if u then 0 else b)
+shift_choice true at a b e = omega arith
+shift_choice false at a b e = e
 
--- Past the end of an array is what is taken for a row that isn't there; the array has k rows, as
--- its type says.
-pub past_array : {A : Type 0} (k i : ℕ) (xs : List A) (d : A) → length xs ≡ k → k ≤ i → d ≡ get_or xs i d
-past_array k i xs d e h = sym (get_or-eq_default xs d {n = i} (omega (arith, e, h)))
+pub first_shift : {A : Type 0} (test : A → Bool) (xs : List A) (at : ℕ)
+    → first_from test xs at ≡ at + first_from test xs 0
+unfolding first_from
+first_shift test [] at = omega arith
+first_shift test (x ∷ xs) at =
+    shift_choice (test x) at _ _ (omega (arith, first_shift test xs (at + 1), first_shift test xs 1))
 
--- the loop over a table's attribute rows, for the first localKeyID of a bag
-module _ (t : Table) (s : List ℕ) (bag end : ℕ) where
-  abbrev pub Keys : ℕ → Type 0
-  Keys i = Looking (is_local_key s bag) t.attribute_count t.attributes 0 end i
+-- element i, if there is one
+abbrev at_row : {A : Type 0} → A → List A → ℕ → Option A
+at_row d xs i = if ltb i (length xs) then Some (get_or xs i d) else None
 
-  pub keys_start : (k : ℕ) → length t.attributes ≡ k → end ≡ min t.attribute_count k → Keys 0
-  keys_start k e g = look_start _ _ _ _ end (counted_length k t.attribute_count end t.attributes e g)
+module _ {A : Type 0} (test : A → Bool) (d : A) where
+  row_past : (x : A) (xs : List A) (i : ℕ) → at_row d xs i ≡ at_row d (x ∷ xs) (suc i)
+  row_past x xs i =
+      by_lt (λ v. v ≡ at_row d (x ∷ xs) (suc i)) _ _ i (length xs)
+      (λ h. rw (lt-ltb (suc i) (suc (length xs)) (omega arith)))
+      (λ h. rw (le-ltb (suc i) (suc (length xs)) (omega arith)))
 
-  module _ (i : ℕ) (g : Keys i) where
-    module _ (d : AttributeRow) (u : Bool) (h : i < end) (e : u ≡ is_local_key s bag (get_or t.attributes i d)) where
-      pub keys_found : u ≡ true → i ≡ key_row t s bag
-      unfolding key_row
-      keys_found q = look_found _ _ _ _ end i d g h (sym e ∙ q)
+  first_more : (x : A) (xs : List A) (u : Bool) → find test xs ≡ at_row d xs (first_from test xs 0)
+      → cond u (Some x) (find test xs) ≡ at_row d (x ∷ xs) (if u then 0 else first_from test xs 1)
+  first_more x xs true e = rw (lt-ltb 0 (suc (length xs)) (omega arith))
+  first_more x xs false e =
+      let k : first_from test xs 1 ≡ suc (first_from test xs 0) = omega (arith, first_shift test xs 1) in
+      rw k (e ∙ row_past x xs (first_from test xs 0))
 
-      pub keys_on : u ≡ false → Keys (i + 1)
-      keys_on q = look_on _ _ _ _ end i d g h (sym e ∙ q)
-
-    pub keys_end : end ≤ i → i ≡ key_row t s bag
-    unfolding key_row
-    keys_end h = look_end _ _ _ _ end i g h
+  first_is : (xs : List A) → find test xs ≡ at_row d xs (first_from test xs 0)
+  unfolding first_from
+  first_is [] = refl
+  first_is (x ∷ xs) = first_more x xs (test x) (first_is xs)
 
 -- the id of a bag: in its first localKeyID, if it has one
-module _ (t : Table) (s : List ℕ) (bag end i : ℕ) (e : i ≡ key_row t s bag) (k : ℕ)
-    (a : length t.attributes ≡ k) (g : end ≡ min t.attribute_count k) where
-  counted : end ≡ length (attributes_of t)
-  counted = counted_length k t.attribute_count end t.attributes a g
+module _ (t : Table) (s : List ℕ) (bag : ℕ) where
+  abbrev in_found : Option AttributeRow → Option Range
+  in_found None = None
+  in_found (Some r) = id_in s r.values
 
-  pub id_found : (d : AttributeRow) (r : Id) → i < end
-      → r ≡ id_in s (get_or t.attributes i d).values → r ≡ id_of t s bag
-  unfolding id_of
-  id_found d r h p =
-      let m : i < length (attributes_of t) = omega (arith, counted, h) in
-      let o : i < length t.attributes = omega (arith, length-take t.attribute_count t.attributes, m) in
-      rw (← e, lt-ltb i (length (attributes_of t)) m, ← (get_d_in t.attributes i d no_attribute o)) p
+  id_is : in_found (find (is_local_key s bag) (attributes_of t)) ≡ id_of t s bag
+  unfolding id_of key_row
+  id_is =
+      let j : ℕ = first_from (is_local_key s bag) (attributes_of t) 0 in
+      rw (first_is (is_local_key s bag) no_attribute (attributes_of t))
+      (either j (length (attributes_of t))
+      (λ h.
+      let k : j < t.attribute_count = omega (arith, length-take t.attribute_count t.attributes, h) in
+      rw (lt-ltb j (length (attributes_of t)) h, get_or-take t.attribute_count t.attributes j no_attribute k))
+      (λ h. rw (le-ltb j (length (attributes_of t)) h)))
 
-  pub id_none : end ≤ i → no_id ≡ id_of t s bag
-  unfolding id_of
-  id_none h = rw (← e, le-ltb i (length (attributes_of t)) (omega (arith, counted, h)))
+  module _ (w : Option AttributeRow) (e : w ≡ find (is_local_key s bag) (attributes_of t)) where
+    pub id_none : (x : Option Range) → w ≡ None → x ≡ None → x ≡ id_of t s bag
+    id_none x q g = g ∙ (rw (sym e ∙ q) at id_is)
+
+    pub id_found : (r : AttributeRow) (x : Option Range) → w ≡ Some r → x ≡ id_in s r.values → x ≡ id_of t s bag
+    id_found r x q g = g ∙ (rw (sym e ∙ q) at id_is)
+
+-- ---- the answers
 
 -- the identity row of a bag, by what opening its attributes returned
 module _ (t : Table) (s : List ℕ) (bag : ℕ) (p : Position) (e : p ≡ opening_of t s bag) where
-  pub opened_refused : (f : Fault) → p.item ≡ Item.Refused f → Identity.Refused f ≡ identity_at t s bag
+  pub opened_refused : (f : Fault) → p.item ≡ Err f → Err f ≡ identity_at t s bag
   unfolding identity_at
   opened_refused f q = rw (← e, q)
 
-  module _ (r : IdentityRow) (g : r ≡ identity_of t s bag) where
-    pub opened_ready : p.item ≡ Ready → Identity.Row r ≡ identity_at t s bag
-    unfolding identity_at
-    opened_ready q = rw (← e, q, g)
-
-    pub opened_given : (a : AttributeRow) → p.item ≡ Item.Attribute a → Identity.Row r ≡ identity_at t s bag
-    unfolding identity_at
-    opened_given a q = rw (← e, q, g)
-
-    pub opened_done : p.item ≡ Done → Identity.Row r ≡ identity_at t s bag
-    unfolding identity_at
-    opened_done q = rw (← e, q, g)
+  pub opened_ready : (x : Item) (r : IdentityRow) → p.item ≡ Ok x → r ≡ identity_of t s bag
+      → Ok r ≡ identity_at t s bag
+  unfolding identity_at
+  opened_ready x r q g = rw (← e, q, g)
 
 -- the answers for a table that was measured
-module _ (t : Table) (s : List ℕ) (w : Measured) (e : w ≡ measured t s) where
-  pub certificate_unsound : (k : ℕ) → w ≡ Unsound → refused_by not_sound ≡ certificate_for t s k
-  unfolding certificate_for
-  certificate_unsound k q = has_no_file t s w _ _ _ e q refl
+module _ (t : Table) (s : List ℕ) (w : Option ℕ) (e : w ≡ measured t s) where
+  -- what the code made of the size
+  module _ (v : Result ℕ Fault) (f : Fault) (g : v ≡ ok_or w f) (h : f ≡ fault not_sound 0) where
+    pub certificate_unsound : (k : ℕ) (y : Fault) → v ≡ Err y → Err y ≡ certificate_for t s k
+    unfolding certificate_for measured
+    certificate_unsound k y q = go (file_of t s) (sym q ∙ g ∙ ap {B = Result ℕ Fault} (λ (o : Option ℕ). ok_or o f) e)
+      where
+        go : (z : option.Option (List ℕ)) → Err y ≡ ok_or (on_file z None (λ b. Some (capped (length b)))) f
+            → Err y ≡ on_file z (refused_by not_sound) (λ b. paired s (identity_rows t s) k)
+        go option.none p = p ∙ ap Err h
+        go (option.some b) p = let z : ◌≡◌ {A = ℕ} 0 1 = cc in absurd (omega arith)
 
-  pub filling_unsound : (capacity : ℕ) (r : Filling) → w ≡ Unsound → r ≡ refused_filling not_sound
-      → r ≡ filling_of t s capacity
-  unfolding filling_of
-  filling_unsound capacity r q p = has_no_file t s w r _ _ e q p
-
-  module _ (n : ℕ) (q : w ≡ Size n) where
-    pub certificate_paired : (k : ℕ) (rows : List IdentityRow) (r : Paired) → rows ≡ identity_rows t s
+    pub certificate_paired : (k n : ℕ) (rows : List IdentityRow) (r : Result ℕ Fault) → v ≡ Ok n
+        → rows ≡ identity_rows t s
         → r ≡ paired s rows k → r ≡ certificate_for t s k
-    unfolding certificate_for
-    certificate_paired k rows r p g = has_file t s w r _ _ n e q (rw (← p) g)
+    unfolding certificate_for measured
+    certificate_paired k n rows r q p o =
+        o ∙ rw p
+        (go (file_of t s) (sym q ∙ g ∙ ap {B = Result ℕ Fault} (λ (o : Option ℕ). ok_or o f) e))
+      where
+        go : (z : option.Option (List ℕ)) → Ok n ≡ ok_or (on_file z None (λ b. Some (capped (length b)))) f
+            → paired s (identity_rows t s) k ≡ on_file z (refused_by not_sound) (λ b. paired s (identity_rows t s) k)
+        go option.none p = let z : ◌≡◌ {A = ℕ} 0 1 = cc in absurd (omega arith)
+        go (option.some b) p = refl
 
-    pub filling_short : (capacity : ℕ) (r : Filling) → capacity < t.bag_count → r ≡ refused_filling short_buffer → r ≡ filling_of t s capacity
-    unfolding filling_of
-    filling_short capacity r h p = has_file t s w r _ _ n e q (at_lt capacity t.bag_count r _ _ h p)
+  module _ (u : Bool) (g : is_some w ≡ not u) (out : List IdentityRow) where
+    pub filling_unsound : u ≡ true → refusal not_sound out ≡ fill_of t s out
+    unfolding fill_of
+    filling_unsound q = has_no_file t s w u e g _ _ _ q refl
 
-    pub filling_all : (capacity : ℕ) (rows : List IdentityRow) → t.bag_count ≤ capacity → rows ≡ identity_rows t s
-        → filling_as (Length t.bag_count) t.bag_count rows ≡ filling_of t s capacity
-    unfolding filling_of
-    filling_all capacity rows h p = has_file t s w _ _ _ n e q (at_not_lt capacity t.bag_count _ _ _ h (rw p))
+    -- a table that has a file has no more bags than a table can
+    pub filling_few : u ≡ false → t.bag_count ≤ bag_rows
+    unfolding measured
+    filling_few q = go (file_of t s) (bags_fit t s) (rw (e, q) at g)
+      where
+        go : (v : option.Option (List ℕ)) → ((f : List ℕ) → v ≡ option.some f → t.bag_count ≤ bag_rows)
+            → is_some (on_file v None (λ b. Some (capped (length b)))) ≡ true → t.bag_count ≤ bag_rows
+        go option.none h k = never k
+        go (option.some f) h k = h f refl
+
+    module _ (q : u ≡ false) where
+      pub filling_short : length out < t.bag_count → refusal short_buffer out ≡ fill_of t s out
+      unfolding fill_of
+      filling_short h = has_file t s w u e g _ _ _ q (at_lt (length out) t.bag_count _ _ _ h refl)
+
+      pub filling_all : t.bag_count ≤ length out → success (identities_of t s) out ≡ fill_of t s out
+      unfolding fill_of
+      filling_all h = has_file t s w u e g _ _ _ q (at_not_lt (length out) t.bag_count _ _ _ h refl)

@@ -1,7 +1,6 @@
 -- What is proved of identity rows, stated over the definitions that the calls follow. The proofs
 -- are elsewhere. `Bytes s`: each number of the list is below 256. `Sound t s`: the table t is sound
 -- for the bytes s, and its `reading` is what it shows of them.
-use mathlib.Core.Bool.{true, false}
 use mathlib.Core.Logic.{◌↔◌}
 use mathlib.Core.Path.{◌≡◌}
 use mathlib.Core.List.{List}
@@ -19,17 +18,15 @@ use Rattle.buffer.specs.Numbers.{short_buffer, not_sound}
 use Rattle.pkcs12.specs.Valid.{Opaques}
 use Rattle.pkcs12.specs.Sound.{Sound, Lies}
 use Rattle.pkcs12.specs.declared.table.Table.{Table}
-use Rattle.buffer.specs.declared.Written.{Written}
-use Rattle.buffer.specs.declared.Written.TheVariants.{Length}
+use Rattle.std.specs.Prelude.{Err, None, Ok, Some}
+use Rattle.range.specs.declared.Range.{Range}
 use Rattle.attributes.specs.Own.{set_in_safes, listed}
 use Rattle.pairing.specs.Pairs.{no_identity, refused_by}
 use Rattle.pairing.specs.Only.{Matches, IdsLie, IsKey, Answered}
 use Rattle.pairing.specs.declared.IdentityRow.{IdentityRow}
-use Rattle.pairing.specs.declared.Paired.{Paired}
 use Rattle.identities.specs.Identities.{id_of, identity_of, identity_at, identity_rows, certificate_for}
 use Rattle.identities.specs.Filling.{fill_of}
 use Rattle.identities.specs.Ids.{IsId, Shows, id_in_row, kind_in, KeyBag, Certifies}
-use Rattle.identities.specs.declared.Identity.{Identity}
 use Rattle.identities.proofs.Ids as ids
 use Rattle.identities.proofs.Answers as answers
 use Rattle.identities.proofs.Certificates as certificates
@@ -42,7 +39,7 @@ pub id_of_bag : (t : Table) (s : List ℕ) (n : ℕ) → Bytes s → (o : Sound 
 id_of_bag = ids.id_of_bag
 
 pub no_id_iff : (t : Table) (s : List ℕ) (n : ℕ) → Bytes s → (o : Sound t s)
-    → (id_of t s n).present ≡ false ↔ ((x : List ℕ) → IsId (listed (set_in_safes n o.reading.safes)) x → ⊥)
+    → id_of t s n ≡ None ↔ ((x : List ℕ) → IsId (listed (set_in_safes n o.reading.safes)) x → ⊥)
 no_id_iff = ids.no_id_iff
 
 -- Rule 7.4, exactly one element, an OCTET STRING: values whose bytes are one OCTET STRING are those
@@ -51,23 +48,23 @@ pub one_element : (v x : List ℕ) (p : Opaques v) → p.as_trees ≡ more (prim
 one_element = ids.one_element
 
 -- An id that is there lies in the bytes, whatever the table.
-pub id_lies_lem : (t : Table) (s : List ℕ) (n : ℕ) → (id_of t s n).present ≡ true → Lies s (id_of t s n).range
+pub id_lies_lem : (t : Table) (s : List ℕ) (n : ℕ) (r : Range) → id_of t s n ≡ Some r → Lies s r
 id_lies_lem = ids.id_lies_lem
 
 -- ---- the identity row of a bag
 
 -- A row is returned exactly if the table is sound and has the bag, and then it is this one;
 pub identity_iff : (t : Table) (s : List ℕ) (n : ℕ) → Bytes s → (r : IdentityRow)
-    → identity_at t s n ≡ Identity.Row r ↔ (Sound t s × (n < t.bag_count) × (identity_of t s n ≡ r))
+    → identity_at t s n ≡ Ok r ↔ (Sound t s × (n < t.bag_count) × (identity_of t s n ≡ r))
 identity_iff = answers.identity_iff
 
 -- 11 exactly if the table is not sound, then 12 exactly if the bag isn't there.
 pub identity_11_iff : (t : Table) (s : List ℕ) (n : ℕ) → Bytes s
-    → identity_at t s n ≡ Identity.Refused (fault not_sound 0) ↔ (Sound t s → ⊥)
+    → identity_at t s n ≡ Err (fault not_sound 0) ↔ (Sound t s → ⊥)
 identity_11_iff = answers.identity_11
 
 pub identity_12_iff : (t : Table) (s : List ℕ) (n : ℕ) → Bytes s
-    → identity_at t s n ≡ Identity.Refused (fault no_row 0) ↔ (Sound t s × (t.bag_count ≤ n))
+    → identity_at t s n ≡ Err (fault no_row 0) ↔ (Sound t s × (t.bag_count ≤ n))
 identity_12_iff = answers.identity_12
 
 -- Its kind and its id are those of the bag in the reading.
@@ -103,7 +100,7 @@ ids_lie = certificates.ids_lie
 -- Row j is the answer exactly if the table is sound, row k is a key's, row j matches it, and no
 -- other row does.
 pub certificate_iff : (t : Table) (s : List ℕ) (k : ℕ) → Bytes s → (j : ℕ)
-    → certificate_for t s k ≡ Paired.Certificate j
+    → certificate_for t s k ≡ Ok j
     ↔ (Sound t s × IsKey (identity_rows t s) k × Matches s (identity_rows t s) k j
     × ((i : ℕ) → Matches s (identity_rows t s) k i → i ≡ j))
 certificate_iff = certificates.certificate_iff
@@ -143,7 +140,7 @@ pub matches_by_reading : (t : Table) (s : List ℕ) (o : Sound t s) → Bytes s 
 matches_by_reading = certificates.matches_by_reading
 
 pub certificate_by_reading : (t : Table) (s : List ℕ) (k : ℕ) → Bytes s → (o : Sound t s) → (j : ℕ)
-    → certificate_for t s k ≡ Paired.Certificate j
+    → certificate_for t s k ≡ Ok j
     ↔ (KeyBag o.reading.safes k × Certifies o.reading.safes k j
     × ((i : ℕ) → Certifies o.reading.safes k i → i ≡ j))
 certificate_by_reading = certificates.certificate_by_reading
@@ -153,25 +150,25 @@ certificate_by_reading = certificates.certificate_by_reading
 -- A number is returned exactly if the table is sound and there are enough rows, and it is the
 -- number of bags;
 pub filled_iff : (t : Table) (s : List ℕ) (out : List IdentityRow) → Bytes s → (n : ℕ)
-    → (fill_of t s out).answer ≡ Length n ↔ (Sound t s × (t.bag_count ≤ length out) × (t.bag_count ≡ n))
+    → (fill_of t s out).answer ≡ Ok n ↔ (Sound t s × (t.bag_count ≤ length out) × (t.bag_count ≡ n))
 filled_iff = answers.filled_iff
 
 -- 11 exactly if the table is not sound, then 10 exactly if there are fewer rows than bags.
 pub filled_11_iff : (t : Table) (s : List ℕ) (out : List IdentityRow) → Bytes s
-    → (fill_of t s out).answer ≡ Written.Refused (fault not_sound 0) ↔ (Sound t s → ⊥)
+    → (fill_of t s out).answer ≡ Err (fault not_sound 0) ↔ (Sound t s → ⊥)
 filled_11_iff = answers.filled_11
 
 pub filled_10_iff : (t : Table) (s : List ℕ) (out : List IdentityRow) → Bytes s
-    → (fill_of t s out).answer ≡ Written.Refused (fault short_buffer 0) ↔ (Sound t s × (length out < t.bag_count))
+    → (fill_of t s out).answer ≡ Err (fault short_buffer 0) ↔ (Sound t s × (length out < t.bag_count))
 filled_10_iff = answers.filled_10
 
 -- Then row i is that of bag i. The rows behind them, and on refusal all rows, are as before.
-pub filled_row : (t : Table) (s : List ℕ) (out : List IdentityRow) (n : ℕ) → (fill_of t s out).answer ≡ Length n
+pub filled_row : (t : Table) (s : List ℕ) (out : List IdentityRow) (n : ℕ) → (fill_of t s out).answer ≡ Ok n
     → (i : ℕ) (d : IdentityRow) → i < n
     → get_or (fill_of t s out).rows i d ≡ identity_of t s i
 filled_row = answers.filled_row
 
-pub filled_behind : (t : Table) (s : List ℕ) (out : List IdentityRow) (n : ℕ) → (fill_of t s out).answer ≡ Length n
+pub filled_behind : (t : Table) (s : List ℕ) (out : List IdentityRow) (n : ℕ) → (fill_of t s out).answer ≡ Ok n
     → (i : ℕ) (d : IdentityRow) → n ≤ i
     → get_or (fill_of t s out).rows i d ≡ get_or out i d
 filled_behind = answers.filled_behind
@@ -180,5 +177,5 @@ pub filled_length : (t : Table) (s : List ℕ) (out : List IdentityRow) → leng
 filled_length = answers.filled_length
 
 pub refused_out : (t : Table) (s : List ℕ) (out : List IdentityRow) (f : Fault)
-    → (fill_of t s out).answer ≡ Written.Refused f → (fill_of t s out).rows ≡ out
+    → (fill_of t s out).answer ≡ Err f → (fill_of t s out).rows ≡ out
 refused_out = answers.refused_out

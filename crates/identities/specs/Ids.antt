@@ -1,5 +1,5 @@
 -- What a bag's id is, by the table's reading (Rule 7.4).
-use Rattle.std.specs.Prelude.{true, false, ◌↔◌, ◌⊎◌, ◌≡◌, List, [], ◌∷◌, ℕ, get_or}
+use Rattle.std.specs.Prelude.{false, ◌↔◌, ◌⊎◌, ◌≡◌, List, [], ◌∷◌, ℕ, get_or}
 use Rattle.std.proofs.Math.Option.{Option, some}
 use Rattle.std.proofs.Math.Option as option
 use Rattle.std.specs.Prelude.{if◌then◌else◌}
@@ -11,11 +11,11 @@ use Rattle.pkcs12.specs.Values.{Content, empty_bag, leaf, nested, BagValue, bags
 use Rattle.range.specs.Range.{bytes_in}
 use Rattle.pkcs12.specs.declared.kind.BagKind.{BagKind}
 use Rattle.pkcs12.specs.declared.kind.BagKind.TheVariants.{Key, ShroudedKey, Certificate, Nested}
-use Rattle.pkcs12.specs.declared.row.Enclosing.{Enclosing}
+use Rattle.std.specs.Prelude.{None, Option as Maybe, Some}
+use Rattle.range.specs.declared.Range.{Range}
 use Rattle.attributes.specs.Own.{set_in_safes, listed}
 use Rattle.pairing.specs.declared.IdentityRow.{IdentityRow}
-use Rattle.identities.specs.Identities.{local_key_type, an_id}
-use Rattle.identities.specs.declared.Id.{Id}
+use Rattle.identities.specs.Identities.{local_key_type}
 
 -- the values of the first localKeyID attribute of a list
 unfoldable pub first_key_id : List Attribute → Option (List ℕ)
@@ -28,22 +28,23 @@ abbrev pub IsId : List Attribute → List ℕ → Type 0
 IsId xs x = first_key_id xs ≡ some (tlv octet_string_tag x)
 
 -- an id is there, of bytes x
-abbrev pub Holds : List ℕ → Id → List ℕ → Type 0
-Holds s i x = (i.present ≡ true) × (bytes_in s i.range ≡ x)
+abbrev pub Holds : List ℕ → Maybe Range → List ℕ → Type 0
+Holds s None x = ⊥
+Holds s (Some r) x = bytes_in s r ≡ x
 
 -- it is that of these attributes, and there where they have one; else there is none (Rule 7.4)
-abbrev pub Shows : List ℕ → Id → List Attribute → Type 0
+abbrev pub Shows : List ℕ → Maybe Range → List Attribute → Type 0
 Shows s i xs = (x : List ℕ) → Holds s i x ↔ IsId xs x
 
 -- the id of an identity row
-abbrev pub id_in_row : IdentityRow → Id
-id_in_row r = an_id r.has_id r.id
+abbrev pub id_in_row : IdentityRow → Maybe Range
+id_in_row r = if r.has_id then Some r.id else None
 
 -- ---- keys and certificates by the reading
 
 -- what is taken for a bag that isn't there
 abbrev pub no_bag_value : BagValue
-no_bag_value = record { safe = 0; enclosing = Enclosing.None; content = empty_bag; has_set = false }
+no_bag_value = record { safe = 0; enclosing = None; content = empty_bag; has_set = false }
 
 abbrev pub kind_of_content : Content → BagKind
 kind_of_content empty_bag = BagKind.None

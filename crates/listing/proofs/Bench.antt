@@ -8,8 +8,7 @@ use Rattle.range.specs.Range.{range, no_range}
 use Rattle.pkcs12.specs.Table.{parts, no_parts, safe_row, bag_row, attribute_row, table_of}
 use Rattle.pkcs12.specs.Walk.{read_file}
 use Rattle.pkcs12.specs.declared.kind.BagKind.TheVariants.{Key, ShroudedKey, Certificate, Nested}
-use Rattle.pkcs12.specs.declared.row.Enclosing.{Enclosing}
-use Rattle.pkcs12.specs.declared.row.Enclosing.TheVariants.{Bag}
+use Rattle.std.specs.Prelude.{None, Some}
 use Rattle.pkcs12.specs.declared.answers.Reading.{Reading}
 use Rattle.pkcs12.specs.declared.kind.SafeKind.TheVariants.{Plain, Encrypted}
 use Rattle.pkcs12.specs.declared.table.Table.{Table}
@@ -45,22 +44,22 @@ encrypted : safe_line 1 (safe_row Encrypted (parts (range 79 88) (range 88 88) (
 unfolding ascii digits decimal number_text range_text sealed_text safe_text safe_line
 encrypted = refl
 
-key : bag_line 0 (bag_row Key 0 Enclosing.None (parts no_range no_range (range 532 534)) false) 0
+key : bag_line 0 (bag_row Key 0 None (parts no_range no_range (range 532 534)) false) 0
     ≡ ascii "bag 0: key, safe 0, in none, key 532..534, no attributes\n"
 unfolding ascii digits decimal number_text range_text kind_text enclosing_text parts_text set_text bag_start bag_line
 key = refl
 
-shrouded : bag_line 1 (bag_row ShroudedKey 0 Enclosing.None (parts (range 117 126) (range 126 128) (range 130 131)) true) 1
+shrouded : bag_line 1 (bag_row ShroudedKey 0 None (parts (range 117 126) (range 126 128) (range 130 131)) true) 1
     ≡ ascii "bag 1: shrouded key, safe 0, in none, algorithm 117..126, parameters 126..128, ciphertext 130..131, attributes 1\n"
 unfolding ascii digits decimal number_text range_text sealed_text kind_text enclosing_text parts_text set_text bag_start bag_line
 shrouded = refl
 
-certificate : bag_line 2 (bag_row Certificate 0 (Bag 4) (parts (range 107 111) no_range (range 113 125)) true) 2
+certificate : bag_line 2 (bag_row Certificate 0 (Some 4) (parts (range 107 111) no_range (range 113 125)) true) 2
     ≡ ascii "bag 2: certificate, safe 0, in bag 4, type 107..111, value 113..125, attributes 2\n"
 unfolding ascii digits decimal number_text range_text typed_text kind_text enclosing_text parts_text set_text bag_start bag_line
 certificate = refl
 
-nested : bag_line 5 (bag_row Nested 0 Enclosing.None no_parts true) 0 ≡ ascii "bag 5: nested, safe 0, in none, attributes 0\n"
+nested : bag_line 5 (bag_row Nested 0 None no_parts true) 0 ≡ ascii "bag 5: nested, safe 0, in none, attributes 0\n"
 unfolding ascii digits decimal number_text kind_text enclosing_text parts_text set_text bag_start bag_line
 nested = refl
 

@@ -1,5 +1,5 @@
--- What is proved of the listing: `Theorems` states it. Below: the loop over the attribute rows of
--- a bag, lengths, and lines computed.
+-- What is proved of the listing: `Theorems` states it. Below: the attribute rows of a bag, counted;
+-- lengths, and lines computed.
 pub mod Theorems
 pub mod Loops
 pub mod Short

@@ -1,43 +1,34 @@
--- The loop over the attribute rows of a bag.
-use mathlib.Core.Path.{◌≡◌, refl, ap, ◌∙◌}
+-- The attribute rows of a bag, counted.
+use mathlib.Core.Path.{◌≡◌, refl, sym, ap, ◌∙◌}
 use mathlib.Core.Bool.{Bool, true, false}
-use Prim.Native.Nat.{ℕ, suc, ◌+◌, ◌≤◌, ◌<◌}
+use Prim.Native.Nat.{ℕ, zero, suc, ◌+◌, ◌≤◌, ◌<◌}
 use native.Mathlib.Omega.{arith}
 use lib.Dec.{eqb}
-use lib.ListN.{get_or}
+use mathlib.Core.List.{List}
+use lib.ListN.{length, take, get_or}
 use Rattle.std.specs.Prelude.{if◌then◌else◌}
+use Rattle.std.specs.List.{count_by}
+use Rattle.std.proofs.lemmas.List.Sums.{count_by_more_no, count_by_more_yes}
 use Rattle.pkcs12.specs.Table.{no_attribute}
+use Rattle.pkcs12.specs.declared.row.AttributeRow.{AttributeRow}
 use Rattle.pkcs12.specs.declared.table.Table.{Table}
 use Rattle.listing.specs.Lines.{own_among}
 
--- ---- the attribute rows of a bag
+-- one row more
+one_more : (xs : List AttributeRow) (bag n k : ℕ) (u : Bool) → n < length xs → u ≡ eqb (get_or xs n no_attribute).bag bag
+    → count_by (λ (r : AttributeRow). eqb r.bag bag) (take n xs) ≡ k
+    → count_by (λ (r : AttributeRow). eqb r.bag bag) (take (n + 1) xs) ≡ k + (if u then 1 else 0)
+one_more xs bag n k true h e p = count_by_more_yes _ xs n no_attribute h (sym e) ∙ ap (λ (x : ℕ). x + 1) p
+one_more xs bag n k false h e p = omega (arith, count_by_more_no (λ (r : AttributeRow). eqb r.bag bag) xs n no_attribute h (sym e), p)
 
-one_most : (u : Bool) (r : ℕ) → r ≡ (if u then 1 else 0) → r ≤ 1
-one_most true r h = omega (arith, h)
-one_most false r h = omega (arith, h)
-
-module _ (t : Table) (bag n : ℕ) where
-  -- of the first i rows, which are no more than n, own name the bag
-  pub record Counting (own i : ℕ) : Type 0 where
-    pub some : i ≤ n
-    pub among : own ≡ own_among t bag i
-    pub few : own ≤ i
-
-  pub own_start : Counting 0 0
+module _ (t : Table) (bag : ℕ) where
+  -- those among the first n rows
+  among : (n : ℕ) → n ≤ length t.attributes
+      → count_by (λ (r : AttributeRow). eqb r.bag bag) (take n t.attributes) ≡ own_among t bag n
   unfolding own_among
-  own_start = record { some = omega arith; among = refl; few = omega arith }
+  among zero h = refl
+  among (suc n) h = let s : suc n ≡ n + 1 = omega arith in rw s (one_more t.attributes bag n _ _ (omega (arith, h)) refl (among n (omega (arith, h))))
 
-  module _ (own i : ℕ) (g : Counting own i) where
-    pub own_turn : (one : ℕ) → i < n → one ≡ (if eqb (get_or t.attributes i no_attribute).bag bag then 1 else 0) → Counting (own + one) (i + 1)
-    unfolding own_among
-    own_turn one h e =
-        let s : i + 1 ≡ suc i = omega arith in
-        let a : own + one ≡ own_among t bag i + one = ap (λ (x : ℕ). x + one) g.among in
-        record {
-          some = omega (arith, h);
-          among = rw s (a ∙ ap (λ (x : ℕ). own_among t bag i + x) e);
-          few = omega (arith, one_most (eqb (get_or t.attributes i no_attribute).bag bag) one e, g.few);
-        }
-
-    pub own_end : (m : ℕ) → n ≡ m → n ≤ i → own ≡ own_among t bag m
-    own_end m p h = let s : i ≡ m = omega (arith, p, h, g.some) in rw s at g.among
+  pub own_counted : (n m k : ℕ) → n ≤ length t.attributes → n ≡ m
+      → k ≡ count_by (λ (r : AttributeRow). eqb r.bag bag) (take n t.attributes) → k ≡ own_among t bag m
+  own_counted n m k h p e = rw (sym p) (e ∙ among n h)

@@ -5,14 +5,12 @@ use Prim.Native.Nat.{ℕ, ◌+◌, ◌≤◌}
 use native.Mathlib.Omega.{arith}
 use lib.ListN.{length, get_or}
 use Rattle.pkcs12.specs.Table.{no_safe, no_bag, no_attribute, safes_counted, bags_counted, attributes_counted}
-use Rattle.pkcs12.specs.declared.answers.Answer.{Answer}
-use Rattle.pkcs12.specs.declared.answers.Answer.TheVariants.{Accepted, Refused}
+use Rattle.der.specs.declared.Fault.{Fault}
+use Rattle.std.specs.Prelude.{Err, None, Ok, Option, Result, Some, ⊤}
 use Rattle.pkcs12.specs.declared.row.AttributeRow.{AttributeRow}
 use Rattle.pkcs12.specs.declared.kind.BagKind.{BagKind}
 use Rattle.pkcs12.specs.declared.kind.BagKind.TheVariants.{Key, ShroudedKey, Certificate, Crl, Secret, Nested}
 use Rattle.pkcs12.specs.declared.row.BagRow.{BagRow}
-use Rattle.pkcs12.specs.declared.row.Enclosing.{Enclosing}
-use Rattle.pkcs12.specs.declared.row.Enclosing.TheVariants.{Bag}
 use Rattle.pkcs12.specs.declared.row.Mac.{Mac}
 use Rattle.pkcs12.specs.declared.row.Parts.{Parts}
 use Rattle.range.specs.declared.Range.{Range}
@@ -70,10 +68,10 @@ kind_text_lem Crl = within 14 (omega arith) (word (ascii ": crl"))
 kind_text_lem Secret = within 14 (omega arith) (word (ascii ": secret"))
 kind_text_lem Nested = within 14 (omega arith) (word (ascii ": nested"))
 
-enclosing_text_lem : (e : Enclosing) → Short 29 (enclosing_text e)
+enclosing_text_lem : (e : Option ℕ) → Short 29 (enclosing_text e)
 unfolding enclosing_text ascii
-enclosing_text_lem Enclosing.None = within 29 (omega arith) (word (ascii ", in none"))
-enclosing_text_lem (Bag n) = within 29 (omega arith) (number (ascii ", in bag ") n)
+enclosing_text_lem None = within 29 (omega arith) (word (ascii ", in none"))
+enclosing_text_lem (Some n) = within 29 (omega arith) (number (ascii ", in bag ") n)
 
 parts_text_lem : (k : BagKind) (p : Parts) → Short 164 (parts_text k p)
 unfolding parts_text ascii
@@ -136,10 +134,10 @@ accepted size t =
     and lines (bag_row_line t) 292 (λ i. bag_line_lem i (get_or t.bags i no_bag) (own t i)) (bags_counted t)
     and lines (attribute_row_line t) 157 (λ i. attribute_line_lem i (get_or t.attributes i no_attribute)) (attributes_counted t))
 
-answered_short : (a : Answer) (size : ℕ) (t : Table) → Short listing_bytes (answered a size t)
+answered_short : (a : Result ⊤ Fault) (size : ℕ) (t : Table) → Short listing_bytes (answered a size t)
 unfolding answered
-answered_short Accepted size t = accepted size t
-answered_short (Refused f) size t = within listing_bytes (omega arith) (refused_line_lem f)
+answered_short (Ok tt) size t = accepted size t
+answered_short (Err f) size t = within listing_bytes (omega arith) (refused_line_lem f)
 
 -- every listing is within the limit
 pub short : (size : ℕ) (r : Reading) → length (listing size r) ≤ listing_bytes

@@ -4,14 +4,12 @@ use Rattle.std.specs.Prelude.{Bool, true, false, List, [], ◌++◌, ℕ, zero, 
 use Rattle.std.specs.Prelude.{if◌then◌else◌}
 use Rattle.pkcs12.specs.Table.{no_safe, no_bag, no_attribute, safes_counted, bags_counted, attributes_counted}
 use Rattle.buffer.specs.Placed.{each}
-use Rattle.pkcs12.specs.declared.answers.Answer.{Answer}
-use Rattle.pkcs12.specs.declared.answers.Answer.TheVariants.{Accepted, Refused}
+use Rattle.der.specs.declared.Fault.{Fault}
+use Rattle.std.specs.Prelude.{Err, None, Ok, Option, Result, Some, ⊤}
 use Rattle.pkcs12.specs.declared.row.AttributeRow.{AttributeRow}
 use Rattle.pkcs12.specs.declared.kind.BagKind.{BagKind}
 use Rattle.pkcs12.specs.declared.kind.BagKind.TheVariants.{Key, ShroudedKey, Certificate, Crl, Secret, Nested}
 use Rattle.pkcs12.specs.declared.row.BagRow.{BagRow}
-use Rattle.pkcs12.specs.declared.row.Enclosing.{Enclosing}
-use Rattle.pkcs12.specs.declared.row.Enclosing.TheVariants.{Bag}
 use Rattle.pkcs12.specs.declared.row.Mac.{Mac}
 use Rattle.pkcs12.specs.declared.row.Parts.{Parts}
 use Rattle.range.specs.declared.Range.{Range}
@@ -64,9 +62,9 @@ kind_text Secret = ascii ": secret"
 kind_text Nested = ascii ": nested"
 
 -- ", in none", ", in bag 2"
-unfoldable pub enclosing_text : Enclosing → List ℕ
-enclosing_text Enclosing.None = ascii ", in none"
-enclosing_text (Bag n) = number_text (ascii ", in bag ") n
+unfoldable pub enclosing_text : Option ℕ → List ℕ
+enclosing_text None = ascii ", in none"
+enclosing_text (Some n) = number_text (ascii ", in bag ") n
 
 -- the ranges that a bag of a kind has: ", key A..B"; a CRL and a secret have those of a certificate
 unfoldable pub parts_text : BagKind → Parts → List ℕ
@@ -147,9 +145,9 @@ head_lines size t = file_line size t.elements ++ counts_line (safes_counted t) (
 unfoldable pub accepted_lines : ℕ → Table → List ℕ
 accepted_lines size t = head_lines size t ++ each (safe_row_line t) (safes_counted t) ++ each (bag_row_line t) (bags_counted t) ++ each (attribute_row_line t) (attributes_counted t)
 
-unfoldable pub answered : Answer → ℕ → Table → List ℕ
-answered Accepted size t = accepted_lines size t
-answered (Refused f) size t = refused_line f
+unfoldable pub answered : Result ⊤ Fault → ℕ → Table → List ℕ
+answered (Ok tt) size t = accepted_lines size t
+answered (Err f) size t = refused_line f
 
 -- the listing of a file of this size
 unfoldable pub listing : ℕ → Reading → List ℕ

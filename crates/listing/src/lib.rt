@@ -12,17 +12,16 @@ mod lines;
 mod out;
 mod rows;
 
-use buffer::Written;
 use der::Fault;
-use pkcs12::{Answer, Reading, Table};
+use pkcs12::{ATTRIBUTE_ROWS, BAG_ROWS, Reading, SAFE_ROWS, Table};
 
 // The three lines that every accepted file has.
 fn head(out: &mut [u8], at: usize, size: usize, table: Table) -> usize
     ensures { Placed out.old at (head_lines size table) out.new result }
 {
-    let safes = range::fewer(table.safe_count, pkcs12::SAFE_ROWS);
-    let bags = range::fewer(table.bag_count, pkcs12::BAG_ROWS);
-    let attributes = range::fewer(table.attribute_count, pkcs12::ATTRIBUTE_ROWS);
+    let safes = table.safe_count.min(SAFE_ROWS);
+    let bags = table.bag_count.min(BAG_ROWS);
+    let attributes = table.attribute_count.min(ATTRIBUTE_ROWS);
     let first = lines::file_line(out, at, size, table.elements);
     let second = lines::counts_line(out, first, safes, bags, attributes);
     lines::mac_line(out, second, table.mac_input, table.mac)
@@ -37,12 +36,12 @@ fn accepted(out: &mut [u8], at: usize, size: usize, table: Table) -> usize
     rows::attribute_lines(out, attributes, table)
 }
 
-fn answered(out: &mut [u8], answer: Answer, size: usize, table: Table) -> usize
+fn answered(out: &mut [u8], answer: Result<(), Fault>, size: usize, table: Table) -> usize
     ensures { Placed out.old 0 (answered answer size table) out.new result }
 {
     match answer {
-        Answer::Accepted => accepted(out, 0, size, table),
-        Answer::Refused(f) => text::refused(out, 0, f),
+        Ok(()) => accepted(out, 0, size, table),
+        Err(f) => text::refused(out, 0, f),
     }
 }
 
@@ -50,26 +49,23 @@ fn answered(out: &mut [u8], answer: Answer, size: usize, table: Table) -> usize
 fn measured(size: usize, reading: Reading) -> usize
     ensures { result ≡ length (listing size reading) }
 {
-    let answer = reading.answer;
-    let mut none = [0u8; 0];
-    answered(&mut none, answer, size, reading.table)
+    answered(&mut [], reading.answer, size, reading.table)
 }
 
 // Writes the listing of a file of this size. Nothing is written before it is known that the buffer
 // is long enough.
-pub fn list(size: usize, reading: Reading, out: &mut [u8]) -> Written
+pub fn list(size: usize, reading: Reading, out: &mut [u8]) -> Result<usize, Fault>
     ensures value { result ≡ (listed size reading out.old).answer }
     ensures report { written_report result ≡ written_report (listed size reading out.old).answer }
     ensures out_after { out.new ≡ (listed size reading out.old).buffer }
 {
     let n = measured(size, reading);
     if out.len() < n {
-        return Written::Refused(Fault {
+        return Err(Fault {
             number: buffer::SHORT_BUFFER,
             offset: 0,
         });
     }
-    let answer = reading.answer;
-    let end = answered(out, answer, size, reading.table);
-    Written::Length(n)
+    answered(out, reading.answer, size, reading.table);
+    Ok(n)
 }

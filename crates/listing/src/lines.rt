@@ -5,7 +5,7 @@ ghost use Rattle.buffer.specs.Placed.{Placed};
 
 use crate::out;
 use buffer::write;
-use pkcs12::{AttributeRow, BagKind, BagRow, Enclosing, Mac, Parts, SafeKind, SafeRow};
+use pkcs12::{AttributeRow, BagKind, BagRow, Mac, Parts, SafeKind, SafeRow};
 use range::Range;
 
 fn safe_kind(out: &mut [u8], at: usize, kind: SafeKind, p: Parts) -> usize
@@ -24,9 +24,8 @@ fn safe_kind(out: &mut [u8], at: usize, kind: SafeKind, p: Parts) -> usize
 pub(crate) fn safe_line(out: &mut [u8], at: usize, i: usize, row: SafeRow) -> usize
     ensures { Placed out.old at (safe_line i row) out.new result }
 {
-    let kind = row.kind;
     let number = text::number(out, at, b"safe ", i);
-    let end = safe_kind(out, number, kind, row.parts);
+    let end = safe_kind(out, number, row.kind, row.parts);
     write::bytes(out, end, b"\n")
 }
 
@@ -44,15 +43,12 @@ fn bag_kind(out: &mut [u8], at: usize, kind: BagKind) -> usize
     }
 }
 
-fn enclosing(out: &mut [u8], at: usize, e: Enclosing) -> usize
+fn enclosing(out: &mut [u8], at: usize, e: Option<u16>) -> usize
     ensures { Placed out.old at (enclosing_text e) out.new result }
 {
     match e {
-        Enclosing::None => write::bytes(out, at, b", in none"),
-        Enclosing::Bag(n) => {
-            let bag = n as usize;
-            text::number(out, at, b", in bag ", bag)
-        }
+        None => write::bytes(out, at, b", in none"),
+        Some(n) => text::number(out, at, b", in bag ", n as usize),
     }
 }
 
@@ -61,13 +57,10 @@ fn bag_parts(out: &mut [u8], at: usize, kind: BagKind, p: Parts) -> usize
     ensures { Placed out.old at (parts_text kind p) out.new result }
 {
     match kind {
-        BagKind::None => at,
+        BagKind::None | BagKind::Nested => at,
         BagKind::Key => out::range(out, at, b", key ", p.value),
         BagKind::ShroudedKey => out::sealed(out, at, p),
-        BagKind::Certificate => out::typed(out, at, p),
-        BagKind::Crl => out::typed(out, at, p),
-        BagKind::Secret => out::typed(out, at, p),
-        BagKind::Nested => at,
+        BagKind::Certificate | BagKind::Crl | BagKind::Secret => out::typed(out, at, p),
     }
 }
 
@@ -76,30 +69,27 @@ fn bag_set(out: &mut [u8], at: usize, has_set: bool, own: usize) -> usize
     ensures { Placed out.old at (set_text has_set own) out.new result }
 {
     if has_set {
-        return text::number(out, at, b", attributes ", own);
+        text::number(out, at, b", attributes ", own)
+    } else {
+        write::bytes(out, at, b", no attributes")
     }
-    write::bytes(out, at, b", no attributes")
 }
 
 // What every bag has.
 fn bag_start(out: &mut [u8], at: usize, i: usize, row: BagRow) -> usize
     ensures { Placed out.old at (bag_start i row) out.new result }
 {
-    let kind = row.kind;
-    let safe = row.safe as usize;
-    let outer = row.enclosing;
     let first = text::number(out, at, b"bag ", i);
-    let second = bag_kind(out, first, kind);
-    let third = text::number(out, second, b", safe ", safe);
-    enclosing(out, third, outer)
+    let second = bag_kind(out, first, row.kind);
+    let third = text::number(out, second, b", safe ", row.safe as usize);
+    enclosing(out, third, row.enclosing)
 }
 
 pub(crate) fn bag_line(out: &mut [u8], at: usize, i: usize, row: BagRow, own: usize) -> usize
     ensures { Placed out.old at (bag_line i row own) out.new result }
 {
-    let kind = row.kind;
     let start = bag_start(out, at, i, row);
-    let parts = bag_parts(out, start, kind, row.parts);
+    let parts = bag_parts(out, start, row.kind, row.parts);
     let set = bag_set(out, parts, row.has_set, own);
     write::bytes(out, set, b"\n")
 }
@@ -107,9 +97,8 @@ pub(crate) fn bag_line(out: &mut [u8], at: usize, i: usize, row: BagRow, own: us
 pub(crate) fn attribute_line(out: &mut [u8], at: usize, i: usize, row: AttributeRow) -> usize
     ensures { Placed out.old at (attribute_line i row) out.new result }
 {
-    let bag = row.bag as usize;
     let first = text::number(out, at, b"attribute ", i);
-    let second = text::number(out, first, b": bag ", bag);
+    let second = text::number(out, first, b": bag ", row.bag as usize);
     let identifier = out::range(out, second, b", type ", row.identifier);
     let values = out::range(out, identifier, b", values ", row.values);
     write::bytes(out, values, b"\n")
@@ -141,11 +130,9 @@ pub(crate) fn counts_line(
 pub(crate) fn mac_line(out: &mut [u8], at: usize, input: Range, mac: Mac) -> usize
     ensures { Placed out.old at (mac_line input mac) out.new result }
 {
-    let parts = mac.parts;
-    let iterations = mac.iterations as usize;
     let first = out::range(out, at, b"mac input ", input);
-    let digest = out::range(out, first, b", digest ", parts.value);
+    let digest = out::range(out, first, b", digest ", mac.parts.value);
     let salt = out::range(out, digest, b", salt ", mac.salt);
-    let number = text::number(out, salt, b", iterations ", iterations);
+    let number = text::number(out, salt, b", iterations ", mac.iterations as usize);
     write::bytes(out, number, b"\n")
 }

@@ -10,10 +10,8 @@ use range::Range;
 pub(crate) fn range(out: &mut [u8], at: usize, name: &[u8], r: Range) -> usize
     ensures { Placed out.old at (range_text name.now r) out.new result }
 {
-    let start = r.start as usize;
-    let end = r.end as usize;
-    let next = text::number(out, at, name, start);
-    text::number(out, next, b"..", end)
+    let next = text::number(out, at, name, r.start as usize);
+    text::number(out, next, b"..", r.end as usize)
 }
 
 // What an encrypted safe and a shrouded key hold.

@@ -17,8 +17,7 @@ use Rattle.pkcs12.specs.declared.kind.SafeKind.{SafeKind}
 use Rattle.pkcs12.specs.declared.kind.SafeKind.TheVariants.{Plain, Encrypted}
 use Rattle.pkcs12.specs.declared.kind.BagKind.{BagKind}
 use Rattle.pkcs12.specs.declared.kind.BagKind.TheVariants.{Key, ShroudedKey, Certificate, Crl, Secret, Nested}
-use Rattle.pkcs12.specs.declared.row.Enclosing.{Enclosing}
-use Rattle.pkcs12.specs.declared.row.Enclosing.TheVariants.{Bag}
+use Rattle.std.specs.Prelude.{None, Option, Some}
 use Rattle.pkcs12.specs.declared.row.SafeRow.{SafeRow}
 use Rattle.pkcs12.specs.declared.row.BagRow.{BagRow}
 use Rattle.pkcs12.specs.declared.row.AttributeRow.{AttributeRow}
@@ -53,12 +52,12 @@ module _ (ws : List ℕ) (at : ℕ) where
 
 -- ---- what a word means
 
-enclosing_same : (e : Enclosing) → EnclosingFits e → enclosing_of (enclosing_number e) ≡ e
+enclosing_same : (e : Option ℕ) → EnclosingFits e → enclosing_of (enclosing_number e) ≡ e
 unfolding enclosing_of
-enclosing_same Enclosing.None f = refl
-enclosing_same (Bag n) f =
-    let z : enclosing_number (Bag n) - 1 ≡ n = omega (arith, f) in
-    rw (ne_eqb (enclosing_number (Bag n)) 0 (λ e. omega (arith, e)), z)
+enclosing_same None f = refl
+enclosing_same (Some n) f =
+    let z : enclosing_number (Some n) - 1 ≡ n = omega (arith, f) in
+    rw (ne_eqb (enclosing_number (Some n)) 0 (λ e. omega (arith, e)), z)
 
 safe_kind_same : (k : SafeKind) → safe_kind_of (safe_number k) ≡ k
 unfolding safe_kind_of

@@ -16,8 +16,7 @@ use Rattle.der.specs.Named.{Each}
 use Rattle.range.specs.declared.Range.{Range}
 use Rattle.pkcs12.specs.declared.row.Parts.{Parts}
 use Rattle.pkcs12.specs.declared.kind.BagKind.{BagKind}
-use Rattle.pkcs12.specs.declared.row.Enclosing.{Enclosing}
-use Rattle.pkcs12.specs.declared.row.Enclosing.TheVariants.{Bag}
+use Rattle.std.specs.Prelude.{None, Some}
 use Rattle.pkcs12.specs.declared.row.SafeRow.{SafeRow}
 use Rattle.pkcs12.specs.declared.row.BagRow.{BagRow}
 use Rattle.pkcs12.specs.declared.row.AttributeRow.{AttributeRow}
@@ -45,7 +44,7 @@ module _ (s : List ℕ) where
   bags_fit from to w n (nest inner set xs) rows own e c (one_nest {row = row} {below = below} {own = o} value body b f l m) = (
     bag_fits _ _ w n _ no_parts value _ set row o e b,
     each_join BagFits below _
-        (bags_fit _ _ (owner w.safe (Bag n)) (n + 1) inner below _ (omega (arith, c)) (omega (arith, c)) l)
+        (bags_fit _ _ (owner w.safe (Some n)) (n + 1) inner below _ (omega (arith, c)) (omega (arith, c)) l)
         (bags_fit _ _ w (n + 1 + bags_in inner) xs _ _ e (omega (arith, c)) m),
   )
 
@@ -54,7 +53,7 @@ module _ (s : List ℕ) where
   unfolding bags_in_safes Each
   safes_fit from to k n [] safes rows own c no_safe_laid = tt
   safes_fit from to k n (plain x ∷ xs) safes rows own c (one_plain {below = below} octets inner d l m) =
-      each_join BagFits below _ (bags_fit _ _ (owner k Enclosing.None) n x below _ tt (omega (arith, c)) l)
+      each_join BagFits below _ (bags_fit _ _ (owner k None) n x below _ tt (omega (arith, c)) l)
       (safes_fit _ _ (k + 1) (n + bags_in x) xs _ _ _ (omega (arith, c)) m)
   safes_fit from to k n (encrypted x ∷ xs) safes rows own c (one_encrypted p value d e m) =
       safes_fit _ _ (k + 1) n xs _ rows own (omega (arith, c)) m

@@ -1,10 +1,10 @@
 -- Rows of one kind, collected in an array one by one.
 use mathlib.Core.Path.{◌≡◌, refl, sym, ap, ◌∙◌}
 use mathlib.Core.List.{List, [], ◌∷◌}
-use Prim.Native.Nat.{ℕ, ◌+◌, ◌≤◌, ◌<◌, min}
+use Prim.Native.Nat.{ℕ, ◌+◌, ◌-◌, ◌≤◌, ◌<◌, min}
 use native.Mathlib.Nat.{mul-one}
 use native.Mathlib.Omega.{arith}
-use lib.ListN.{length, set}
+use lib.ListN.{length, set, replicate}
 use Rattle.pkcs12.specs.Table.{padded}
 use Rattle.buffer.specs.Placed.{each}
 use Rattle.buffer.proofs.Placing.{each_more}
@@ -20,9 +20,11 @@ module _ {A : Type 0} (f : ℕ → A) (none : A) (rows count end : ℕ) where
     pub due : end ≡ min count rows
     pub so_far : xs ≡ padded rows none (each (λ j. f j ∷ []) i)
 
-  pub collect_start : (xs : List A) → end ≡ min count rows → xs ≡ padded rows none [] → Collecting xs 0
+  pub collect_start : (x : A) → end ≡ min count rows → x ≡ none → Collecting (replicate rows x) 0
   unfolding each
-  collect_start xs e p = record { within = omega arith; few = omega (arith, e); due = e; so_far = p }
+  collect_start x e p =
+      let all : rows - 0 ≡ rows = omega arith in
+      record { within = omega arith; few = omega (arith, e); due = e; so_far = rw (all, p) }
 
   module _ (xs : List A) (i : ℕ) (g : Collecting xs i) where
     pub collect_on : (x : A) → i < end → x ≡ f i → Collecting (set xs i x) (i + 1)

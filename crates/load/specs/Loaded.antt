@@ -12,8 +12,7 @@ use Rattle.pkcs12.specs.declared.kind.SafeKind.{SafeKind}
 use Rattle.pkcs12.specs.declared.kind.SafeKind.TheVariants.{Plain, Encrypted}
 use Rattle.pkcs12.specs.declared.kind.BagKind.{BagKind}
 use Rattle.pkcs12.specs.declared.kind.BagKind.TheVariants.{Key, ShroudedKey, Certificate, Crl, Secret, Nested}
-use Rattle.pkcs12.specs.declared.row.Enclosing.{Enclosing}
-use Rattle.pkcs12.specs.declared.row.Enclosing.TheVariants.{Bag}
+use Rattle.std.specs.Prelude.{None, Option, Some}
 use Rattle.pkcs12.specs.declared.row.SafeRow.{SafeRow}
 use Rattle.pkcs12.specs.declared.row.BagRow.{BagRow}
 use Rattle.pkcs12.specs.declared.row.AttributeRow.{AttributeRow}
@@ -28,8 +27,8 @@ word_at ws i = get_or ws i 0
 
 -- ---- what a word means
 
-unfoldable pub enclosing_of : ℕ → Enclosing
-enclosing_of w = if eqb w 0 then Enclosing.None else Bag (w - 1)
+unfoldable pub enclosing_of : ℕ → Option ℕ
+enclosing_of w = if eqb w 0 then None else Some (w - 1)
 
 -- a number that is no kind's is `None`
 unfoldable pub safe_kind_of : ℕ → SafeKind
@@ -74,25 +73,31 @@ mac_loaded ws at =
 
 -- ---- all of it
 
--- row i of each kind
+-- row i of a kind, whose rows are from an offset on
+abbrev pub row_from : {A : Type 0} → (List ℕ → ℕ → A) → ℕ → ℕ → List ℕ → ℕ → A
+row_from loaded from width ws i = loaded ws (from + i * width)
+
 abbrev pub safe_from : List ℕ → ℕ → SafeRow
-safe_from ws i = safe_loaded ws (safes_at + i * safe_width)
+safe_from = row_from safe_loaded safes_at safe_width
 
 abbrev pub bag_from : List ℕ → ℕ → BagRow
-bag_from ws i = bag_loaded ws (bags_at + i * bag_width)
+bag_from = row_from bag_loaded bags_at bag_width
 
 abbrev pub attribute_from : List ℕ → ℕ → AttributeRow
-attribute_from ws i = attribute_loaded ws (attributes_at + i * attribute_width)
+attribute_from = row_from attribute_loaded attributes_at attribute_width
 
 -- the same by the row's number; there is no row past the size of the table
+abbrev pub row_fetched : {A : Type 0} → (List ℕ → ℕ → A) → A → ℕ → ℕ → ℕ → List ℕ → ℕ → A
+row_fetched loaded none rows from width ws n = if leb rows n then none else row_from loaded from width ws n
+
 unfoldable pub safe_fetched : List ℕ → ℕ → SafeRow
-safe_fetched ws n = if leb safe_rows n then no_safe else safe_from ws n
+safe_fetched ws n = row_fetched safe_loaded no_safe safe_rows safes_at safe_width ws n
 
 unfoldable pub bag_fetched : List ℕ → ℕ → BagRow
-bag_fetched ws n = if leb bag_rows n then no_bag else bag_from ws n
+bag_fetched ws n = row_fetched bag_loaded no_bag bag_rows bags_at bag_width ws n
 
 unfoldable pub attribute_fetched : List ℕ → ℕ → AttributeRow
-attribute_fetched ws n = if leb attribute_rows n then no_attribute else attribute_from ws n
+attribute_fetched ws n = row_fetched attribute_loaded no_attribute attribute_rows attributes_at attribute_width ws n
 
 -- the rows of one kind: those that are counted and that there are, and empty ones in place of the
 -- others

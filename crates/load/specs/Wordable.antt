@@ -1,18 +1,17 @@
 -- The tables that come back from their words as they were.
-use Rattle.std.specs.Prelude.{◌≡◌, ◌≤◌, ◌<◌}
+use Rattle.std.specs.Prelude.{◌≡◌, ℕ, ◌≤◌, ◌<◌}
 use Rattle.pkcs12.specs.Numbers.{safe_rows, bag_rows, attribute_rows}
 use Rattle.pkcs12.specs.Table.{table_of, rows_in}
 use Rattle.der.specs.Named.{Each}
-use Rattle.pkcs12.specs.declared.row.Enclosing.{Enclosing}
-use Rattle.pkcs12.specs.declared.row.Enclosing.TheVariants.{Bag}
+use Rattle.std.specs.Prelude.{None, Option, Some}
 use Rattle.pkcs12.specs.declared.row.BagRow.{BagRow}
 use Rattle.pkcs12.specs.declared.table.Table.{Table}
 use Rattle.words.specs.Layout.{greatest_word}
 
 -- the number of an enclosing bag is one more than its row
-abbrev pub EnclosingFits : Enclosing → Type 0
-EnclosingFits Enclosing.None = Unit {0}
-EnclosingFits (Bag n) = n < greatest_word
+abbrev pub EnclosingFits : Option ℕ → Type 0
+EnclosingFits None = Unit {0}
+EnclosingFits (Some n) = n < greatest_word
 
 abbrev pub BagFits : BagRow → Type 0
 BagFits r = EnclosingFits r.enclosing

@@ -6,6 +6,7 @@ ghost use Rattle.std.specs.Prelude.{◌≡◌};
 ghost use Rattle.load.specs.Loaded.{safe_fetched, bag_fetched, attribute_fetched, table_in};
 
 mod get;
+mod row;
 
 use pkcs12::{AttributeRow, BagRow, SafeRow, Table};
 
@@ -13,28 +14,19 @@ use pkcs12::{AttributeRow, BagRow, SafeRow, Table};
 pub fn safe(words: &[u16], n: usize) -> SafeRow
     ensures { result ≡ safe_fetched words.now n }
 {
-    if pkcs12::SAFE_ROWS <= n {
-        return SafeRow::EMPTY;
-    }
-    get::safe(words, words::SAFES_AT + n * words::SAFE_WIDTH)
+    row::fetch::<SafeRow>(words, n)
 }
 
 pub fn bag(words: &[u16], n: usize) -> BagRow
     ensures { result ≡ bag_fetched words.now n }
 {
-    if pkcs12::BAG_ROWS <= n {
-        return BagRow::EMPTY;
-    }
-    get::bag(words, words::BAGS_AT + n * words::BAG_WIDTH)
+    row::fetch::<BagRow>(words, n)
 }
 
 pub fn attribute(words: &[u16], n: usize) -> AttributeRow
     ensures { result ≡ attribute_fetched words.now n }
 {
-    if pkcs12::ATTRIBUTE_ROWS <= n {
-        return AttributeRow::EMPTY;
-    }
-    get::attribute(words, words::ATTRIBUTES_AT + n * words::ATTRIBUTE_WIDTH)
+    row::fetch::<AttributeRow>(words, n)
 }
 
 // The table that is loaded from words.
@@ -44,21 +36,15 @@ pub fn table(words: &[u16]) -> Table
     let safe_count = get::word(words, words::SAFE_COUNT_AT) as usize;
     let bag_count = get::word(words, words::BAG_COUNT_AT) as usize;
     let attribute_count = get::word(words, words::ATTRIBUTE_COUNT_AT) as usize;
-    let elements = get::word(words, words::ELEMENTS_AT) as usize;
-    let safes = get::safes(words, safe_count);
-    let bags = get::bags(words, bag_count);
-    let attributes = get::attributes(words, attribute_count);
-    let mac = get::mac(words, words::MAC_FIELDS_AT);
-    let mac_input = get::range(words, words::MAC_INPUT_AT);
     Table {
-        safes,
+        safes: row::rows(words, safe_count),
         safe_count,
-        bags,
+        bags: row::rows(words, bag_count),
         bag_count,
-        attributes,
+        attributes: row::rows(words, attribute_count),
         attribute_count,
-        mac,
-        mac_input,
-        elements,
+        mac: get::mac(words, words::MAC_FIELDS_AT),
+        mac_input: get::range(words, words::MAC_INPUT_AT),
+        elements: get::word(words, words::ELEMENTS_AT) as usize,
     }
 }

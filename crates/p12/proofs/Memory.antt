@@ -13,7 +13,7 @@ use Rattle.pkcs12.specs.Report.{answer_report}
 use Rattle.buffer.specs.Report.{written_report}
 use Rattle.pkcs12.specs.Walk.{read_file}
 use Rattle.pkcs12.specs.Written.{write_file}
-use Rattle.pkcs12.specs.declared.answers.Answer.{Answer}
+use Rattle.std.specs.Prelude.{Err}
 use Rattle.pkcs12.specs.declared.table.Table.{Table}
 use Rattle.pkcs12.proofs.Theorems.{refused_table_empty, read_is_written}
 use Rattle.words.specs.Layout.{table_words}
@@ -39,7 +39,7 @@ module _ (f words : List ℕ) (h : table_words ≤ length words) where
   unfolding read_call answer_report
   read_stores a = ap as_call (reader.accepted_is_stored f words h a)
 
-  pub refused_is_cleared : (x : Fault) → (read_file f).answer ≡ Answer.Refused x
+  pub refused_is_cleared : (x : Fault) → (read_file f).answer ≡ Err x
       → read_call f words ≡ called x.number (replicate table_words 0 ++ drop table_words words) x.offset
   unfolding read_call answer_report
   refused_is_cleared x e = ap as_call (reader.refused_is_cleared f words h x e)
@@ -55,7 +55,7 @@ module _ (f words : List ℕ) (h : table_words ≤ length words) where
     unfolding read_call
     read_is_loaded = reader.into_is_loaded f words h b
 
-    pub refused_is_11 : (x : Fault) → (read_file f).answer ≡ Answer.Refused x
+    pub refused_is_11 : (x : Fault) → (read_file f).answer ≡ Err x
         → (s : List ℕ) → Is11 (read_call f words).memory s
     refused_is_11 x e s = empty_is_11 _ s still_long (read_is_loaded ∙ refused_table_empty f x e)
 

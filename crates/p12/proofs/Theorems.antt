@@ -12,7 +12,7 @@ use Rattle.der.specs.declared.Fault.{Fault}
 use Rattle.buffer.specs.Numbers.{short_buffer}
 use Rattle.pkcs12.specs.Accepted.{IsAccepted, table_from}
 use Rattle.pkcs12.specs.Walk.{read_file}
-use Rattle.pkcs12.specs.declared.answers.Answer.{Answer}
+use Rattle.std.specs.Prelude.{Err}
 use Rattle.words.specs.Layout.{table_words}
 use Rattle.words.specs.Stored.{words_of}
 use Rattle.load.specs.Loaded.{table_in}
@@ -39,7 +39,7 @@ module _ (f words : List ℕ) (h : table_words ≤ length words) where
   read_stores = memory.read_stores f words h
 
   -- After a refused file every word of the table is 0, whatever was there; words behind them stay.
-  pub refused_is_cleared : (x : Fault) → (read_file f).answer ≡ Answer.Refused x
+  pub refused_is_cleared : (x : Fault) → (read_file f).answer ≡ Err x
       → read_call f words ≡ called x.number (replicate table_words 0 ++ drop table_words words) x.offset
   refused_is_cleared = memory.refused_is_cleared f words h
 
@@ -55,6 +55,6 @@ module _ (f words : List ℕ) (h : table_words ≤ length words) where
     read_then_write = memory.read_then_write f words h b
 
     -- and after a refused file each call that takes the table is 11, over any bytes.
-    pub refused_is_11 : (x : Fault) → (read_file f).answer ≡ Answer.Refused x
+    pub refused_is_11 : (x : Fault) → (read_file f).answer ≡ Err x
         → (s : List ℕ) → Is11 (read_call f words).memory s
     refused_is_11 = memory.refused_is_11 f words h b

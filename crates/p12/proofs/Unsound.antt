@@ -17,6 +17,8 @@ use Rattle.buffer.specs.Report.{written_report}
 use Rattle.pkcs12.specs.Written.{file_of, write_file}
 use Rattle.pkcs12.specs.declared.table.Table.{Table}
 use Rattle.attributes.specs.Reader.{refused_by, opening_of, item_after}
+use Rattle.der.specs.declared.Fault.{Fault}
+use Rattle.std.specs.Prelude.{Err, Result}
 use Rattle.attributes.specs.declared.Item.{Item}
 use Rattle.attributes.proofs.Theorems.{refused_stays}
 use Rattle.pairing.specs.Pairs as pairing
@@ -53,7 +55,7 @@ module _ (words s : List ℕ) where
     unfolding write_call write_file written_report
     write_is_11 room = table_is _ (λ (t : Table). wrote (write_file t s room)) ∙ rw e refl
 
-    opening_is_11 : (bag : ℕ) → (opening_of (table_in words) s bag).item ≡ Item.Refused (fault not_sound 0)
+    opening_is_11 : (bag : ℕ) → (opening_of (table_in words) s bag).item ≡ Err (fault not_sound 0)
     unfolding opening_of refused_by
     opening_is_11 bag = rw e refl
 
@@ -61,7 +63,7 @@ module _ (words s : List ℕ) where
     unfolding attribute_call
     attribute_is_11 bag i room =
         table_is _ (λ (t : Table). item_as (item_after i (opening_of t s bag)) room)
-        ∙ ap (λ (x : Item). item_as x room) (refused_stays _ s bag (fault not_sound 0) (opening_is_11 bag) i)
+        ∙ ap (λ (x : Result Item Fault). item_as x room) (refused_stays _ s bag (fault not_sound 0) (opening_is_11 bag) i)
 
     certificate_is_11 : (key : ℕ) → certificate_call words s key ≡ pairing.refused_by not_sound
     unfolding certificate_call certificate_for

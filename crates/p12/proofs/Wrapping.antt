@@ -7,34 +7,34 @@ use lib.ListN.{length, get_or}
 use Rattle.der.proofs.Choices.{by_lt, by_eq}
 use Rattle.buffer.specs.Report.{written_report}
 use Rattle.buffer.specs.Written.{Outcome, length_of, into_buffer}
-use Rattle.buffer.specs.declared.Written.{Written}
-use Rattle.buffer.specs.declared.Written.TheVariants.{Length}
+use Rattle.der.specs.declared.Fault.{Fault}
+use Rattle.std.specs.Prelude.{Err, Ok, Result}
 use Rattle.pem.specs.Calls.{imported, exported}
 use Rattle.pem.specs.Wrap.{wrap}
-use Rattle.p12.specs.Calls.{written_number, written_offset, import_call, import_offset, export_call}
-use Rattle.p12.proofs.Gives.{three_and, Gives, wrote_gives}
+use Rattle.p12.specs.Calls.{number_of, offset_of, written_offset, import_call, import_offset, export_call}
+use Rattle.p12.proofs.Gives.{three_and, Gives, written_told, wrote_gives}
 
-pub import_gives : (t buffer : List ℕ) (w : Written) → w ≡ (imported t buffer).answer
-    → (z : List ℕ) → z ≡ (imported t buffer).buffer → (n : ℕ) → n ≡ written_number w
-    → (k : ℕ) → k ≡ length_of w → (j : ℕ) → j ≡ written_offset w
+pub import_gives : (t buffer : List ℕ) (w : Result ℕ Fault) → w ≡ (imported t buffer).answer
+    → (z : List ℕ) → z ≡ (imported t buffer).buffer → (n : ℕ) → n ≡ number_of w
+    → (k : ℕ) → k ≡ length_of w → (j : ℕ) → j ≡ offset_of w
     → (n ≡ (import_call t buffer).number)
     × ((z ≡ (import_call t buffer).memory) × ((k ≡ (import_call t buffer).value) × (j ≡ import_offset t buffer)))
 unfolding import_call import_offset
 import_gives t buffer w p z q n r k e j l =
-    three_and (wrote_gives (imported t buffer) w z p q n r k e) (l ∙ ap (λ (x : Written). written_offset x) p)
+    three_and (wrote_gives (imported t buffer) w z p q n r k e) (l ∙ (written_told w).1 ∙ ap (λ (x : Result ℕ Fault). written_offset x) p)
 
-pub export_gives : (x buffer : List ℕ) (w : Written) → w ≡ (exported x buffer).answer
-    → (z : List ℕ) → z ≡ (exported x buffer).buffer → (n : ℕ) → n ≡ written_number w
+pub export_gives : (x buffer : List ℕ) (w : Result ℕ Fault) → w ≡ (exported x buffer).answer
+    → (z : List ℕ) → z ≡ (exported x buffer).buffer → (n : ℕ) → n ≡ number_of w
     → (k : ℕ) → k ≡ length_of w → Gives (export_call x buffer) n z k
 unfolding export_call
 export_gives x buffer w p z q = wrote_gives (exported x buffer) w z p q
 
 -- ---- what the calls report is what the answers report: number, offset and length
 
-length_reports : (w : Written) → length_of w ≡ get_or (written_report w).values 0 0
+length_reports : (w : Result ℕ Fault) → length_of w ≡ get_or (written_report w).values 0 0
 unfolding written_report
-length_reports (Length n) = refl
-length_reports (Written.Refused f) = refl
+length_reports (Ok n) = refl
+length_reports (Err f) = refl
 
 pub import_reports : (t buffer : List ℕ)
     → ((import_call t buffer).number ≡ (written_report (imported t buffer).answer).number)

@@ -9,14 +9,13 @@ use Rattle.pkcs12.specs.Walk.{read_file}
 use Rattle.buffer.specs.Written.{Outcome, length_of}
 use Rattle.pkcs12.specs.Written.{write_file}
 use Rattle.pkcs12.specs.declared.table.Table.{Table}
-use Rattle.pkcs12.specs.declared.answers.Answer.{Answer}
-use Rattle.buffer.specs.declared.Written.{Written}
+use Rattle.der.specs.declared.Fault.{Fault}
+use Rattle.std.specs.Prelude.{Err, Ok, Result, ⊤}
 use Rattle.attributes.specs.Reader.{opening_of, item_after}
 use Rattle.attributes.specs.declared.Item.{Item}
 use Rattle.attributes.specs.declared.Item.TheVariants.{Ready, Done}
 use Rattle.pairing.specs.Pairs.{refused_by}
 use Rattle.pairing.specs.Report.{paired_report}
-use Rattle.pairing.specs.declared.Paired.{Paired}
 use Rattle.identities.specs.Identities.{certificate_for}
 use Rattle.words.specs.Layout.{table_words}
 use Rattle.words.specs.Stored.{stored_row}
@@ -34,25 +33,34 @@ ok = 0
 abbrev pub done : ℕ
 done = 255
 
+-- the number and the offset that an answer reports
+abbrev pub number_of : {T : Type 0} → Result T Fault → ℕ
+number_of (Ok x) = ok
+number_of (Err f) = f.number
+
+abbrev pub offset_of : {T : Type 0} → Result T Fault → ℕ
+offset_of (Ok x) = 0
+offset_of (Err f) = f.offset
+
 -- the number and the offset that an answer of reading reports
-abbrev pub read_number : Answer → ℕ
+abbrev pub read_number : Result ⊤ Fault → ℕ
 read_number a = (answer_report a).number
 
-abbrev pub read_offset : Answer → ℕ
+abbrev pub read_offset : Result ⊤ Fault → ℕ
 read_offset a = (answer_report a).offset
 
 -- the number and the offset that an answer of writing reports
-abbrev pub written_number : Written → ℕ
+abbrev pub written_number : Result ℕ Fault → ℕ
 written_number w = (written_report w).number
 
-abbrev pub written_offset : Written → ℕ
+abbrev pub written_offset : Result ℕ Fault → ℕ
 written_offset w = (written_report w).offset
 
 -- the number that an answer of pairing reports, and the row of a certificate, 0 where there is none
-abbrev pub paired_number : Paired → ℕ
+abbrev pub paired_number : Result ℕ Fault → ℕ
 paired_number p = (paired_report p).number
 
-abbrev pub paired_row : Paired → ℕ
+abbrev pub paired_row : Result ℕ Fault → ℕ
 paired_row p = get_or (paired_report p).values 0 0
 
 -- what a call returns and stores: its number, the memory that it writes to, and the value behind a
@@ -88,18 +96,18 @@ unfoldable pub write_call : List ℕ → List ℕ → List ℕ → Called
 write_call words s buffer = on_table words (called not_sound buffer 0) (λ t. wrote (write_file t s buffer))
 
 -- `p12_attribute`: attribute i of a bag as words; 11 for fewer words
-abbrev pub item_as : Item → List ℕ → Called
-item_as (Item.Attribute r) buffer = put (stored_row r buffer)
-item_as Ready buffer = called done buffer 0
-item_as Done buffer = called done buffer 0
-item_as (Item.Refused f) buffer = called f.number buffer 0
+abbrev pub item_as : Result Item Fault → List ℕ → Called
+item_as (Ok (Item.Attribute r)) buffer = put (stored_row r buffer)
+item_as (Ok Ready) buffer = called done buffer 0
+item_as (Ok Done) buffer = called done buffer 0
+item_as (Err f) buffer = called f.number buffer 0
 
 unfoldable pub attribute_call : List ℕ → List ℕ → ℕ → ℕ → List ℕ → Called
 attribute_call words s bag i buffer =
     on_table words (called not_sound buffer 0) (λ t. item_as (item_after i (opening_of t s bag)) buffer)
 
 -- `p12_certificate_for`; 11 for fewer words
-unfoldable pub certificate_call : List ℕ → List ℕ → ℕ → Paired
+unfoldable pub certificate_call : List ℕ → List ℕ → ℕ → Result ℕ Fault
 certificate_call words s key = on_table words (refused_by not_sound) (λ t. certificate_for t s key)
 
 -- what two theorems are stated over: each of these three is 11, and leaves what it would write to

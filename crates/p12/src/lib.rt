@@ -9,17 +9,15 @@ ghost use Rattle.buffer.specs.Written.{length_of};
 ghost use Rattle.elements.specs.Elements.{element_ranges, counted_of};
 ghost use Rattle.words.specs.Layout.{table_words};
 ghost use Rattle.range.specs.Range.{word_range};
-ghost use Rattle.p12.specs.Calls.{read_number, read_offset, written_number, written_offset};
-ghost use Rattle.p12.specs.Calls.{paired_number, paired_row, read_call};
+ghost use Rattle.p12.specs.Calls.{number_of, offset_of};
+ghost use Rattle.p12.specs.Calls.{read_number, paired_number, paired_row, read_call};
 ghost use Rattle.p12.specs.Calls.{write_call, attribute_call, certificate_call, list_call, pairs_call};
 
 mod texts;
 mod upload;
 
 use attributes::Item;
-use buffer::Written;
-use pairing::Paired;
-use pkcs12::Answer;
+use der::Fault;
 use range::Range;
 
 // The number of an answer that is no refusal.
@@ -28,70 +26,38 @@ pub const OK: u8 = 0;
 // There are no more attributes; no refusal has this number.
 pub const DONE: u8 = 255;
 
-fn read_number(answer: Answer) -> u8
-    ensures { result ≡ read_number answer }
+// The number of an answer: that of a refusal, `OK` where there is none.
+fn number_of<T: Copy>(answer: Result<T, Fault>) -> u8
+    ensures { result ≡ number_of answer }
 {
     match answer {
-        Answer::Accepted => OK,
-        Answer::Refused(f) => f.number,
+        Ok(_) => OK,
+        Err(f) => f.number,
     }
 }
 
 // The offset of a refusal, 0 where there is none.
-fn read_offset(answer: Answer) -> usize
-    ensures { result ≡ read_offset answer }
+fn offset_of<T: Copy>(answer: Result<T, Fault>) -> usize
+    ensures { result ≡ offset_of answer }
 {
     match answer {
-        Answer::Accepted => 0,
-        Answer::Refused(f) => f.offset,
-    }
-}
-
-fn written_number(written: Written) -> u8
-    ensures { result ≡ written_number written }
-{
-    match written {
-        Written::Length(_) => OK,
-        Written::Refused(f) => f.number,
-    }
-}
-
-// The offset of a refusal, 0 where there is none.
-fn written_offset(written: Written) -> usize
-    ensures { result ≡ written_offset written }
-{
-    match written {
-        Written::Length(_) => 0,
-        Written::Refused(f) => f.offset,
+        Ok(_) => 0,
+        Err(f) => f.offset,
     }
 }
 
 // The length of what was written, 0 where nothing was.
-fn length_of(written: Written) -> usize
+fn length_of(written: Result<usize, Fault>) -> usize
     ensures { result ≡ length_of written }
 {
-    match written {
-        Written::Length(n) => n,
-        Written::Refused(_) => 0,
-    }
+    written.unwrap_or(0)
 }
 
-fn paired_number(paired: Paired) -> u8
-    ensures { result ≡ paired_number paired }
-{
-    match paired {
-        Paired::Certificate(_) => OK,
-        Paired::Refused(f) => f.number,
-    }
-}
-
-fn paired_row(paired: Paired) -> usize
+// The row of a certificate, 0 where there is none.
+fn row_of(paired: Result<usize, Fault>) -> usize
     ensures { result ≡ paired_row paired }
 {
-    match paired {
-        Paired::Certificate(row) => row,
-        Paired::Refused(_) => 0,
-    }
+    paired.unwrap_or(0)
 }
 
 // Whether memory of so many words is shorter than a table.
@@ -118,8 +84,8 @@ pub extern "C" fn p12_read(file: &[u8], table: &mut [u16], offset: &mut usize) -
     ensures bytes { Bytes file.now }
 {
     let answer = reader::read_into(file, table);
-    *offset = read_offset(answer);
-    read_number(answer)
+    *offset = offset_of(answer);
+    number_of(answer)
 }
 
 // The range of the MAC input in a file.
@@ -131,12 +97,10 @@ pub extern "C" fn p12_mac_input(file: &[u8], start: &mut usize, end: &mut usize)
     ensures bytes { Bytes file.now }
 {
     let reading = reader::read(file);
-    let answer = reading.answer;
-    let table = reading.table;
-    let input = table.mac_input;
+    let input = reading.table.mac_input;
     *start = input.start as usize;
     *end = input.end as usize;
-    read_number(answer)
+    number_of(reading.answer)
 }
 
 // Writes the file of a table into a buffer.
@@ -153,7 +117,7 @@ pub extern "C" fn p12_write(table: &[u16], bytes: &[u8], out: &mut [u8], written
     }
     let file = writer::write(load::table(table), bytes, out);
     *written = length_of(file);
-    written_number(file)
+    number_of(file)
 }
 
 // Attribute i of a bag, as a row of words.
@@ -173,10 +137,10 @@ pub extern "C" fn p12_attribute(
         return buffer::NOT_SOUND;
     }
     match attributes::attribute(load::table(table), bytes, bag, i) {
-        Item::Attribute(a) => written_number(words::store_row(a, row)),
-        Item::Ready => DONE,
-        Item::Done => DONE,
-        Item::Refused(f) => f.number,
+        Ok(Item::Attribute(a)) => number_of(words::store_row(a, row)),
+        Ok(Item::Ready) => DONE,
+        Ok(Item::Done) => DONE,
+        Err(fault) => fault.number,
     }
 }
 
@@ -219,8 +183,8 @@ pub extern "C" fn p12_certificate_for(
         return buffer::NOT_SOUND;
     }
     let paired = identities::certificate_for(load::table(table), bytes, key);
-    *bag = paired_row(paired);
-    paired_number(paired)
+    *bag = row_of(paired);
+    number_of(paired)
 }
 
 // The listing of a file, into a buffer.
@@ -231,10 +195,9 @@ pub extern "C" fn p12_list(file: &[u8], out: &mut [u8], written: &mut usize) -> 
     ensures written_after { written.new ≡ (list_call file.now out.old).value }
     ensures bytes { Bytes file.now }
 {
-    let size = file.len();
-    let answer = listing::list(size, reader::read(file), out);
+    let answer = listing::list(file.len(), reader::read(file), out);
     *written = length_of(answer);
-    written_number(answer)
+    number_of(answer)
 }
 
 // The pairs of a file as text, into a buffer.
@@ -247,5 +210,5 @@ pub extern "C" fn p12_pairs(file: &[u8], out: &mut [u8], written: &mut usize) ->
 {
     let text = pair_lines::list(file, reader::read(file), out);
     *written = length_of(text);
-    written_number(text)
+    number_of(text)
 }

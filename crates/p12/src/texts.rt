@@ -19,8 +19,8 @@ pub extern "C" fn p12_import(
 {
     let imported = pem::import(text, out);
     *written = crate::length_of(imported);
-    *offset = crate::written_offset(imported);
-    crate::written_number(imported)
+    *offset = crate::offset_of(imported);
+    crate::number_of(imported)
 }
 
 // The text of bytes, into a buffer. Its refusals are all at 0.
@@ -33,5 +33,5 @@ pub extern "C" fn p12_export(bytes: &[u8], out: &mut [u8], written: &mut usize) 
 {
     let exported = pem::export(bytes, out);
     *written = crate::length_of(exported);
-    crate::written_number(exported)
+    crate::number_of(exported)
 }

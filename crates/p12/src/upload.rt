@@ -2,9 +2,10 @@
 ghost use Rattle.std.specs.Prelude.{◌≡◌};
 ghost use Rattle.der.specs.Span.{Bytes};
 ghost use Rattle.cells.specs.Cells.{begun_in, taken_in, status_in, end_in};
-ghost use Rattle.p12.specs.Uploads.{status_reported, end_reported};
+ghost use Rattle.p12.specs.Calls.{ok};
+ghost use Rattle.p12.specs.Uploads.{reported, refused, status_reported, end_reported};
 
-use stream::{End, Status};
+use stream::{Counts, Refusal};
 
 // What an answer reports as plain numbers: those of a fault, 0 where there is none, and those of a
 // check that passed, 0 where it did not.
@@ -17,45 +18,47 @@ struct Reported {
     level: usize,
 }
 
-fn status_reported(status: Status) -> Reported
-    ensures { result ≡ status_reported status }
+// A check without a fault.
+fn passed(elements: usize, level: usize) -> Reported
+    ensures { result ≡ reported ok 0 0 elements level }
 {
-    match status {
-        Status::NoFault => Reported {
-            number: crate::OK,
-            offset: 0,
-            after: 0,
-            elements: 0,
-            level: 0,
-        },
-        Status::Refused { fault, after } => Reported {
-            number: fault.number,
-            offset: fault.offset,
-            after,
-            elements: 0,
-            level: 0,
-        },
+    Reported {
+        number: crate::OK,
+        offset: 0,
+        after: 0,
+        elements,
+        level,
     }
 }
 
-fn end_reported(end: End) -> Reported
+// A fault.
+fn refused(refusal: Refusal) -> Reported
+    ensures { result ≡ refused refusal }
+{
+    Reported {
+        number: refusal.fault.number,
+        offset: refusal.fault.offset,
+        after: refusal.after,
+        elements: 0,
+        level: 0,
+    }
+}
+
+fn status_reported(status: Result<(), Refusal>) -> Reported
+    ensures { result ≡ status_reported status }
+{
+    match status {
+        Ok(()) => passed(0, 0),
+        Err(refusal) => refused(refusal),
+    }
+}
+
+fn end_reported(end: Result<Counts, Refusal>) -> Reported
     ensures { result ≡ end_reported end }
 {
     match end {
-        End::Passed { elements, level } => Reported {
-            number: crate::OK,
-            offset: 0,
-            after: 0,
-            elements,
-            level,
-        },
-        End::Refused { fault, after } => Reported {
-            number: fault.number,
-            offset: fault.offset,
-            after,
-            elements: 0,
-            level: 0,
-        },
+        Ok(counts) => passed(counts.elements, counts.level),
+        Err(refusal) => refused(refusal),
     }
 }
 
@@ -66,8 +69,7 @@ pub extern "C" fn p12_upload_begin(length: usize, state: &mut [u16]) -> u8
     ensures state_after { state.new ≡ (begun_in length state.old).cells }
 {
     let status = cells::begin(length, state);
-    let reported = status_reported(status);
-    reported.number
+    status_reported(status).number
 }
 
 // A portion of an upload arrives.
@@ -77,8 +79,7 @@ pub extern "C" fn p12_upload_take(state: &mut [u16], portion: &[u8]) -> u8
     ensures state_after { state.new ≡ (taken_in state.old portion.now).cells }
     ensures bytes { Bytes portion.now }
 {
-    let status = cells::take(state, portion);
-    let so_far = status_reported(status);
+    let so_far = status_reported(cells::take(state, portion));
     so_far.number
 }
 

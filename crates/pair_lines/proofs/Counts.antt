@@ -16,8 +16,8 @@ use Rattle.buffer.specs.Text.{ascii, digit, digits, decimal}
 use Rattle.pkcs12.specs.Table.{bags_counted}
 use Rattle.text.specs.Text.{number_text}
 use Rattle.pairing.specs.Pairs.{is_key}
-use Rattle.pairing.specs.declared.Paired.{Paired}
-use Rattle.pairing.specs.declared.Paired.TheVariants.{Certificate}
+use Rattle.der.specs.declared.Fault.{Fault}
+use Rattle.std.specs.Prelude.{Err, Ok, Result}
 use Rattle.identities.specs.Identities.{certificate_for}
 use Rattle.pair_lines.specs.Lines.{answer_text, pair_line, bag_line, pair_row_line, pair_lines}
 use Rattle.pair_lines.specs.Counts.{lines_in, one_if_key, keys_among, key_bags}
@@ -45,19 +45,19 @@ number_in : (name : List ℕ) (n : ℕ) → lines_in name ≡ 0 → lines_in (nu
 unfolding number_text decimal
 number_in name n e = both name (digits 20 n) ∙ omega (arith, e, digits_in 20 n)
 
-answer_in : (p : Paired) → lines_in (answer_text p) ≡ 0
+answer_in : (p : Result ℕ Fault) → lines_in (answer_text p) ≡ 0
 unfolding answer_text ascii lines_in
-answer_in (Certificate row) = number_in (ascii ": certificate bag ") row refl
-answer_in (Paired.Refused f) = number_in (ascii ": refused ") f.number refl
+answer_in (Ok row) = number_in (ascii ": certificate bag ") row refl
+answer_in (Err f) = number_in (ascii ": refused ") f.number refl
 
-pair_in : (i : ℕ) (p : Paired) → lines_in (pair_line i p) ≡ 1
+pair_in : (i : ℕ) (p : Result ℕ Fault) → lines_in (pair_line i p) ≡ 1
 unfolding pair_line ascii lines_in
 pair_in i p =
     let key : List ℕ = number_text (ascii "key bag ") i in
     both (key ++ answer_text p) (ascii "\n")
     ∙ omega (arith, both key (answer_text p), number_in (ascii "key bag ") i refl, answer_in p)
 
-bag_in_lem : (kind : BagKind) (i : ℕ) (p : Paired) → lines_in (bag_line kind i p) ≡ one_if_key kind
+bag_in_lem : (kind : BagKind) (i : ℕ) (p : Result ℕ Fault) → lines_in (bag_line kind i p) ≡ one_if_key kind
 unfolding bag_line lines_in
 bag_in_lem kind i p = go (is_key kind)
   where

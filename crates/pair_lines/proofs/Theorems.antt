@@ -7,14 +7,13 @@ use native.Mathlib.Omega.{arith}
 use lib.ListN.{length}
 use Rattle.der.specs.Element.{fault}
 use Rattle.buffer.specs.Written.{success}
-use Rattle.pkcs12.specs.declared.answers.Answer.{Answer}
+use Rattle.std.specs.Prelude.{Err, Ok}
 use Rattle.pkcs12.specs.declared.answers.Reading.{Reading}
 use Rattle.pkcs12.specs.declared.table.Table.{Table}
 use Rattle.buffer.specs.Text.{ascii, digits, decimal}
 use Rattle.text.specs.Text.{number_text, refused_line}
 use Rattle.buffer.proofs.Outcomes.{written}
 use Rattle.pairing.specs.Pairs.{refused_by}
-use Rattle.pairing.specs.declared.Paired.TheVariants.{Certificate}
 use Rattle.pair_lines.specs.Lines.{answer_text, pair_line, pair_lines, answered, pairs_text}
 use Rattle.pair_lines.specs.Listed.{pairs_listed}
 use Rattle.pair_lines.specs.Counts.{lines_in, key_bags}
@@ -35,7 +34,7 @@ pub lines_are_keys : (t : Table) (s : List ℕ) → lines_in (pair_lines t s) �
 lines_are_keys = counts.lines_are_keys
 
 -- a line of each kind, computed
-pub certificate_line : pair_line 1 (Certificate 0) ≡ ascii "key bag 1: certificate bag 0\n"
+pub certificate_line : pair_line 1 (Ok 0) ≡ ascii "key bag 1: certificate bag 0\n"
 unfolding ascii digits decimal number_text answer_text pair_line
 certificate_line = refl
 
@@ -47,6 +46,6 @@ pub more_line : pair_line 63 (refused_by 14) ≡ ascii "key bag 63: refused 14\n
 unfolding ascii digits decimal number_text answer_text pair_line
 more_line = refl
 
-pub refused_file : (t : Table) (s : List ℕ) → answered (Answer.Refused (fault 6 47)) t s ≡ ascii "refused 6 at 47\n"
+pub refused_file : (t : Table) (s : List ℕ) → answered (Err (fault 6 47)) t s ≡ ascii "refused 6 at 47\n"
 unfolding ascii digits decimal number_text refused_line answered
 refused_file t s = refl

@@ -1,7 +1,7 @@
--- What is proved of pairing: `Theorems` states it. Below: passes over the rows, rules for the code,
--- the only match.
+-- What is proved of pairing: `Theorems` states it. Below: rules for the code, the rows one after
+-- another, the only match.
 pub mod Numbered
-pub mod Folds
 pub mod Rules
+pub mod Folds
 pub mod Only
 pub mod Theorems

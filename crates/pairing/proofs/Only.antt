@@ -25,7 +25,8 @@ use Rattle.pairing.specs.Pairs.{matching, refused_by, only_one, paired}
 use Rattle.pairing.specs.Only.{Matches, IdsLie, IsKey, Answered, answer_row, answer_11}
 use Rattle.pairing.specs.Only.{answer_12, answer_13, answer_14}
 use Rattle.pairing.specs.declared.IdentityRow.{IdentityRow}
-use Rattle.pairing.specs.declared.Paired.{Paired}
+use Rattle.der.specs.declared.Fault.{Fault}
+use Rattle.std.specs.Prelude.{Err, Ok, Result}
 
 -- ---- what each test says
 
@@ -210,11 +211,11 @@ module _ (s : List ℕ) (rows : List IdentityRow) (k : ℕ) where
   -- ---- the answers
 
   -- what holds of each answer, with what it says, holds of the one that is returned
-  pub by_answer : (P : Paired → Type 0)
+  pub by_answer : (P : Result ℕ Fault → Type 0)
       → ((IdsLie s rows → ⊥) → P (refused_by not_sound))
       → (IdsLie s rows → (IsKey rows k → ⊥) → P (refused_by no_row))
       → (IdsLie s rows → IsKey rows k → ((j : ℕ) → Matches s rows k j → ⊥) → P (refused_by no_certificate))
-      → (IdsLie s rows → IsKey rows k → (j : ℕ) → Matches s rows k j → ((i : ℕ) → Matches s rows k i → i ≡ j) → P (Paired.Certificate j))
+      → (IdsLie s rows → IsKey rows k → (j : ℕ) → Matches s rows k j → ((i : ℕ) → Matches s rows k i → i ≡ j) → P (Ok j))
       → (IdsLie s rows → IsKey rows k → (i j : ℕ) → i < j → Matches s rows k i → Matches s rows k j → P (refused_by more_certificates))
       → P (paired s rows k)
   unfolding paired only_one
@@ -234,11 +235,11 @@ module _ (s : List ℕ) (rows : List IdentityRow) (k : ℕ) where
       go a b (i ∷ j ∷ ms) l = two a b i j l.0 (matches_of i l.1) (matches_of j l.2)
 
 -- answers are told apart by their numbers; a row has none
-abbrev number_of : Paired → ℕ
-number_of (Paired.Certificate j) = 0
-number_of (Paired.Refused f) = f.number
+abbrev number_of : Result ℕ Fault → ℕ
+number_of (Ok j) = 0
+number_of (Err f) = f.number
 
-other : {A : Type 0} (x y : Paired) → (number_of x ≡ number_of y → ⊥) → x ≡ y → A
+other : {A : Type 0} (x y : Result ℕ Fault) → (number_of x ≡ number_of y → ⊥) → x ≡ y → A
 other x y h e = absurd (h (ap number_of e))
 
 -- no two rows where there is one alone
@@ -247,19 +248,19 @@ alone P i j n h p q f = omega (arith, f i p, f j q)
 
 module _ (s : List ℕ) (rows : List IdentityRow) (k : ℕ) where
   pub only : (j : ℕ)
-      → paired s rows k ≡ Paired.Certificate j
+      → paired s rows k ≡ Ok j
       ↔ (IdsLie s rows × IsKey rows k × Matches s rows k j × ((i : ℕ) → Matches s rows k i → i ≡ j))
   only j = (
-    by_answer s rows k (λ x. x ≡ Paired.Certificate j
+    by_answer s rows k (λ x. x ≡ Ok j
         → IdsLie s rows × IsKey rows k × Matches s rows k j × ((i : ℕ) → Matches s rows k i → i ≡ j))
         (λ a. other _ _ (λ z. omega arith)) (λ a b. other _ _ (λ z. omega arith))
         (λ a b c. other _ _ (λ z. omega arith))
         (λ a b i m u e. let z : i ≡ j = cc in (a, b, rw z at m, rw z at u))
         (λ a b i m l p q. other _ _ (λ z. omega arith)),
     λ f.
-        by_answer s rows k (λ x. x ≡ Paired.Certificate j)
+        by_answer s rows k (λ x. x ≡ Ok j)
         (λ a. absurd (a f.0)) (λ a b. absurd (b f.1)) (λ a b c. absurd (c j f.2))
-        (λ a b i m u. ap Paired.Certificate (f.3 i m))
+        (λ a b i m u. ap Ok (f.3 i m))
         (λ a b i m l p q. absurd (alone (Matches s rows k) i m j l p q f.3)),
   )
 

@@ -1,75 +1,66 @@
 -- Rules by which `search` follows the definitions of pairing as the code's own tests decided them
 -- (see der's Choices).
-use mathlib.Core.Path.{◌≡◌, sym, ◌∙◌}
-use mathlib.Core.Bool.{Bool, true, false, not}
-use mathlib.Core.List.{List}
+use mathlib.Core.Path.{◌≡◌, refl, ap}
+use mathlib.Core.Bool.{Bool, true, false, ◌&&◌}
+use mathlib.Core.List.{List, [], ◌∷◌}
 use Prim.Native.Nat.{ℕ}
-use borrow.Author.Tests.{not-true, not-false, eq-eqb, ne_eqb}
-use Rattle.std.specs.Prelude.{if◌then◌else◌}
+use lib.ListN.{get_or}
+use Rattle.std.specs.Prelude.{Err, Result}
+use Rattle.std.specs.List.{list_all}
 use Rattle.der.specs.Choice.{both}
-use Rattle.der.proofs.Choices.{told_true, told_false, denied, granted, at_lt, at_not_lt, at_le, at_not_le, at_eq}
-use Rattle.der.proofs.Choices.{at_ne, same}
-use Rattle.pairing.specs.Numbers.{no_certificate, more_certificates}
-use Rattle.range.specs.Bytes.{same_bytes}
-use Rattle.pairing.specs.Pairs.{is_key, id_lies, pairs_with, refused_by}
-use Rattle.pairing.specs.Search.{search, key_at, tallied, first_at, visited, answered}
+use Rattle.der.specs.Element.{fault}
+use Rattle.der.specs.declared.Fault.{Fault}
+use Rattle.buffer.specs.Numbers.{not_sound}
+use Rattle.pkcs12.specs.Numbers.{no_row}
+use Rattle.pkcs12.specs.Checks.{all}
+use Rattle.pkcs12.specs.declared.kind.BagKind.{BagKind}
+use Rattle.pkcs12.specs.declared.kind.BagKind.TheVariants.{Key, ShroudedKey, Certificate, Crl, Secret, Nested}
+use Rattle.pairing.specs.Pairs.{no_identity, is_key, is_certificate, id_lies, matching, only_one, paired}
 use Rattle.pairing.specs.declared.IdentityRow.{IdentityRow}
-use Rattle.pairing.specs.declared.Paired.{Paired}
-use Rattle.pairing.specs.declared.Search.{Search}
 
-module _ {A : Type 0} where
-  -- a bool that the code tested itself
-  pub is_true : (t : Bool) (r x y : A) → t ≡ true → r ≡ x → r ≡ (if t then x else y)
-  is_true t r x y q e = rw q e
+-- a kind that is none of those named
+pub no_key : (k : BagKind) → (k ≡ Key → ⊥) → (k ≡ ShroudedKey → ⊥) → false ≡ is_key k
+unfolding is_key
+no_key BagKind.None n m = refl
+no_key Key n m = absurd (n refl)
+no_key ShroudedKey n m = absurd (m refl)
+no_key Certificate n m = refl
+no_key Crl n m = refl
+no_key Secret n m = refl
+no_key Nested n m = refl
 
-  pub is_false : (t : Bool) (r x y : A) → t ≡ false → r ≡ y → r ≡ (if t then x else y)
-  is_false t r x y q e = rw q e
+pub no_certificate_kind : (k : BagKind) → (k ≡ Certificate → ⊥) → false ≡ is_certificate k
+unfolding is_certificate
+no_certificate_kind BagKind.None n = refl
+no_certificate_kind Key n = refl
+no_certificate_kind ShroudedKey n = refl
+no_certificate_kind Certificate n = absurd (n refl)
+no_certificate_kind Crl n = refl
+no_certificate_kind Secret n = refl
+no_certificate_kind Nested n = refl
 
-  pub not_is_true : (t : Bool) (r x y : A) → not t ≡ true → r ≡ y → r ≡ (if t then x else y)
-  not_is_true t r x y q e = rw (not-true t q) e
+both_is : (t u v : Bool) → u ≡ v → (t && u) ≡ both t v
+both_is true u v e = e
+both_is false u v e = refl
 
-  pub not_is_false : (t : Bool) (r x y : A) → not t ≡ false → r ≡ x → r ≡ (if t then x else y)
-  not_is_false t r x y q e = rw (not-false t q) e
+-- the library's test of each of a list is that of the rules
+pub all_is : {A : Type 0} (test : A → Bool) (xs : List A) → list_all test xs ≡ all test xs
+unfolding all
+all_is test [] = refl
+all_is test (x ∷ xs) = both_is (test x) _ _ (all_is test xs)
 
--- what a callee returned for parts holds for the bytes that they are
-pub same_parts : (r : Bool) (x y u v : List ℕ) → x ≡ u → y ≡ v → r ≡ same_bytes x y → r ≡ same_bytes u v
-same_parts r x y u v p q e = rw (← p, ← q) e
+-- the answer, from what each callee returned
+module _ (s : List ℕ) (rows : List IdentityRow) (k : ℕ) (t : Bool) (sound : t ≡ list_all (id_lies s) rows) where
+  pub unsound : (f : Fault) → t ≡ false → f ≡ fault not_sound 0 → Err f ≡ paired s rows k
+  unfolding paired
+  unsound f h e = rw (← all_is (id_lies s) rows, ← sound, h) (ap Err e)
 
-pub ruleset pairs = (
-  at_lt,
-  at_not_lt,
-  at_le,
-  at_not_le,
-  at_eq,
-  at_ne,
-  told_true,
-  told_false,
-  denied,
-  granted,
-  is_true,
-  is_false,
-  not_is_true,
-  not_is_false,
-  same_parts,
-  same,
-)
+  module _ (row : IdentityRow) (u : Bool) (there : row ≡ get_or rows k no_identity) (told : u ≡ is_key row.kind)
+      (h : t ≡ true) where
+    pub no_key_row : (f : Fault) → u ≡ false → f ≡ fault no_row 0 → Err f ≡ paired s rows k
+    unfolding paired
+    no_key_row f j e = rw (← all_is (id_lies s) rows, ← sound, h, ← there, ← told, j) (ap Err e)
 
--- one row more, from what each callee returned
-pub visit_is : (s : List ℕ) (i : ℕ) (r : IdentityRow) (st : Search) (p : Bool) (k : IdentityRow) (t : Bool) (c l : ℕ)
-    → p ≡ pairs_with s st.key r → k ≡ key_at st.number i st.key r → t ≡ both st.sound (id_lies s r)
-    → c ≡ tallied p st.count → l ≡ first_at p st.count i st.row
-    → search st.number k t c l ≡ visited s i r st
-unfolding visited
-visit_is s i r st p k t c l e f g h j = rw (h, j, e, f, g)
-
--- the answer for a key of which the code counted the certificates
-module _ (st : Search) (u : Bool) (r : Paired) (sound : not st.sound ≡ false) (told : u ≡ is_key st.key.kind)
-    (key : u ≡ true) where
-  pub answered_none : st.count ≡ 0 → r ≡ refused_by no_certificate → r ≡ answered st
-  unfolding answered
-  answered_none h e = rw (not-false st.sound sound, sym told ∙ key, eq-eqb st.count 0 h) e
-
-  pub answered_several : (st.count ≡ 0 → ⊥) → (st.count ≡ 1 → ⊥) → r ≡ refused_by more_certificates → r ≡ answered st
-  unfolding answered
-  answered_several h k e =
-      rw (not-false st.sound sound, sym told ∙ key, ne_eqb st.count 0 h, ne_eqb st.count 1 k) e
+    pub key_row : (r : Result ℕ Fault) → u ≡ true → r ≡ only_one (matching s row 0 rows) → r ≡ paired s rows k
+    unfolding paired
+    key_row r j e = rw (← all_is (id_lies s) rows, ← sound, h, ← there, ← told, j) e

@@ -15,7 +15,7 @@ use Rattle.pkcs12.specs.declared.kind.BagKind.TheVariants.{Certificate}
 use Rattle.pairing.specs.Pairs.{no_identity, refused_by, paired}
 use Rattle.pairing.specs.Only.{Matches, IdsLie, IsKey, Answered}
 use Rattle.pairing.specs.declared.IdentityRow.{IdentityRow}
-use Rattle.pairing.specs.declared.Paired.{Paired}
+use Rattle.std.specs.Prelude.{Ok}
 use Rattle.pairing.proofs.Only as proved
 
 -- ---- the answer
@@ -23,7 +23,7 @@ use Rattle.pairing.proofs.Only as proved
 -- Row j is the answer exactly if every id lies in the bytes, row k is a key's, row j matches it,
 -- and no other row does.
 pub only_certificate : (s : List ℕ) (rows : List IdentityRow) (k j : ℕ)
-    → paired s rows k ≡ Paired.Certificate j
+    → paired s rows k ≡ Ok j
     ↔ (IdsLie s rows × IsKey rows k × Matches s rows k j × ((i : ℕ) → Matches s rows k i → i ≡ j))
 only_certificate = proved.only
 

@@ -1,8 +1,6 @@
--- Pairing: what it answers (`Pairs`), what the answers say (`Only`), and how the code goes over the
--- rows (`Search`, for its private functions).
+-- Pairing: what it answers (`Pairs`), and what the answers say (`Only`).
 pub mod Numbers
 pub mod Numbered
 pub mod Pairs
 pub mod Report
 pub mod Only
-pub mod Search

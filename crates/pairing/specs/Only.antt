@@ -9,7 +9,8 @@ use Rattle.range.specs.Range.{bytes_in}
 use Rattle.pkcs12.specs.declared.kind.BagKind.TheVariants.{Key, ShroudedKey, Certificate}
 use Rattle.pairing.specs.Pairs.{no_identity, refused_by}
 use Rattle.pairing.specs.declared.IdentityRow.{IdentityRow}
-use Rattle.pairing.specs.declared.Paired.{Paired}
+use Rattle.der.specs.declared.Fault.{Fault}
+use Rattle.std.specs.Prelude.{Ok, Result}
 
 -- Rule 7.5: row j is a certificate's, with an id equal to that of the key in row k
 pub record Matches (s : List ℕ) (rows : List IdentityRow) (k j : ℕ) : Type 0 where
@@ -29,8 +30,8 @@ abbrev pub IsKey : List IdentityRow → ℕ → Type 0
 IsKey rows k = (k < length rows) × (((get_or rows k no_identity).kind ≡ Key) ⊎ ((get_or rows k no_identity).kind ≡ ShroudedKey))
 
 -- the answers that there are: a row, and four refusals
-pub data Answered : Paired → Type 0 where
-  answer_row : (j : ℕ) → Answered (Paired.Certificate j)
+pub data Answered : Result ℕ Fault → Type 0 where
+  answer_row : (j : ℕ) → Answered (Ok j)
   answer_11 : Answered (refused_by not_sound)
   answer_12 : Answered (refused_by no_row)
   answer_13 : Answered (refused_by no_certificate)

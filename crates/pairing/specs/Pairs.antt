@@ -13,7 +13,8 @@ use Rattle.range.specs.declared.Range.{Range}
 use Rattle.pkcs12.specs.declared.kind.BagKind.{BagKind}
 use Rattle.pkcs12.specs.declared.kind.BagKind.TheVariants.{Key, ShroudedKey, Certificate, Crl, Secret, Nested}
 use Rattle.pairing.specs.declared.IdentityRow.{IdentityRow}
-use Rattle.pairing.specs.declared.Paired.{Paired}
+use Rattle.der.specs.declared.Fault.{Fault}
+use Rattle.std.specs.Prelude.{Err, Ok, Result}
 
 -- Rule 7.3: an identity row has the kind, whether there is an id, and the id's bytes
 abbrev pub identity : BagKind → Bool → Range → IdentityRow
@@ -60,18 +61,18 @@ matching s k n [] = []
 matching s k n (r ∷ rs) = if pairs_with s k r then n ∷ matching s k (n + 1) rs else matching s k (n + 1) rs
 
 -- Rule 5.37: 11 to 14 have the offset 0
-abbrev pub refused_by : ℕ → Paired
-refused_by number = Paired.Refused (fault number 0)
+abbrev pub refused_by : ℕ → Result ℕ Fault
+refused_by number = Err (fault number 0)
 
 -- Rules 7.5, 7.6: the only certificate row with an equal id; 13 if there is none, as where the key
 -- has no id; 14 if there are two or more
-unfoldable pub only_one : List ℕ → Paired
+unfoldable pub only_one : List ℕ → Result ℕ Fault
 only_one [] = refused_by no_certificate
-only_one (n ∷ []) = Paired.Certificate n
+only_one (n ∷ []) = Ok n
 only_one (n ∷ m ∷ ns) = refused_by more_certificates
 
 -- Rule 7.8: an id outside the bytes, in any row, is 11, before 12
-unfoldable pub paired : List ℕ → List IdentityRow → ℕ → Paired
+unfoldable pub paired : List ℕ → List IdentityRow → ℕ → Result ℕ Fault
 paired s rows k =
     if all (id_lies s) rows then
     (if is_key (get_or rows k no_identity).kind then

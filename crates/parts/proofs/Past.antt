@@ -13,12 +13,12 @@ use Rattle.der.specs.Content.{bytes_of, identifier_at, integer_body, integer_at,
 use Rattle.der.specs.Opaque.{on_checked, opaque_at, elements_at}
 use Rattle.der.specs.declared.Fault.{Fault}
 use Rattle.der.specs.declared.Cursor.{Cursor}
-use Rattle.der.specs.declared.Element.{Element}
-use Rattle.der.specs.declared.Element.TheVariants.{Found}
-use Rattle.der.specs.declared.Integer.{Integer}
-use Rattle.der.specs.declared.Integer.TheVariants.{Value}
+use Rattle.der.specs.Element.{element}
 use Rattle.der.specs.declared.Checked.{Checked}
-use Rattle.der.specs.declared.Checked.TheVariants.{Passed}
+use Rattle.der.specs.declared.Element.{Element}
+use Rattle.der.specs.declared.Integer.{Integer}
+use Rattle.pkcs12.specs.declared.answers.Parsed.{Parsed}
+use Rattle.std.specs.Prelude.{Err, Ok, Result}
 use Rattle.der.proofs.Choices.{by_test, by_lt, by_le, by_eq}
 use Rattle.der.proofs.Placed.{by_element, found, expected}
 use Rattle.der.proofs.Values.{identified}
@@ -29,7 +29,6 @@ use Rattle.range.specs.Bytes.{same_bytes}
 use Rattle.pkcs12.specs.Identifiers.{data_type, x509_certificate}
 use Rattle.pkcs12.specs.Walk.{algorithm_at, sealed_at, key_at, value_at, typed_at, encrypted_info_at, encrypted_at}
 use Rattle.pkcs12.specs.declared.row.Parts.{Parts}
-use Rattle.pkcs12.specs.declared.answers.PartsAt.{PartsAt}
 use Rattle.pkcs12.proofs.Parents.{by_finish}
 use Rattle.pkcs12.proofs.AcceptedParts.{OfParts, by_parts}
 
@@ -51,51 +50,53 @@ pub record Head (s : List ℕ) (c b n : Cursor) : Type 0 where
   pub inside : c.end ≤ length s
   pub end : n.end ≡ c.end
 
-pub head_of : (s : List ℕ) (c : Cursor) (t : ℕ) (b n : Cursor) → element_at s c ≡ Found t b n → Head s c b n
-head_of s c t b n e =
-    let p = found s c (element_at s c) t b n refl e in
+pub head_of : (s : List ℕ) (c : Cursor) (x : Element) → element_at s c ≡ Ok x → Head s c x.body x.next
+head_of s c x e =
+    let p = found s c (element_at s c) x.tag x.body x.next refl e in
     rw p.next record { past = p.body.past; size = p.body.size; stop = refl; within = p.body.within; inside = p.inside; end = refl }
 
-pub expect_head : (due : ℕ) (s : List ℕ) (c : Cursor) (t : ℕ) (b n : Cursor) → expect_at due s c ≡ Found t b n → Head s c b n
-expect_head due s c t b n e = head_of s c t b n (expected due s c (expect_at due s c) t b n refl e).1
+pub expect_head : (due : ℕ) (s : List ℕ) (c : Cursor) (x : Element) → expect_at due s c ≡ Ok x → Head s c x.body x.next
+expect_head due s c x e = head_of s c x (expected due s c (expect_at due s c) x.tag x.body x.next refl e).1
 
-abbrev pub OfHead : List ℕ → Cursor → Element → Type 0
-OfHead s c (Element.Refused f) = Unit {0}
-OfHead s c (Found t b n) = Head s c b n
+abbrev pub OfHead : List ℕ → Cursor → Result Element Fault → Type 0
+OfHead s c (Err f) = Unit {0}
+OfHead s c (Ok x) = Head s c x.body x.next
 
 pub identifier_of_lem : (s : List ℕ) (c : Cursor) → OfHead s c (identifier_at s c)
 identifier_of_lem s c = go (identifier_at s c) refl
   where
-    go : (x : Element) → identifier_at s c ≡ x → OfHead s c x
-    go (Element.Refused f) e = tt
-    go (Found t b n) e = head_of s c t b n (identified s c (identifier_at s c) t b n refl e)
+    go : (x : Result Element Fault) → identifier_at s c ≡ x → OfHead s c x
+    go (Err f) e = tt
+    go (Ok x) e = head_of s c x (identified s c (identifier_at s c) x.tag x.body x.next refl e)
 
 -- an integer; nothing is said of its body
-abbrev pub OfInteger : List ℕ → Cursor → Integer → Type 0
-OfInteger s c (Integer.Refused f) = Unit {0}
-OfInteger s c (Value v n) = Past s c 0 2 n
+abbrev pub OfInteger : List ℕ → Cursor → Result Integer Fault → Type 0
+OfInteger s c (Err f) = Unit {0}
+OfInteger s c (Ok x) = Past s c 0 2 x.next
 
 pub integer_of : (s : List ℕ) (c : Cursor) → OfInteger s c (integer_at s c)
 unfolding integer_at
 integer_of s c =
     by_element (OfInteger s c) (λ x. expect_at integer_tag s c ≡ x) _ _ (λ f. tt)
-    (λ t b n p. by_test (OfInteger s c) _ _ (integer_body s b) (λ h. number b n (expect_head integer_tag s c t b n p)) (λ h. tt))
+    (λ t b n p.
+    by_test (OfInteger s c) _ _ (integer_body s b)
+    (λ h. number b n (expect_head integer_tag s c (element t b n) p)) (λ h. tt))
     (expect_at integer_tag s c) refl
   where
     number : (b n : Cursor) → Head s c b n → Past s c 0 2 n
     number b n h = record { some = omega (arith, h); long = omega (arith, h); more = omega arith; within = omega (arith, h); inside = h.inside; end = h.end }
 
 -- one opaque element
-abbrev pub OfOne : List ℕ → Cursor → Checked → Type 0
-OfOne s c (Checked.Refused f) = Unit {0}
-OfOne s c (Passed k e) = One s c k e
+abbrev pub OfOne : List ℕ → Cursor → Result Checked Fault → Type 0
+OfOne s c (Err f) = Unit {0}
+OfOne s c (Ok x) = One s c x.count x.next
 
 pub opaque_of : (s : List ℕ) (c : Cursor) → OfOne s c (opaque_at opaque_levels s c)
 opaque_of s c = go (opaque_at opaque_levels s c) refl
   where
-    go : (x : Checked) → opaque_at opaque_levels s c ≡ x → OfOne s c x
-    go (Checked.Refused f) e = tt
-    go (Passed k n) e = went opaque_levels s c (opaque_at opaque_levels s c) k n refl e
+    go : (x : Result Checked Fault) → opaque_at opaque_levels s c ≡ x → OfOne s c x
+    go (Err f) e = tt
+    go (Ok x) e = went opaque_levels s c (opaque_at opaque_levels s c) x.count x.next refl e
 
 -- what holds of a refusal and of what was found holds of what is made of them, for each kind of
 -- element
@@ -103,7 +104,8 @@ module _ (s : List ℕ) {A : Type 0} (P : A → Type 0) (bad : Fault → A) (ref
   pub by_expect : (due : ℕ) (good : ℕ → Cursor → Cursor → A) → ((t : ℕ) (b n : Cursor) → Head s c b n → P (good t b n))
       → P (on_element (expect_at due s c) bad good)
   by_expect due good g =
-      by_element P (λ x. expect_at due s c ≡ x) bad good refusal (λ t b n e. g t b n (expect_head due s c t b n e)) (expect_at due s c) refl
+      by_element P (λ x. expect_at due s c ≡ x) bad good refusal
+      (λ t b n e. g t b n (expect_head due s c (element t b n) e)) (expect_at due s c) refl
 
   pub by_identifier : (good : ℕ → Cursor → Cursor → A) → ((t : ℕ) (b n : Cursor) → Head s c b n → P (good t b n))
       → P (on_element (identifier_at s c) bad good)
@@ -112,9 +114,9 @@ module _ (s : List ℕ) {A : Type 0} (P : A → Type 0) (bad : Fault → A) (ref
   pub by_integer : (good : ℕ → Cursor → A) → ((v : ℕ) (n : Cursor) → Past s c 0 2 n → P (good v n)) → P (on_integer (integer_at s c) bad good)
   by_integer good g = go (integer_at s c) (integer_of s c)
     where
-      go : (x : Integer) → OfInteger s c x → P (on_integer x bad good)
-      go (Integer.Refused f) e = refusal f
-      go (Value v n) e = g v n e
+      go : (x : Result Integer Fault) → OfInteger s c x → P (on_integer x bad good)
+      go (Err f) e = refusal f
+      go (Ok x) e = g x.value x.next e
 
   pub by_opaque : (good : ℕ → Cursor → A) → ((m : ℕ) (n : Cursor) → One s c m n → P (good m n)) → P (on_checked (opaque_at opaque_levels s c) bad good)
   by_opaque good g = by_checked P (OfOne s c) bad good refusal g (opaque_at opaque_levels s c) (opaque_of s c)
@@ -132,12 +134,13 @@ past_head s c b n i j h m l =
 
 -- ---- parts that make no row
 
-abbrev pub PastParts : List ℕ → Cursor → PartsAt → Type 0
+abbrev pub PastParts : List ℕ → Cursor → Result (Parsed Parts) Fault → Type 0
 PastParts s c = OfParts (λ p k n. Past s c 0 k n)
 
 -- the facts of parts that were found
-pub parts_past : (s : List ℕ) (c : Cursor) (x w : PartsAt) (p : Parts) (k : ℕ) (n : Cursor) → PastParts s c x → w ≡ x → w ≡ PartsAt.Found p k n → Past s c 0 k n
-parts_past s c x w p k n h a b = rw (sym a ∙ b) at h
+pub parts_past : (s : List ℕ) (c : Cursor) (v w : Result (Parsed Parts) Fault) (x : Parsed Parts) → PastParts s c v
+    → w ≡ v → w ≡ Ok x → Past s c 0 x.count x.next
+parts_past s c v w x h a b = rw (sym a ∙ b) at h
 
 pub algorithm_of : (s : List ℕ) (c : Cursor) → PastParts s c (algorithm_at s c)
 unfolding algorithm_at
@@ -177,8 +180,9 @@ unfolding value_at
 value_of true s c = by_expect s (OfOne s c) _ (λ f. tt) c octet_string_tag _ (λ t b n h. opaque_of s c)
 value_of false s c = opaque_of s c
 
-pub valued : (u : Bool) (s : List ℕ) (c : Cursor) (w : Checked) (m : ℕ) (n : Cursor) → w ≡ value_at u s c → w ≡ Passed m n → One s c m n
-valued u s c w m n p q = rw (sym p ∙ q) at (value_of u s c)
+pub valued : (u : Bool) (s : List ℕ) (c : Cursor) (w : Result Checked Fault) (x : Checked) → w ≡ value_at u s c
+    → w ≡ Ok x → One s c x.count x.next
+valued u s c w x p q = rw (sym p ∙ q) at (value_of u s c)
 
 pub typed_of_lem : (u : Bool) (s : List ℕ) (c : Cursor) → PastParts s c (typed_at u s c)
 unfolding typed_at
@@ -229,22 +233,22 @@ encrypted_of s c =
     (encrypted_info_at s m) (encrypted_info_of s m))
     (λ y. tt))))
 
-module _ (s : List ℕ) (c : Cursor) (w : PartsAt) (p : Parts) (k : ℕ) (n : Cursor) where
-  pub algorithm_past : w ≡ algorithm_at s c → w ≡ PartsAt.Found p k n → Past s c 0 k n
-  algorithm_past = parts_past s c (algorithm_at s c) w p k n (algorithm_of s c)
+module _ (s : List ℕ) (c : Cursor) (w : Result (Parsed Parts) Fault) (x : Parsed Parts) where
+  pub algorithm_past : w ≡ algorithm_at s c → w ≡ Ok x → Past s c 0 x.count x.next
+  algorithm_past = parts_past s c (algorithm_at s c) w x (algorithm_of s c)
 
-  pub sealed_past : w ≡ sealed_at s c → w ≡ PartsAt.Found p k n → Past s c 0 k n
-  sealed_past = parts_past s c (sealed_at s c) w p k n (sealed_of s c)
+  pub sealed_past : w ≡ sealed_at s c → w ≡ Ok x → Past s c 0 x.count x.next
+  sealed_past = parts_past s c (sealed_at s c) w x (sealed_of s c)
 
-  pub key_past : w ≡ key_at s c → w ≡ PartsAt.Found p k n → Past s c 0 k n
-  key_past = parts_past s c (key_at s c) w p k n (key_of s c)
+  pub key_past : w ≡ key_at s c → w ≡ Ok x → Past s c 0 x.count x.next
+  key_past = parts_past s c (key_at s c) w x (key_of s c)
 
-  pub encrypted_info_past : w ≡ encrypted_info_at s c → w ≡ PartsAt.Found p k n → Past s c 0 k n
-  encrypted_info_past = parts_past s c (encrypted_info_at s c) w p k n (encrypted_info_of s c)
+  pub encrypted_info_past : w ≡ encrypted_info_at s c → w ≡ Ok x → Past s c 0 x.count x.next
+  encrypted_info_past = parts_past s c (encrypted_info_at s c) w x (encrypted_info_of s c)
 
-  pub encrypted_past : w ≡ encrypted_at s c → w ≡ PartsAt.Found p k n → Past s c 0 k n
-  encrypted_past = parts_past s c (encrypted_at s c) w p k n (encrypted_of s c)
+  pub encrypted_past : w ≡ encrypted_at s c → w ≡ Ok x → Past s c 0 x.count x.next
+  encrypted_past = parts_past s c (encrypted_at s c) w x (encrypted_of s c)
 
-pub typed_past : (u : Bool) (s : List ℕ) (c : Cursor) (w : PartsAt) (p : Parts) (k : ℕ) (n : Cursor)
-    → w ≡ typed_at u s c → w ≡ PartsAt.Found p k n → Past s c 0 k n
-typed_past u s c w p k n = parts_past s c (typed_at u s c) w p k n (typed_of_lem u s c)
+pub typed_past : (u : Bool) (s : List ℕ) (c : Cursor) (w : Result (Parsed Parts) Fault) (x : Parsed Parts)
+    → w ≡ typed_at u s c → w ≡ Ok x → Past s c 0 x.count x.next
+typed_past u s c w x = parts_past s c (typed_at u s c) w x (typed_of_lem u s c)

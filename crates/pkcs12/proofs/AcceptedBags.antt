@@ -28,10 +28,11 @@ use Rattle.pkcs12.specs.Walk.{leaf_at, content_at, bag_at, safe_contents_at, key
 use Rattle.pkcs12.specs.Laid.{ElementLaid, LeafLaid, BagLaid, BagsLaid, no_bag_laid, one_bag, one_nest}
 use Rattle.range.specs.declared.Range.{Range}
 use Rattle.pkcs12.specs.declared.row.Parts.{Parts}
-use Rattle.pkcs12.specs.declared.answers.PartsAt.{PartsAt}
+use Rattle.der.specs.declared.Fault.{Fault}
+use Rattle.pkcs12.specs.declared.answers.Parsed.{Parsed}
+use Rattle.std.specs.Prelude.{Err, Ok, Result, Some}
 use Rattle.pkcs12.specs.declared.kind.BagKind.{BagKind}
 use Rattle.pkcs12.specs.declared.kind.BagKind.TheVariants.{Key, ShroudedKey, Certificate, Crl, Secret, Nested}
-use Rattle.pkcs12.specs.declared.row.Enclosing.TheVariants.{Bag}
 use Rattle.pkcs12.specs.declared.row.BagRow.{BagRow}
 use Rattle.pkcs12.specs.declared.row.AttributeRow.{AttributeRow}
 use Rattle.pkcs12.proofs.Named.{by_kind}
@@ -67,31 +68,31 @@ module _ (s : List ℕ) (bytes : Bytes s) where
   leaf_at_lem : (from to start end : ℕ) (p : Parts) (x : Leaf) → from ≡ start → to ≡ end → LeafLaid s from to p x → LeafLaid s start end p x
   leaf_at_lem from to start end p x d e l = rw (d, e) at l
 
-  leaf_of_lem : (l : ℕ) (w : Owner) (k : BagKind) (h : Bool) (st : Rows) (v : Range) (c : Cursor) → length st.bags < bag_rows → (x : PartsAt)
+  leaf_of_lem : (l : ℕ) (w : Owner) (k : BagKind) (h : Bool) (st : Rows) (v : Range) (c : Cursor) → length st.bags < bag_rows → (x : Result (Parsed Parts) Fault)
       → OfParts (LeafIs s bytes k v c) x → OfWalked (ContentIs l w k h st v c) (leaf_at x k w h st)
   unfolding bags_bytes bags_count ValidBags
-  leaf_of_lem l w k h st v c room (PartsAt.Refused f) q = tt
-  leaf_of_lem l w k h st v c room (PartsAt.Found p m n) q = rw (← q.valid.1, q.count) one
+  leaf_of_lem l w k h st v c room (Err f) q = tt
+  leaf_of_lem l w k h st v c room (Ok u) q = rw (← q.valid.1, q.count) one
     where
       x : Leaf
       x = q.value
 
-      one : ContentIs l w (kind_of_leaf x) h st v c (add_bag st (bag_row (kind_of_leaf x) w.safe w.enclosing p h) (leaf_count x + 3)) n
+      one : ContentIs l w (kind_of_leaf x) h st v c (add_bag st (bag_row (kind_of_leaf x) w.safe w.enclosing u.value h) (leaf_count x + 3)) u.next
       one =
           record {
             content = leaf_bytes x;
-            p = p;
+            p = u.value;
             below = [];
             deep = [];
             count = leaf_count x + 3;
             whole = q.whole;
             past = q.past;
-            grown = grown_bag st (bag_row (kind_of_leaf x) w.safe w.enclosing p h) (leaf_count x + 3) room;
+            grown = grown_bag st (bag_row (kind_of_leaf x) w.safe w.enclosing u.value h) (leaf_count x + 3) room;
             front = bag x;
             valid = λ set xs a b. (q.valid.0, a, b);
             spelled = λ set xs. refl;
             counted = λ set xs. refl;
-            laid = λ y z from mid to set xs row rows own rest b r. one_bag p v b (leaf_at_lem c.at n.at v.start v.end p x y z q.laid) r;
+            laid = λ y z from mid to set xs row rows own rest b r. one_bag u.value v b (leaf_at_lem c.at u.next.at v.start v.end u.value x y z q.laid) r;
           }
 
   -- a SafeContents in the body `par`, with l levels left, from c to n
@@ -113,7 +114,7 @@ module _ (s : List ℕ) (bytes : Bytes s) where
   valid_nest (suc l) inner set xs a b d = (a, b, d)
 
   nest_of : (l : ℕ) (w : Owner) (h : Bool) (st : Rows) (v : Range) (c : Cursor) → length st.bags < bag_rows → (x : Walked)
-      → OfWalked (ContentsIs l (owner w.safe (Bag (length st.bags))) (add_bag st (bag_row Nested w.safe w.enclosing no_parts h) 3) v c) x
+      → OfWalked (ContentsIs l (owner w.safe (Some (length st.bags))) (add_bag st (bag_row Nested w.safe w.enclosing no_parts h) 3) v c) x
       → OfWalked (ContentIs l w Nested h st v c) x
   unfolding bags_bytes bags_count
   nest_of l w h st v c room (Refused f) q = tt

@@ -33,8 +33,7 @@ use Rattle.pkcs12.specs.Accepted.{IsAccepted}
 use Rattle.range.specs.declared.Range.{Range}
 use Rattle.pkcs12.specs.declared.row.Mac.{Mac}
 use Rattle.pkcs12.specs.declared.table.Table.{Table}
-use Rattle.pkcs12.specs.declared.answers.Answer.{Answer}
-use Rattle.pkcs12.specs.declared.answers.Answer.TheVariants.{Accepted}
+use Rattle.std.specs.Prelude.{Err, Ok, Result, ⊤}
 use Rattle.pkcs12.specs.declared.answers.Reading.{Reading}
 use Rattle.range.proofs.SameBytes.{same_is}
 use Rattle.pkcs12.proofs.Parents.{by_expect, by_identifier, by_integer, by_finish, In, in_body, in_next}
@@ -153,9 +152,9 @@ module _ (s : List ℕ) (bytes : Bytes s) where
       Good = OfWalked (OuterIs par c)
 
   -- what holds of the table of a reading that is accepted
-  abbrev OfAnswer : Answer → Type 0 → Type 0
-  OfAnswer (Answer.Refused f) A = Unit {0}
-  OfAnswer Accepted A = A
+  abbrev OfAnswer : Result ⊤ Fault → Type 0 → Type 0
+  OfAnswer (Err f) A = Unit {0}
+  OfAnswer (Ok tt) A = A
 
   abbrev OfReading : (Table → Type 0) → Reading → Type 0
   OfReading Q r = OfAnswer r.answer (Q r.table)
@@ -271,10 +270,10 @@ module _ (s : List ℕ) (bytes : Bytes s) where
       → (r : Reading) → OfReading (BodyIs (range_of b) m) r → OfReading FileIs (alone n r)
   alone_of b n v m d j y r a = go r.answer refl a
     where
-      go : (x : Answer) → r.answer ≡ x → OfAnswer x (BodyIs (range_of b) m r.table)
+      go : (x : Result ⊤ Fault) → r.answer ≡ x → OfAnswer x (BodyIs (range_of b) m r.table)
           → OfReading FileIs (on_answer x refused (on_checked (finish_at n) refused (λ z g. r)))
-      go (Answer.Refused f) e q = tt
-      go Accepted e q = by_finish (OfReading FileIs) refused (λ f. tt) n _ (λ z. rw e (file_is b n v m r.table d j y q z))
+      go (Err f) e q = tt
+      go (Ok tt) e q = by_finish (OfReading FileIs) refused (λ f. tt) n _ (λ z. rw e (file_is b n v m r.table d j y q z))
 
   file_of_lem : OfReading FileIs (read_file s)
   unfolding read_file pfx_at
@@ -298,7 +297,7 @@ module _ (s : List ℕ) (bytes : Bytes s) where
 -- an accepted file has at most 65,535 bytes
 pub accepted_size : (s : List ℕ) → IsAccepted s → length s ≤ file_bytes
 unfolding read_file
-accepted_size s = by_lt (λ (r : Reading). r.answer ≡ Accepted → length s ≤ file_bytes) _ _ file_bytes (length s) (λ l e. never e) (λ l e. l)
+accepted_size s = by_lt (λ (r : Reading). r.answer ≡ (Ok tt) → length s ≤ file_bytes) _ _ file_bytes (length s) (λ l e. never e) (λ l e. l)
   where
-    never : {A : Type 0} {f : Fault} → Answer.Refused f ≡ Accepted → A
+    never : {A : Type 0} {f : Fault} → ◌≡◌ {A = Result ⊤ Fault} (Err f) (Ok tt) → A
     never e = let z : ◌≡◌ {A = ℕ} 0 1 = cc in absurd (omega arith)

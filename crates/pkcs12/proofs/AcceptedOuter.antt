@@ -31,24 +31,24 @@ use Rattle.pkcs12.specs.Walk.{iterations_at, mac_at}
 use Rattle.pkcs12.specs.Laid.{ElementLaid, AlgorithmLaid, EncryptedLaid, MacLaid}
 use Rattle.range.specs.declared.Range.{Range}
 use Rattle.pkcs12.specs.declared.row.Parts.{Parts}
-use Rattle.pkcs12.specs.declared.answers.PartsAt.{PartsAt}
+use Rattle.pkcs12.specs.declared.answers.Parsed.{Parsed}
+use Rattle.std.specs.Prelude.{Err, Ok, Result}
 use Rattle.range.proofs.SameBytes.{same_is}
 use Rattle.pkcs12.proofs.AcceptedParts.{OfParts, by_parts, AlgorithmIs, algorithm_of, again, SealedIs}
 use Rattle.pkcs12.proofs.AcceptedParts.{sealed_of}
 use Rattle.pkcs12.proofs.Parents.{by_expect, by_identifier, by_integer, by_finish, In, in_body, in_next}
 use Rattle.pkcs12.proofs.Parents.{finished, laid_to, closed, closed_any, closed_identifier, Is}
 use Rattle.pkcs12.specs.declared.row.Mac.{Mac}
-use Rattle.pkcs12.specs.declared.answers.MacAt.{MacAt}
 
 -- what holds of MAC fields that were found
-abbrev pub OfMac : (Mac → ℕ → Cursor → Type 0) → MacAt → Type 0
-OfMac Q (MacAt.Refused f) = Unit {0}
-OfMac Q (MacAt.Found x m n) = Q x m n
+abbrev pub OfMac : (Mac → ℕ → Cursor → Type 0) → Result (Parsed Mac) Fault → Type 0
+OfMac Q (Err f) = Unit {0}
+OfMac Q (Ok y) = Q y.value y.count y.next
 
 pub by_mac : {A : Type 0} (P : A → Type 0) (bad : Fault → A) → ((f : Fault) → P (bad f)) → (Q : Mac → ℕ → Cursor → Type 0) (good : Mac → ℕ → Cursor → A)
-    → ((x : Mac) (m : ℕ) (n : Cursor) → Q x m n → P (good x m n)) → (x : MacAt) → OfMac Q x → P (on_mac x bad good)
-by_mac P bad r Q good g (MacAt.Refused f) q = r f
-by_mac P bad r Q good g (MacAt.Found x m n) q = g x m n q
+    → ((x : Mac) (m : ℕ) (n : Cursor) → Q x m n → P (good x m n)) → (x : Result (Parsed Mac) Fault) → OfMac Q x → P (on_mac x bad good)
+by_mac P bad r Q good g (Err f) q = r f
+by_mac P bad r Q good g (Ok y) q = g y.value y.count y.next q
 
 module _ (s : List ℕ) (bytes : Bytes s) where
   -- an EncryptedContentInfo in the body `par`
@@ -114,7 +114,7 @@ module _ (s : List ℕ) (bytes : Bytes s) where
       (algorithm_of s bytes (range_of b) m (closed_identifier s (range_of b) b t i m (in_body s c sequence_tag b n d) g).past))
       (λ y. tt)))
     where
-      Good : PartsAt → Type 0
+      Good : Result (Parsed Parts) Fault → Type 0
       Good = OfParts (InfoIs par c)
 
   -- an EncryptedData in the body `par`
@@ -171,7 +171,7 @@ module _ (s : List ℕ) (bytes : Bytes s) where
       (omega (arith, g.whole.size)) g.moved)))
       (λ y. tt))))
     where
-      Good : PartsAt → Type 0
+      Good : Result (Parsed Parts) Fault → Type 0
       Good = OfParts (EncryptedIs par c)
 
   -- the iterations at the end of the body `par`, behind k elements
@@ -218,7 +218,7 @@ module _ (s : List ℕ) (bytes : Bytes s) where
         whole = rw (finished par c h z) (span_empty s par.end l);
       }))
     where
-      Good : MacAt → Type 0
+      Good : Result (Parsed Mac) Fault → Type 0
       Good = OfMac (IterationsIs par p salt k c)
 
   -- a MacData in the body `par`
@@ -271,5 +271,5 @@ module _ (s : List ℕ) (bytes : Bytes s) where
       (iterations_of (range_of b) p (range_of o) (k + 2) e (closed_any s (range_of b) m octet_string_tag o e a.past g).past d.body.inside)))
       (sealed_at s b) (sealed_of s bytes (range_of b) b (in_body s c sequence_tag b n d)))
     where
-      Good : MacAt → Type 0
+      Good : Result (Parsed Mac) Fault → Type 0
       Good = OfMac (MacIs par c)

@@ -16,7 +16,8 @@ use Rattle.der.specs.Follows.{HeaderIs, IdentifierIs, OpaqueIs}
 use Rattle.der.specs.declared.Fault.{Fault}
 use Rattle.der.specs.declared.Cursor.{Cursor}
 use Rattle.der.specs.declared.Checked.{Checked}
-use Rattle.der.specs.declared.Checked.TheVariants.{Passed}
+use Rattle.pkcs12.specs.declared.answers.Parsed.{Parsed}
+use Rattle.std.specs.Prelude.{Err, Ok, Result}
 use Rattle.der.proofs.Choices.{never, by_lt}
 use Rattle.der.proofs.Opaque.{by_checked}
 use Rattle.der.proofs.Grammar.{opaque_sound}
@@ -34,7 +35,6 @@ use Rattle.pkcs12.specs.Walk.{range_of, on_parts, algorithm_at, with_value, seal
 use Rattle.pkcs12.specs.Laid.{AlgorithmLaid, SealedLaid, LeafLaid}
 use Rattle.range.specs.declared.Range.{Range}
 use Rattle.pkcs12.specs.declared.row.Parts.{Parts}
-use Rattle.pkcs12.specs.declared.answers.PartsAt.{PartsAt}
 use Rattle.pkcs12.specs.declared.kind.BagKind.{BagKind}
 use Rattle.pkcs12.specs.declared.kind.BagKind.TheVariants.{Key, ShroudedKey}
 use Rattle.range.proofs.SameBytes.{same_self}
@@ -43,14 +43,14 @@ use Rattle.pkcs12.proofs.Parents.{laid_to, closed, closed_any, closed_identifier
 use Rattle.pkcs12.proofs.Parents.{some_byte, nothing_count, at_most_one, Is}
 
 -- what holds of parts that were found; a refusal has nothing to hold
-abbrev pub OfParts : (Parts → ℕ → Cursor → Type 0) → PartsAt → Type 0
-OfParts Q (PartsAt.Refused f) = Unit {0}
-OfParts Q (PartsAt.Found p m n) = Q p m n
+abbrev pub OfParts : (Parts → ℕ → Cursor → Type 0) → Result (Parsed Parts) Fault → Type 0
+OfParts Q (Err f) = Unit {0}
+OfParts Q (Ok x) = Q x.value x.count x.next
 
 pub by_parts : {A : Type 0} (P : A → Type 0) (bad : Fault → A) → ((f : Fault) → P (bad f)) → (Q : Parts → ℕ → Cursor → Type 0) (good : Parts → ℕ → Cursor → A)
-    → ((p : Parts) (m : ℕ) (n : Cursor) → Q p m n → P (good p m n)) → (x : PartsAt) → OfParts Q x → P (on_parts x bad good)
-by_parts P bad r Q good g (PartsAt.Refused f) q = r f
-by_parts P bad r Q good g (PartsAt.Found p m n) q = g p m n q
+    → ((p : Parts) (m : ℕ) (n : Cursor) → Q p m n → P (good p m n)) → (x : Result (Parsed Parts) Fault) → OfParts Q x → P (on_parts x bad good)
+by_parts P bad r Q good g (Err f) q = r f
+by_parts P bad r Q good g (Ok x) q = g x.value x.count x.next q
 
 module _ (s : List ℕ) (bytes : Bytes s) where
   abbrev pub AlgorithmIs : Range → Cursor → Parts → ℕ → Cursor → Type 0
@@ -102,7 +102,7 @@ module _ (s : List ℕ) (bytes : Bytes s) where
       algorithm_is par c b n t i m [] b.end b.end 2 h d j (span_empty s b.end d.body.inside) tt (finished (range_of b) m f.past l) refl
       (rw nothing_count))))
     where
-      Good : PartsAt → Type 0
+      Good : Result (Parsed Parts) Fault → Type 0
       Good = OfParts (AlgorithmIs par c)
 
   -- where an algorithm is, whatever the value beside it
@@ -149,7 +149,7 @@ module _ (s : List ℕ) (bytes : Bytes s) where
       (λ o e j. by_finish Good _ (λ f. tt) e _ (λ z. sealed_is par c b n p k m o e h d a j z)))
       (algorithm_at s b) (algorithm_of (range_of b) b (in_body s c sequence_tag b n d)))
     where
-      Good : PartsAt → Type 0
+      Good : Result (Parsed Parts) Fault → Type 0
       Good = OfParts (SealedIs par c)
 
   -- what is in [0] of a bag of this kind
@@ -176,7 +176,7 @@ module _ (s : List ℕ) (bytes : Bytes s) where
       by_expect s bytes Good _ (λ f. tt) c sequence_tag _
       (λ b n d. by_opaque s bytes Good _ (λ f. tt) c _ (λ k e o. key_is par c b n k e h d o))
     where
-      Good : PartsAt → Type 0
+      Good : Result (Parsed Parts) Fault → Type 0
       Good = OfParts (LeafIs Key par c)
 
   -- a shrouded key is a sealed part
@@ -184,15 +184,15 @@ module _ (s : List ℕ) (bytes : Bytes s) where
   unfolding leaf_bytes
   shrouded_of par c h = go (sealed_at s c) (sealed_of par c h)
     where
-      go : (x : PartsAt) → OfParts (SealedIs par c) x → OfParts (LeafIs ShroudedKey par c) x
-      go (PartsAt.Refused f) q = tt
-      go (PartsAt.Found p m n) q =
+      go : (x : Result (Parsed Parts) Fault) → OfParts (SealedIs par c) x → OfParts (LeafIs ShroudedKey par c) x
+      go (Err f) q = tt
+      go (Ok x) q =
           record { value = shrouded q.value; valid = (q.valid, refl); count = q.count; laid = q.laid; whole = q.whole; past = q.past }
 
   -- one opaque element; where `due` says so, an OCTET STRING
-  abbrev ValueIs : Bool → Cursor → Checked → Type 0
-  ValueIs due c (Checked.Refused f) = Unit {0}
-  ValueIs due c (Passed k e) = (o : OpaqueIs opaque_levels s c k e) × (due ≡ true → get_or (encode o.tree) 0 0 ≡ octet_string_tag)
+  abbrev ValueIs : Bool → Cursor → Result Checked Fault → Type 0
+  ValueIs due c (Err f) = Unit {0}
+  ValueIs due c (Ok x) = (o : OpaqueIs opaque_levels s c x.count x.next) × (due ≡ true → get_or (encode o.tree) 0 0 ≡ octet_string_tag)
 
   value_of : (due : Bool) (c : Cursor) → ValueIs due c (value_at due s c)
   unfolding value_at
@@ -202,15 +202,15 @@ module _ (s : List ℕ) (bytes : Bytes s) where
       (λ k e o. first_byte s c octet_string_tag b n e.at (encode o.tree) d o.whole (some_byte o.tree))
       refl)
     where
-      passed : (x : Checked) → ((k : ℕ) (e : Cursor) (o : OpaqueIs opaque_levels s c k e) → get_or (encode o.tree) 0 0 ≡ octet_string_tag)
+      passed : (x : Result Checked Fault) → ((k : ℕ) (e : Cursor) (o : OpaqueIs opaque_levels s c k e) → get_or (encode o.tree) 0 0 ≡ octet_string_tag)
           → opaque_at opaque_levels s c ≡ x → ValueIs true c x
-      passed (Checked.Refused f) g q = tt
-      passed (Passed k e) g q = let o = opaque_sound opaque_levels s c k e bytes q in (o, λ z. g k e o)
+      passed (Err f) g q = tt
+      passed (Ok x) g q = let o = opaque_sound opaque_levels s c x.count x.next bytes q in (o, λ z. g x.count x.next o)
   value_of false c = passed (opaque_at opaque_levels s c) refl
     where
-      passed : (x : Checked) → opaque_at opaque_levels s c ≡ x → ValueIs false c x
-      passed (Checked.Refused f) q = tt
-      passed (Passed k e) q = (opaque_sound opaque_levels s c k e bytes q, λ z. never z)
+      passed : (x : Result Checked Fault) → opaque_at opaque_levels s c ≡ x → ValueIs false c x
+      passed (Err f) q = tt
+      passed (Ok x) q = (opaque_sound opaque_levels s c x.count x.next bytes q, λ z. never z)
 
   -- a certificate, CRL or secret
   abbrev pub is_certificate : Typed → Bool
@@ -274,5 +274,5 @@ module _ (s : List ℕ) (bytes : Bytes s) where
       (λ y. by_finish Good _ (λ f. tt) e _ (λ z. typed_is k par c b n t i m v e j f h d g q o.0 o.1 y z)))
       (value_at (due_in k (bytes_of s i)) s v) (value_of (due_in k (bytes_of s i)) v))))
     where
-      Good : PartsAt → Type 0
+      Good : Result (Parsed Parts) Fault → Type 0
       Good = OfParts (LeafIs (kind_of_typed k) par c)

@@ -29,7 +29,7 @@ use Rattle.pkcs12.specs.Laid.{ElementLaid, ContentLaid, SafesLaid, no_safe_laid,
 use Rattle.range.specs.declared.Range.{Range}
 use Rattle.pkcs12.specs.declared.row.Parts.{Parts}
 use Rattle.pkcs12.specs.declared.kind.SafeKind.TheVariants.{Plain, Encrypted}
-use Rattle.pkcs12.specs.declared.row.Enclosing.{Enclosing}
+use Rattle.std.specs.Prelude.{None}
 use Rattle.pkcs12.specs.declared.row.SafeRow.{SafeRow}
 use Rattle.pkcs12.specs.declared.row.BagRow.{BagRow}
 use Rattle.pkcs12.specs.declared.row.AttributeRow.{AttributeRow}
@@ -124,7 +124,7 @@ module _ (s : List ℕ) (bytes : Bytes s) where
   -- a plain safe
   abbrev PlainHeld : Rows → Cursor → Rows → Cursor → List ℕ → Type 0
   PlainHeld st o st' g x =
-      (q : ContentsIs s bytes levels (owner (length st.safes) Enclosing.None)
+      (q : ContentsIs s bytes levels (owner (length st.safes) None)
       (add_safe st (safe_row Plain no_parts) 4) (range_of o) o st' g) × (x ≡ sequence (bags_bytes q.value))
 
   plain_is : (body : Range) (st : Rows) (m : Cursor) (st' : Rows) (e : Cursor) → length st.safes < safe_rows
@@ -159,7 +159,7 @@ module _ (s : List ℕ) (bytes : Bytes s) where
             (rw (laid_bags_long s _ _ _ _ v q.rows q.own q.laid).0 at r);
       }
     where
-      q : ContentsIs s bytes levels (owner (length st.safes) Enclosing.None)
+      q : ContentsIs s bytes levels (owner (length st.safes) None)
           (add_safe st (safe_row Plain no_parts) 4) (range_of a.octets) a.octets st' a.rest
       q = a.held.0
 
@@ -178,13 +178,13 @@ module _ (s : List ℕ) (bytes : Bytes s) where
       go (Went st' e) q = plain_is body st m st' e room q
 
       spelt : (o : Cursor) (x : Walked)
-          → OfWalked (ContentsIs s bytes levels (owner (length st.safes) Enclosing.None) (add_safe st (safe_row Plain no_parts) 4) (range_of o) o) x
+          → OfWalked (ContentsIs s bytes levels (owner (length st.safes) None) (add_safe st (safe_row Plain no_parts) 4) (range_of o) o) x
           → OfWalked (Spelt (PlainHeld st) o) x
       spelt o (Refused f) q = tt
       spelt o (Went st' g) q = record { x = sequence (bags_bytes q.value); held = (q, refl); whole = q.whole; past = q.past }
 
       inner : (o : Cursor) → In (range_of o) o
-          → OfWalked (Spelt (PlainHeld st) o) (safe_contents_at levels s (owner (length st.safes) Enclosing.None) (add_safe st (safe_row Plain no_parts) 4) o)
+          → OfWalked (Spelt (PlainHeld st) o) (safe_contents_at levels s (owner (length st.safes) None) (add_safe st (safe_row Plain no_parts) 4) o)
       inner o i = spelt o (safe_contents_at levels s _ _ o) (contents_of s bytes levels _ _ (range_of o) o i)
 
   -- an encrypted safe

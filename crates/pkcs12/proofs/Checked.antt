@@ -53,8 +53,7 @@ use Rattle.pkcs12.specs.declared.kind.SafeKind.{SafeKind}
 use Rattle.pkcs12.specs.declared.kind.SafeKind.TheVariants.{Plain, Encrypted}
 use Rattle.pkcs12.specs.declared.kind.BagKind.{BagKind}
 use Rattle.pkcs12.specs.declared.kind.BagKind.TheVariants.{Key, ShroudedKey, Certificate, Crl, Secret, Nested}
-use Rattle.pkcs12.specs.declared.row.Enclosing.{Enclosing}
-use Rattle.pkcs12.specs.declared.row.Enclosing.TheVariants.{Bag}
+use Rattle.std.specs.Prelude.{None, Option as Maybe, Some}
 use Rattle.pkcs12.specs.declared.row.AttributeRow.{AttributeRow}
 use Rattle.pkcs12.specs.declared.row.Mac.{Mac}
 use Rattle.pkcs12.specs.declared.table.Table.{Table}
@@ -330,7 +329,7 @@ module _ (l n : ℕ) (b : Bool) where
       record { bags = rw e (f.bags, g.0, rw e at w.bags); rows = w.rows; rest = w.rest }
 
 -- all that is taken is valid
-fine_from : (f l k : ℕ) (e : Enclosing) (n : ℕ) (rows : List BagValue) (rest : List AttributeValue) → Each GoodBag rows → Each GoodAttribute rest
+fine_from : (f l k : ℕ) (e : Maybe ℕ) (n : ℕ) (rows : List BagValue) (rest : List AttributeValue) → Each GoodBag rows → Each GoodAttribute rest
     → Fine l (bags_from f l k e n rows rest)
 unfolding bags_from Each
 fine_from zero l k e n rows rest p q = fine_nothing l n rows rest p q
@@ -341,7 +340,7 @@ fine_from (suc f) l k e n (r ∷ rs) rest p q =
     (λ b. by_good (Fine l) _ r.content _ _ p.0
     (λ x v. fine_leaf l n r.has_set x rest _ v q (λ g. fine_from f l k e (n + 1) rs _ p.1 g))
     (by_level (Fine l) _ l _ (fine_nothing l n (r ∷ rs) rest p q)
-    (λ m h. fine_nest l n r.has_set m _ _ h (fine_from f m k (Bag n) (n + 1) rs rest p.1 q) (λ d g. fine_from f l k e _ _ _ d g))))
+    (λ m h. fine_nest l n r.has_set m _ _ h (fine_from f m k (Some n) (n + 1) rs rest p.1 q) (λ d g. fine_from f l k e _ _ _ d g))))
     (λ b. fine_nothing l n (r ∷ rs) rest p q)) (λ a. fine_nothing l n (r ∷ rs) rest p q)
 
 -- safes that were read, if they were, are valid
@@ -363,7 +362,7 @@ safes_valid k n [] (r ∷ rows) rest g p q = tt
 safes_valid k n (empty_safe ∷ xs) rows rest g p q = tt
 safes_valid k n (plain_safe ∷ xs) rows rest g p q =
     let t : Taken = contents_from k n rows rest in
-    let h : Fine _ t = fine_from (length rows) _ k Enclosing.None n rows rest p q in
+    let h : Fine _ t = fine_from (length rows) _ k None n rows rest p q in
     also_valid (plain t.bags) (safes_from (k + 1) t.next xs t.rows t.rest) h.bags
     (safes_valid (k + 1) t.next xs t.rows t.rest g.1 h.rows h.rest)
 safes_valid k n (encrypted_safe x ∷ xs) rows rest g p q =
@@ -411,7 +410,7 @@ set_rows : (n : ℕ) (set : Set) → ValidSet set → Rowed GoodAttribute (set_v
 set_rows n absent v = rowed_none
 set_rows n (present xs) v = own_rows_lem n xs v
 
-bag_rows_lem : (l k : ℕ) (e : Enclosing) (n : ℕ) (x : Bags) → ValidBags l x
+bag_rows_lem : (l k : ℕ) (e : Maybe ℕ) (n : ℕ) (x : Bags) → ValidBags l x
     → Rowed GoodBag (bag_values k e n x) (bags_in x) × Rowed GoodAttribute (attribute_values n x) (attributes_in x)
 unfolding bag_values attribute_values ValidBags bags_in attributes_in
 bag_rows_lem l k e n none v = (rowed_none, rowed_none)
@@ -420,7 +419,7 @@ bag_rows_lem l k e n (bag x set xs) v =
     (rowed_more v.0 q.0 refl, rowed_join (set_rows n set v.1) q.1)
 bag_rows_lem zero k e n (nest inner set xs) v = absurd v
 bag_rows_lem (suc l) k e n (nest inner set xs) v =
-    let d = bag_rows_lem l k (Bag n) (n + 1) inner v.0 in
+    let d = bag_rows_lem l k (Some n) (n + 1) inner v.0 in
     let q = bag_rows_lem (suc l) k e (n + 1 + bags_in inner) xs v.2 in
     (rowed_more tt (rowed_join d.0 q.0) refl, rowed_join d.1 (rowed_join (set_rows n set v.1) q.1))
 
@@ -430,7 +429,7 @@ safe_rows_lem : (k n : ℕ) (xs : List Safe) → ValidSafes xs
 unfolding safe_values bags_of_safes attributes_of_safes ValidSafes bags_in_safes attributes_in_safes
 safe_rows_lem k n [] v = (rowed_none, rowed_none, rowed_none)
 safe_rows_lem k n (plain x ∷ xs) v =
-    let d = bag_rows_lem _ k Enclosing.None n x v.0 in
+    let d = bag_rows_lem _ k None n x v.0 in
     let q = safe_rows_lem (k + 1) (n + bags_in x) xs v.1 in
     (rowed_more tt q.0 (omega arith), rowed_join d.0 q.1, rowed_join d.1 q.2)
 safe_rows_lem k n (encrypted x ∷ xs) v =

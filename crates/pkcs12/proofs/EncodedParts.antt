@@ -17,8 +17,11 @@ use Rattle.der.specs.Opaque.{opaque_at}
 use Rattle.der.specs.Octets.{tlv, integer_octets, TagForm, IdentifierRule, integer, identifier, sequence, octet_string}
 use Rattle.der.specs.Span.{Span}
 use Rattle.der.specs.declared.Cursor.{Cursor}
-use Rattle.der.specs.declared.Element.TheVariants.{Found}
-use Rattle.der.specs.declared.Checked.TheVariants.{Passed}
+use Rattle.der.specs.Element.{checked, element}
+use Rattle.der.specs.declared.Fault.{Fault}
+use Rattle.pkcs12.specs.Table.{parsed}
+use Rattle.pkcs12.specs.declared.answers.Parsed.{Parsed}
+use Rattle.std.specs.Prelude.{Err, Ok, Result}
 use Rattle.der.proofs.Choices.{by_eq}
 use Rattle.der.proofs.Placed.{expect_is}
 use Rattle.der.proofs.Octets.{tlv_first, tlv_long}
@@ -42,28 +45,26 @@ use Rattle.range.specs.declared.Range.{Range}
 use Rattle.pkcs12.specs.declared.row.Parts.{Parts}
 use Rattle.pkcs12.specs.declared.kind.BagKind.{BagKind}
 use Rattle.pkcs12.specs.declared.row.Mac.{Mac}
-use Rattle.pkcs12.specs.declared.answers.MacAt.{MacAt}
-use Rattle.pkcs12.specs.declared.answers.PartsAt.{PartsAt}
 use Rattle.range.proofs.SameBytes.{same_self}
 use Rattle.pkcs12.proofs.Named.{data_rule}
 
 -- parts were found, and n is the cursor past them
-abbrev pub Ends : PartsAt → Cursor → Type 0
-Ends (PartsAt.Refused f) n = ⊥
-Ends (PartsAt.Found p m e) n = e ≡ n
+abbrev pub Ends : Result (Parsed Parts) Fault → Cursor → Type 0
+Ends (Err f) n = ⊥
+Ends (Ok x) n = x.next ≡ n
 
-pub parts_then : {P : Type 0} (x : PartsAt) (n : Cursor) → Ends x n → ((p : Parts) (m : ℕ) → x ≡ PartsAt.Found p m n → P) → P
-parts_then (PartsAt.Refused f) n h k = absurd h
-parts_then (PartsAt.Found p m e) n h k = k p m (rw h)
+pub parts_then : {P : Type 0} (x : Result (Parsed Parts) Fault) (n : Cursor) → Ends x n → ((p : Parts) (m : ℕ) → x ≡ Ok (parsed p m n) → P) → P
+parts_then (Err f) n h k = absurd h
+parts_then (Ok x) n h k = k x.value x.count (rw h)
 
 -- the same of a MAC
-abbrev pub MacEnds : MacAt → Cursor → Type 0
-MacEnds (MacAt.Refused f) n = ⊥
-MacEnds (MacAt.Found x m e) n = e ≡ n
+abbrev pub MacEnds : Result (Parsed Mac) Fault → Cursor → Type 0
+MacEnds (Err f) n = ⊥
+MacEnds (Ok y) n = y.next ≡ n
 
-pub mac_then : {P : Type 0} (x : MacAt) (n : Cursor) → MacEnds x n → ((y : Mac) (m : ℕ) → x ≡ MacAt.Found y m n → P) → P
-mac_then (MacAt.Refused f) n h k = absurd h
-mac_then (MacAt.Found y m e) n h k = k y m (rw h)
+pub mac_then : {P : Type 0} (x : Result (Parsed Mac) Fault) (n : Cursor) → MacEnds x n → ((y : Mac) (m : ℕ) → x ≡ Ok (parsed y m n) → P) → P
+mac_then (Err f) n h k = absurd h
+mac_then (Ok x) n h k = k x.value x.count (rw h)
 
 -- what is written is not empty
 some_byte : (t : ℕ) (body : List ℕ) → 1 ≤ length (tlv t body)
@@ -87,13 +88,13 @@ unfolding mac_bytes
 mac_some m = some_byte _ _
 
 -- nothing is left where a cursor is at its end
-pub finished : (e : ℕ) → finish_at (cursor e e) ≡ Passed 0 (cursor e e)
+pub finished : (e : ℕ) → finish_at (cursor e e) ≡ Ok (checked 0 (cursor e e))
 finished e = finish_done (cursor e e) (omega arith)
 
 module _ (s : List ℕ) (small : length s ≤ file_bytes) where
   -- an element that is written is found; the continuation k takes the offset of its body
   found_then : {P : Type 0} (t at e end : ℕ) (body : List ℕ) → TagForm t → Span s at e (tlv t body) → e ≤ end → end ≤ length s
-      → ((b : ℕ) → expect_at t s (cursor at end) ≡ Found t (cursor b e) (cursor e end) → Span s b e body → P) → P
+      → ((b : ℕ) → expect_at t s (cursor at end) ≡ Ok (element t (cursor b e) (cursor e end)) → Span s b e body → P) → P
   found_then t at e end body form p h i k =
       header_then s at e end t body form (omega (arith, p.size, tlv_long t body)) p h i
       (λ b f q. k b (expect_is s (cursor at end) t (cursor b e) (cursor e end) f) q)
@@ -101,7 +102,7 @@ module _ (s : List ℕ) (small : length s ≤ file_bytes) where
   -- the same of a tag that is written out
   pub expect_then : {P : Type 0} (t at e end : ℕ) (body : List ℕ) → eqb t 0 ≡ false → eqb (t % 32) 31 ≡ false
       → Span s at e (tlv t body) → e ≤ end → end ≤ length s
-      → ((b : ℕ) → expect_at t s (cursor at end) ≡ Found t (cursor b e) (cursor e end) → Span s b e body → P) → P
+      → ((b : ℕ) → expect_at t s (cursor at end) ≡ Ok (element t (cursor b e) (cursor e end)) → Span s b e body → P) → P
   expect_then t at e end body u v p h i k = found_then t at e end body (tag_form_lem t u v) p h i k
 
   -- the next byte is its tag
@@ -112,15 +113,15 @@ module _ (s : List ℕ) (small : length s ≤ file_bytes) where
 
   -- a SEQUENCE of x and y; the continuation k takes the offset where they meet
   pub sequence_then : {P : Type 0} (at e end : ℕ) (x y : List ℕ) → Span s at e (sequence (x ++ y)) → e ≤ end → end ≤ length s
-      → ((b m : ℕ) → expect_at sequence_tag s (cursor at end) ≡ Found sequence_tag (cursor b e) (cursor e end) → Span s b m x → Span s m e y → m ≤ e → P) → P
+      → ((b m : ℕ) → expect_at sequence_tag s (cursor at end) ≡ Ok (element sequence_tag (cursor b e) (cursor e end)) → Span s b m x → Span s m e y → m ≤ e → P) → P
   sequence_then at e end x y p h i k =
       expect_then sequence_tag at e end (x ++ y) refl refl p h i (λ b f q. span_split s b e x y q (λ m o r. k b m f o r (omega (arith, r.size))))
 
   -- a SEQUENCE of an identifier and y
   pub named_then : {P : Type 0} (at e end : ℕ) (name y : List ℕ) → IdentifierRule name → Span s at e (sequence (identifier name ++ y))
       → e ≤ end → end ≤ length s
-      → ((b c m : ℕ) → expect_at sequence_tag s (cursor at end) ≡ Found sequence_tag (cursor b e) (cursor e end)
-      → identifier_at s (cursor b e) ≡ Found identifier_tag (cursor c m) (cursor m e) → bytes_of s (cursor c m) ≡ name → Span s m e y → P) → P
+      → ((b c m : ℕ) → expect_at sequence_tag s (cursor at end) ≡ Ok (element sequence_tag (cursor b e) (cursor e end))
+      → identifier_at s (cursor b e) ≡ Ok (element identifier_tag (cursor c m) (cursor m e)) → bytes_of s (cursor c m) ≡ name → Span s m e y → P) → P
   named_then at e end name y r p h i k =
       sequence_then at e end (identifier name) y p h i
       (λ b m f q z l.
@@ -129,7 +130,7 @@ module _ (s : List ℕ) (small : length s ≤ file_bytes) where
 
   -- an opaque element is checked
   pub opaque_then : {P : Type 0} (at e end : ℕ) (x : List ℕ) → Opaque x → Span s at e x → e ≤ end → end ≤ length s
-      → ((m : ℕ) → opaque_at opaque_levels s (cursor at end) ≡ Passed m (cursor e end) → P) → P
+      → ((m : ℕ) → opaque_at opaque_levels s (cursor at end) ≡ Ok (checked m (cursor e end)) → P) → P
   opaque_then at e end x o p h i k =
       k _ (tree_accepted s o.as_tree opaque_levels at e end o.formed (omega (arith, o.depth)) (rw (← o.whole) at p) h i)
 
@@ -164,7 +165,7 @@ module _ (s : List ℕ) (small : length s ≤ file_bytes) where
 
   -- an opaque element is found with its tag
   tagged_then : {P : Type 0} (t at e end : ℕ) (x : List ℕ) → Opaque x → get_or x 0 0 ≡ t → Span s at e x → e ≤ end → end ≤ length s
-      → ((b : ℕ) → expect_at t s (cursor at end) ≡ Found t (cursor b e) (cursor e end) → P) → P
+      → ((b : ℕ) → expect_at t s (cursor at end) ≡ Ok (element t (cursor b e) (cursor e end)) → P) → P
   tagged_then t at e end x o d p h i k =
       tree_element o.as_tree o.formed
       (λ u body form z.
@@ -182,7 +183,7 @@ module _ (s : List ℕ) (small : length s ≤ file_bytes) where
 
   -- an opaque element, an OCTET STRING where f requires one
   value_then : {P : Type 0} (f : Bool) (at e end : ℕ) (x : List ℕ) → Opaque x → (f ≡ true → get_or x 0 0 ≡ octet_string_tag) → Span s at e x
-      → e ≤ end → end ≤ length s → ((m : ℕ) → value_at f s (cursor at end) ≡ Passed m (cursor e end) → P) → P
+      → e ≤ end → end ≤ length s → ((m : ℕ) → value_at f s (cursor at end) ≡ Ok (checked m (cursor e end)) → P) → P
   unfolding value_at
   value_then true at e end x o d p h i k =
       tagged_then octet_string_tag at e end x o (d refl) p h i (λ b f. opaque_then at e end x o p h i (λ m g. k m (rw (f, g))))

@@ -41,8 +41,10 @@ use Rattle.pkcs12.specs.Walk.{outer_value_at, body_at, pfx_at, read_file}
 use Rattle.pkcs12.specs.Accepted.{IsAccepted}
 use Rattle.pkcs12.specs.declared.kind.BagKind.{BagKind}
 use Rattle.pkcs12.specs.declared.kind.BagKind.TheVariants.{Key, ShroudedKey, Certificate, Crl, Secret, Nested}
-use Rattle.pkcs12.specs.declared.answers.PartsAt.{PartsAt}
-use Rattle.pkcs12.specs.declared.answers.Answer.TheVariants.{Accepted}
+use Rattle.der.specs.declared.Fault.{Fault}
+use Rattle.pkcs12.specs.declared.answers.Parsed.{Parsed}
+use Rattle.pkcs12.specs.declared.row.Parts.{Parts}
+use Rattle.std.specs.Prelude.{Err, Ok, Result}
 use Rattle.range.proofs.SameBytes.{same_self, same_is}
 use Rattle.pkcs12.proofs.Named.{data_rule, encrypted_rule, other_type, Served, on_kind_lem, kind_named}
 use Rattle.pkcs12.proofs.EncodedParts.{Ends, parts_then, mac_then, attribute_some, bag_some, safe_some}
@@ -77,10 +79,10 @@ leaf_served (typed crl t v) = refl
 leaf_served (typed secret t v) = refl
 
 -- a bag that holds no bags is a row more
-leaf_of_lem : (p : PartsAt) (kind : BagKind) (w : Owner) (h : Bool) (st : Rows) (n : Cursor) (x y z : ℕ) → Ends p n → Sizes st x y z
+leaf_of_lem : (p : Result (Parsed Parts) Fault) (kind : BagKind) (w : Owner) (h : Bool) (st : Rows) (n : Cursor) (x y z : ℕ) → Ends p n → Sizes st x y z
     → Reaches (leaf_at p kind w h st) n x (y + 1) z
-leaf_of_lem (PartsAt.Refused f) kind w h st n x y z o r = absurd o
-leaf_of_lem (PartsAt.Found p m e) kind w h st n x y z o r =
+leaf_of_lem (Err f) kind w h st n x y z o r = absurd o
+leaf_of_lem (Ok v) kind w h st n x y z o r =
     (o, record { safes = r.safes; bags = one_more_lem st.bags _ y r.bags; attributes = r.attributes })
 
 -- the loop, with any fuel that reaches its end: its end, and one part in front of the rest
@@ -354,7 +356,7 @@ module _ (s : List ℕ) (small : length s ≤ file_bytes) where
 
   -- what follows the version, and the whole file
   body_passes : (v : Pfx) (at e : ℕ) → Valid v → Span s at e (data_bytes (safes_bytes v.safes) ++ mac_bytes v.mac)
-      → (body_at s (cursor at e)).answer ≡ Accepted
+      → (body_at s (cursor at e)).answer ≡ (Ok tt)
   unfolding body_at
   body_passes v at e r p =
       span_split s at e (data_bytes (safes_bytes v.safes)) (mac_bytes v.mac) p
@@ -364,7 +366,7 @@ module _ (s : List ℕ) (small : length s ≤ file_bytes) where
       mac_then (mac_at s (cursor b e)) (cursor e e) (mac_passes s small v.mac b e e r.mac t (omega arith) t.inside)
       (λ x k g. rw (f, lt-leb e b (omega (arith, t.size, mac_some v.mac)), g, finished e) refl)))
 
-  pfx_passes : (v : Pfx) → Valid v → Span s 0 (length s) (encode v) → (pfx_at s (whole_of s)).answer ≡ Accepted
+  pfx_passes : (v : Pfx) → Valid v → Span s 0 (length s) (encode v) → (pfx_at s (whole_of s)).answer ≡ (Ok tt)
   unfolding encode pfx_at
   pfx_passes v r p =
       sequence_then s small 0 (length s) (length s) (integer pfx_version) (data_bytes (safes_bytes v.safes) ++ mac_bytes v.mac) p (omega arith) (omega arith)

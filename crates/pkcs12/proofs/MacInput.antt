@@ -15,14 +15,14 @@ use Rattle.range.specs.Range.{bytes_in}
 use Rattle.pkcs12.specs.Table.{empty_table, table_of, rows_in}
 use Rattle.pkcs12.specs.Walk.{read_file}
 use Rattle.pkcs12.specs.Accepted.{IsAccepted, Follows, table_from, reading_from}
-use Rattle.pkcs12.specs.declared.answers.Answer.{Answer}
+use Rattle.std.specs.Prelude.{Err}
 use Rattle.pkcs12.proofs.Theorems.{accepted_iff_follows, table_shows_reading, ranges_within_parents}
 use Rattle.pkcs12.proofs.Theorems.{refused_table_empty}
 
 -- ---- of a file
 
 -- The table of a refused file names no byte.
-pub refused_input_empty : (f : List ℕ) (fault : Fault) → (read_file f).answer ≡ Answer.Refused fault → bytes_in f (table_from f).mac_input ≡ []
+pub refused_input_empty : (f : List ℕ) (fault : Fault) → (read_file f).answer ≡ Err fault → bytes_in f (table_from f).mac_input ≡ []
 unfolding empty_table table_of
 refused_input_empty f fault e = rw (refused_table_empty f fault e) (slice_empty 0 f)
 

@@ -20,16 +20,15 @@ use Rattle.pkcs12.specs.Sound.{Sound}
 use Rattle.pkcs12.specs.Written.{file_of, write_file}
 use Rattle.buffer.specs.Written.{Outcome, refusal, success}
 use Rattle.pkcs12.specs.declared.table.Table.{Table}
-use Rattle.buffer.specs.declared.Written.{Written}
-use Rattle.buffer.specs.declared.Written.TheVariants.{Length}
+use Rattle.std.specs.Prelude.{Err, Ok, Result}
 use Rattle.pkcs12.proofs.Checked.{sound_file, file_iff_sound, no_file_iff}
 use Rattle.pkcs12.proofs.Writing.{written_is_read}
 use Rattle.pkcs12.proofs.Delivered.{writes_none, writes_long, writes_short, writes_file}
 
 -- an answer by number: a length is 0, a refusal one more than its number
-abbrev code : Written → ℕ
-code (Length n) = 0
-code (Written.Refused f) = 1 + f.number
+abbrev code : Result ℕ Fault → ℕ
+code (Ok n) = 0
+code (Err f) = 1 + f.number
 
 module _ (t : Table) (s buffer : List ℕ) where
   -- what holds of each outcome, with the facts that lead to it, holds of the one that writing has
@@ -56,10 +55,10 @@ module _ (t : Table) (s buffer : List ℕ) where
   Begins after n =
       (f : List ℕ) × (length f ≡ n) × (after ≡ f ++ drop n buffer) × IsAccepted f × (reading_from f ≡ reading_of t s)
 
-  pub written_file : Bytes s → (n : ℕ) → (write_file t s buffer).answer ≡ Length n
+  pub written_file : Bytes s → (n : ℕ) → (write_file t s buffer).answer ≡ Ok n
       → Begins (write_file t s buffer).buffer n
   written_file b n =
-      by_outcome (λ w. w.answer ≡ Length n → Begins w.buffer n)
+      by_outcome (λ w. w.answer ≡ Ok n → Begins w.buffer n)
       (λ h e. absurd (omega (arith, ap code e))) (λ f h k e. absurd (omega (arith, ap code e)))
       (λ f h k m e. absurd (omega (arith, ap code e)))
       (λ f h k m e.
@@ -69,10 +68,10 @@ module _ (t : Table) (s buffer : List ℕ) where
       (f, l, rw l refl, rw (← o.1) a.0, rw (← o.1) a.1))
 
   -- a refusal: the buffer is as before
-  pub refused_buffer : (fault : Fault) → (write_file t s buffer).answer ≡ Written.Refused fault
+  pub refused_buffer : (fault : Fault) → (write_file t s buffer).answer ≡ Err fault
       → (write_file t s buffer).buffer ≡ buffer
   refused_buffer fault =
-      by_outcome (λ w. w.answer ≡ Written.Refused fault → w.buffer ≡ buffer)
+      by_outcome (λ w. w.answer ≡ Err fault → w.buffer ≡ buffer)
       (λ h e. refl) (λ f h k e. refl) (λ f h k m e. refl) (λ f h k m e. absurd (omega (arith, ap code e)))
 
   -- a refusal by number n: the facts that lead to it
@@ -80,15 +79,15 @@ module _ (t : Table) (s buffer : List ℕ) where
       → (n ≡ not_sound → file_of t s ≡ option.none → A)
       → ((f : List ℕ) → n ≡ too_long → file_of t s ≡ some f → file_bytes < length f → A)
       → ((f : List ℕ) → n ≡ short_buffer → file_of t s ≡ some f → length f ≤ file_bytes → length buffer < length f → A)
-      → (write_file t s buffer).answer ≡ Written.Refused (fault n 0) → A
+      → (write_file t s buffer).answer ≡ Err (fault n 0) → A
   by_number {A} n unsound long short =
-      by_outcome (λ w. w.answer ≡ Written.Refused (fault n 0) → A)
+      by_outcome (λ w. w.answer ≡ Err (fault n 0) → A)
       (λ h e. unsound (omega (arith, ap code e)) h) (λ f h k e. long f (omega (arith, ap code e)) h k)
       (λ f h k m e. short f (omega (arith, ap code e)) h k m) (λ f h k m e. absurd (omega (arith, ap code e)))
 
   module _ (bytes : Bytes s) where
     -- 11 exactly if the table is not sound
-    pub refused_11_iff : (write_file t s buffer).answer ≡ Written.Refused (fault not_sound 0) ↔ (Sound t s → ⊥)
+    pub refused_11_iff : (write_file t s buffer).answer ≡ Err (fault not_sound 0) ↔ (Sound t s → ⊥)
     refused_11_iff = (
       λ e. (no_file_iff t s bytes).0
           (by_number not_sound (λ n h. h) (λ f n. absurd (omega arith)) (λ f n. absurd (omega arith)) e),
@@ -96,7 +95,7 @@ module _ (t : Table) (s buffer : List ℕ) where
     )
 
     -- 9 exactly if it is, and its file is too long
-    pub refused_9_iff : (write_file t s buffer).answer ≡ Written.Refused (fault too_long 0)
+    pub refused_9_iff : (write_file t s buffer).answer ≡ Err (fault too_long 0)
         ↔ ((o : Sound t s) × (file_bytes < length (encode o.reading)))
     refused_9_iff = (
       by_number too_long (λ n h. absurd (omega arith))
@@ -105,7 +104,7 @@ module _ (t : Table) (s buffer : List ℕ) where
     )
 
     -- 10 exactly if it is, its file is not too long, and the buffer is shorter
-    pub refused_10_iff : (write_file t s buffer).answer ≡ Written.Refused (fault short_buffer 0)
+    pub refused_10_iff : (write_file t s buffer).answer ≡ Err (fault short_buffer 0)
         ↔ ((o : Sound t s) × (length (encode o.reading) ≤ file_bytes)
         × (length buffer < length (encode o.reading)))
     refused_10_iff = (

@@ -17,7 +17,7 @@ use Rattle.der.specs.Follows.{Moved, HeaderIs, IdentifierIs, IntegerIs, OpaqueIs
 use Rattle.der.specs.declared.Fault.{Fault}
 use Rattle.der.specs.declared.Cursor.{Cursor}
 use Rattle.der.specs.declared.Integer.{Integer}
-use Rattle.der.specs.declared.Integer.TheVariants.{Value}
+use Rattle.std.specs.Prelude.{Err, Ok, Result}
 use Rattle.der.proofs.Choices.{either}
 use Rattle.der.proofs.Placed.{by_element, expected}
 use Rattle.der.proofs.Opaque.{by_checked}
@@ -55,9 +55,9 @@ module _ (s : List ℕ) (bytes : Bytes s) {A : Type 0} (P : A → Type 0) (bad :
   pub by_integer : (good : ℕ → Cursor → A) → ((v : ℕ) (n : Cursor) → IntegerIs s c v n → P (good v n)) → P (on_integer (integer_at s c) bad good)
   by_integer good g = go (integer_at s c) refl
     where
-      go : (x : Integer) → integer_at s c ≡ x → P (on_integer x bad good)
-      go (Integer.Refused f) e = refusal f
-      go (Value v n) e = g v n (integer_sound s c v n bytes e)
+      go : (x : Result Integer Fault) → integer_at s c ≡ x → P (on_integer x bad good)
+      go (Err f) e = refusal f
+      go (Ok x) e = g x.value x.next (integer_sound s c x.value x.next bytes e)
 
   pub by_opaque : (good : ℕ → Cursor → A) → ((m : ℕ) (n : Cursor) → OpaqueIs opaque_levels s c m n → P (good m n))
       → P (on_checked (opaque_at opaque_levels s c) bad good)

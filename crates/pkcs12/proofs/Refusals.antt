@@ -11,7 +11,8 @@ use Rattle.der.specs.declared.Fault.{Fault}
 use Rattle.der.specs.declared.Cursor.{Cursor}
 use Rattle.der.specs.declared.Checked.{Checked}
 use Rattle.der.specs.declared.Integer.{Integer}
-use Rattle.der.specs.declared.Integer.TheVariants.{Value}
+use Rattle.pkcs12.specs.declared.answers.Parsed.{Parsed}
+use Rattle.std.specs.Prelude.{Err, Ok, Result, ⊤}
 use Rattle.der.proofs.Choices.{by_test}
 use Rattle.der.proofs.Placed.{by_element}
 use Rattle.der.proofs.Opaque.{by_checked}
@@ -22,15 +23,12 @@ use Rattle.pkcs12.specs.Table.{Rows, empty_table}
 use Rattle.pkcs12.specs.Walk.{Walked, Refused, Went, on_walked, on_mac, outer_at, mac_at, body_at, refused, on_answer}
 use Rattle.pkcs12.specs.Walk.{alone, pfx_at, read_file}
 use Rattle.pkcs12.specs.declared.row.Mac.{Mac}
-use Rattle.pkcs12.specs.declared.answers.MacAt.{MacAt}
 use Rattle.pkcs12.specs.declared.table.Table.{Table}
-use Rattle.pkcs12.specs.declared.answers.Answer.{Answer}
-use Rattle.pkcs12.specs.declared.answers.Answer.TheVariants.{Accepted}
 use Rattle.pkcs12.specs.declared.answers.Reading.{Reading}
 
-abbrev Empty : Answer → Table → Type 0
-Empty (Answer.Refused f) t = t ≡ empty_table
-Empty Accepted t = Unit {0}
+abbrev Empty : Result ⊤ Fault → Table → Type 0
+Empty (Err f) t = t ≡ empty_table
+Empty (Ok tt) t = Unit {0}
 
 abbrev OfRefused : Reading → Type 0
 OfRefused r = Empty r.answer r.table
@@ -41,15 +39,15 @@ module _ (P : Reading → Type 0) (refusal : (f : Fault) → P (refused f)) wher
   any_walked good g (Refused f) = refusal f
   any_walked good g (Went st n) = g st n
 
-  any_mac : (good : Mac → ℕ → Cursor → Reading) → ((x : Mac) (m : ℕ) (n : Cursor) → P (good x m n)) → (x : MacAt) → P (on_mac x refused good)
-  any_mac good g (MacAt.Refused f) = refusal f
-  any_mac good g (MacAt.Found x m n) = g x m n
+  any_mac : (good : Mac → ℕ → Cursor → Reading) → ((x : Mac) (m : ℕ) (n : Cursor) → P (good x m n)) → (x : Result (Parsed Mac) Fault) → P (on_mac x refused good)
+  any_mac good g (Err f) = refusal f
+  any_mac good g (Ok y) = g y.value y.count y.next
 
-  any_integer : (good : ℕ → Cursor → Reading) → ((v : ℕ) (n : Cursor) → P (good v n)) → (x : Integer) → P (on_integer x refused good)
-  any_integer good g (Integer.Refused f) = refusal f
-  any_integer good g (Value v n) = g v n
+  any_integer : (good : ℕ → Cursor → Reading) → ((v : ℕ) (n : Cursor) → P (good v n)) → (x : Result Integer Fault) → P (on_integer x refused good)
+  any_integer good g (Err f) = refusal f
+  any_integer good g (Ok x) = g x.value x.next
 
-  any_checked : (good : ℕ → Cursor → Reading) → ((m : ℕ) (n : Cursor) → P (good m n)) → (x : Checked) → P (on_checked x refused good)
+  any_checked : (good : ℕ → Cursor → Reading) → ((m : ℕ) (n : Cursor) → P (good m n)) → (x : Result Checked Fault) → P (on_checked x refused good)
   any_checked good g x = by_checked P (λ y. Unit {0}) refused good refusal (λ m n u. g m n) x tt
 
 body_refused : (s : List ℕ) (c : Cursor) → OfRefused (body_at s c)
@@ -64,9 +62,9 @@ body_refused s c =
 alone_refused : (n : Cursor) (r : Reading) → OfRefused r → OfRefused (alone n r)
 alone_refused n r q = go r.answer
   where
-    go : (x : Answer) → OfRefused (on_answer x refused (on_checked (finish_at n) refused (λ z g. r)))
-    go (Answer.Refused f) = refl
-    go Accepted = any_checked OfRefused (λ f. refl) (λ z g. r) (λ m n. q) (finish_at n)
+    go : (x : Result ⊤ Fault) → OfRefused (on_answer x refused (on_checked (finish_at n) refused (λ z g. r)))
+    go (Err f) = refl
+    go (Ok tt) = any_checked OfRefused (λ f. refl) (λ z g. r) (λ m n. q) (finish_at n)
 
 read_refused : (s : List ℕ) → OfRefused (read_file s)
 unfolding read_file pfx_at
@@ -80,5 +78,5 @@ read_refused s =
     (integer_at s b))
     (expect_at sequence_tag s (whole_of s)) tt)
 
-pub refused_empty : (s : List ℕ) (f : Fault) → (read_file s).answer ≡ Answer.Refused f → (read_file s).table ≡ empty_table
+pub refused_empty : (s : List ℕ) (f : Fault) → (read_file s).answer ≡ Err f → (read_file s).table ≡ empty_table
 refused_empty s f e = rw e at (read_refused s)

@@ -20,17 +20,16 @@ use Rattle.pkcs12.specs.Values.{own_values, set_values, attribute_values, safe_v
 use Rattle.pkcs12.specs.Values.{attributes_of_safe, bags_of_safes, attributes_of_safes, rows_of, same_enclosing, own_of}
 use Rattle.pkcs12.specs.Values.{past_own, set_of, past_set, Taken, nothing, before, on_content, on_level, bags_from}
 use Rattle.pkcs12.specs.Values.{also_safe, contents_from, safes_from, with_mac, tree_of}
-use Rattle.pkcs12.specs.declared.row.Enclosing.{Enclosing}
-use Rattle.pkcs12.specs.declared.row.Enclosing.TheVariants.{Bag}
+use Rattle.std.specs.Prelude.{None, Option as Maybe, Some}
 
 -- ---- rows that were taken are the rows of what they show
 
 -- equal by the test is equal
-same_enclosing_lem : (x y : Enclosing) → same_enclosing x y ≡ true → x ≡ y
-same_enclosing_lem Enclosing.None Enclosing.None h = refl
-same_enclosing_lem Enclosing.None (Bag m) h = cc
-same_enclosing_lem (Bag n) Enclosing.None h = cc
-same_enclosing_lem (Bag n) (Bag m) h = ap Bag (eqb-true n m h)
+same_enclosing_lem : (x y : Maybe ℕ) → same_enclosing x y ≡ true → x ≡ y
+same_enclosing_lem None None h = refl
+same_enclosing_lem None (Some m) h = cc
+same_enclosing_lem (Some n) None h = cc
+same_enclosing_lem (Some n) (Some m) h = ap Some (eqb-true n m h)
 
 -- the front rows that name bag n are the rows of its attributes
 own_split : (n : ℕ) (rs : List AttributeValue) → rs ≡ own_values n (own_of n rs) ++ past_own n rs
@@ -49,12 +48,12 @@ set_split true n rs = (own_split n rs, refl)
 set_split false n rs = (refl, refl)
 
 -- what was taken and what is left are together what there was
-record Split (k : ℕ) (e : Enclosing) (n : ℕ) (rows : List BagValue) (rest : List AttributeValue) (t : Taken) : Type 0 where
+record Split (k : ℕ) (e : Maybe ℕ) (n : ℕ) (rows : List BagValue) (rest : List AttributeValue) (t : Taken) : Type 0 where
   bag_rows_lem : rows ≡ bag_values k e n t.bags ++ t.rows
   attribute_rows_lem : rest ≡ attribute_values n t.bags ++ t.rest
   counted : t.next ≡ n + bags_in t.bags
 
-module _ (k : ℕ) (e : Enclosing) (n : ℕ) (rest : List AttributeValue) where
+module _ (k : ℕ) (e : Maybe ℕ) (n : ℕ) (rest : List AttributeValue) where
   -- nothing was taken
   split_nothing : (rows : List BagValue) → Split k e n rows rest (nothing n rows rest)
   unfolding bag_values attribute_values bags_in
@@ -72,7 +71,7 @@ module _ (k : ℕ) (e : Enclosing) (n : ℕ) (rest : List AttributeValue) where
     split_leaf x t h s =
         record { bag_rows_lem = cc (row (leaf x) rest h); attribute_rows_lem = rw append_assoc (cc (set_split r.has_set n rest).0); counted = omega arith }
 
-    split_nest : (t u : Taken) → r.content ≡ nested → Split k (Bag n) (n + 1) rs rest t
+    split_nest : (t u : Taken) → r.content ≡ nested → Split k (Some n) (n + 1) rs rest t
         → Split k e t.next t.rows (past_set r.has_set n t.rest) u
         → Split k e n (r ∷ rs) rest (before (nest t.bags (set_of r.has_set n t.rest)) u)
     unfolding bag_values attribute_values bags_in
@@ -93,7 +92,7 @@ module _ {A : Type 0} (P : A → Type 0) (a : A) where
   by_level (suc l) below p q = q l
 
 -- so it is with all that is taken
-split_from : (f l k : ℕ) (e : Enclosing) (n : ℕ) (rows : List BagValue) (rest : List AttributeValue)
+split_from : (f l k : ℕ) (e : Maybe ℕ) (n : ℕ) (rows : List BagValue) (rest : List AttributeValue)
     → Split k e n rows rest (bags_from f l k e n rows rest)
 unfolding bags_from
 split_from zero l k e n rows rest = split_nothing k e n rest rows
@@ -104,7 +103,7 @@ split_from (suc f) l k e n (r ∷ rs) rest =
     (λ q. by_content (Split k e n (r ∷ rs) rest) _ r.content _ _ (split_nothing k e n rest (r ∷ rs))
     (λ x h. split_leaf k e n rest r rs p (same_enclosing_lem _ _ q) x _ h (split_from f l k e (n + 1) rs (past_set r.has_set n rest)))
     (λ h. by_level (Split k e n (r ∷ rs) rest) _ l _ (split_nothing k e n rest (r ∷ rs))
-    (λ m. split_nest k e n rest r rs p (same_enclosing_lem _ _ q) _ _ h (split_from f m k (Bag n) (n + 1) rs rest) (split_from f l k e _ _ _))))
+    (λ m. split_nest k e n rest r rs p (same_enclosing_lem _ _ q) _ _ h (split_from f m k (Some n) (n + 1) rs rest) (split_from f l k e _ _ _))))
     (λ q. split_nothing k e n rest (r ∷ rs))) (λ p. split_nothing k e n rest (r ∷ rs))
 
 -- safes that are the reading of rows
@@ -136,7 +135,7 @@ safes_shown k n [] (r ∷ rows) rest = tt
 safes_shown k n (empty_safe ∷ xs) rows rest = tt
 safes_shown k n (plain_safe ∷ xs) rows rest =
     let t : Taken = contents_from k n rows rest in
-    let s : Split k Enclosing.None n rows rest t = split_from (length rows) _ k Enclosing.None n rows rest in
+    let s : Split k None n rows rest t = split_from (length rows) _ k None n rows rest in
     also_shown k n t.next (plain t.bags) xs rows t.rows rest t.rest (safes_from (k + 1) t.next xs t.rows t.rest)
     s.counted s.bag_rows_lem s.attribute_rows_lem (safes_shown (k + 1) t.next xs t.rows t.rest)
 safes_shown k n (encrypted_safe x ∷ xs) rows rest =
@@ -164,7 +163,7 @@ first_also P Q [] h p = tt
 first_also P Q (x ∷ xs) h p = h x p
 
 -- the first row of bags and of what follows them
-first_bag : (P : BagValue → Type 0) (k : ℕ) (e : Enclosing) (n : ℕ) (x : Bags) (rows : List BagValue)
+first_bag : (P : BagValue → Type 0) (k : ℕ) (e : Maybe ℕ) (n : ℕ) (x : Bags) (rows : List BagValue)
     → ((y : Content) (set : Set) → P (bag_value k e y set)) → First P rows → First P (bag_values k e n x ++ rows)
 unfolding bag_values
 first_bag P k e n none rows h p = p
@@ -210,21 +209,21 @@ set_taken n absent rest h = (refl, refl)
 set_taken n (present xs) rest h = let t = own_taken n xs rest h in (ap present t.0, t.1)
 
 -- the enclosing bags in order, none first
-abbrev rank : Enclosing → ℕ
-rank Enclosing.None = 0
-rank (Bag n) = n + 1
+abbrev rank : Maybe ℕ → ℕ
+rank None = 0
+rank (Some n) = n + 1
 
 -- equal is equal by the test
-enclosing_same : (e : Enclosing) → same_enclosing e e ≡ true
-enclosing_same Enclosing.None = refl
-enclosing_same (Bag n) = eq-eqb n n refl
+enclosing_same : (e : Maybe ℕ) → same_enclosing e e ≡ true
+enclosing_same None = refl
+enclosing_same (Some n) = eq-eqb n n refl
 
 -- the first row, if there is one, is in another safe or in an enclosing bag before e
-abbrev Behind : ℕ → Enclosing → List BagValue → Type 0
+abbrev Behind : ℕ → Maybe ℕ → List BagValue → Type 0
 Behind k e = First (λ r. r.safe ≡ k → rank r.enclosing < rank e)
 
 -- it isn't taken
-stops : (f l k : ℕ) (e : Enclosing) (n : ℕ) (rows : List BagValue) (rest : List AttributeValue) → Behind k e rows
+stops : (f l k : ℕ) (e : Maybe ℕ) (n : ℕ) (rows : List BagValue) (rest : List AttributeValue) → Behind k e rows
     → bags_from f l k e n rows rest ≡ nothing n rows rest
 unfolding bags_from
 stops zero l k e n rows rest h = refl
@@ -235,21 +234,21 @@ stops (suc f) l k e n (r ∷ rs) rest h =
     (λ q. absurd (omega (arith, h p, ap rank (same_enclosing_lem r.enclosing e q)))) (λ q. refl)) (λ p. refl)
 
 -- one bag is taken, without and with bags in it, and then what is taken behind it
-leaf_taken : (f l k : ℕ) (e : Enclosing) (n : ℕ) (x : Leaf) (set : Set) (rows : List BagValue) (rest : List AttributeValue) (t : Taken)
+leaf_taken : (f l k : ℕ) (e : Maybe ℕ) (n : ℕ) (x : Leaf) (set : Set) (rows : List BagValue) (rest : List AttributeValue) (t : Taken)
     → Outside n (n + 1) rest → bags_from f l k e (n + 1) rows rest ≡ t
     → bags_from (suc f) l k e n (bag_value k e (leaf x) set ∷ rows) (set_values n set ++ rest) ≡ before (bag x set) t
 unfolding bags_from
 leaf_taken f l k e n x set rows rest t h p = let s = set_taken n set rest h in rw (eq-eqb k k refl, enclosing_same e, s.0, s.1, p)
 
-nest_taken : (f l k : ℕ) (e : Enclosing) (n : ℕ) (x : Bags) (set : Set) (m : ℕ) (rows later : List BagValue) (rest past : List AttributeValue) (t : Taken)
-    → bags_from f l k (Bag n) (n + 1) rows rest ≡ record { bags = x; next = m; rows = later; rest = set_values n set ++ past }
+nest_taken : (f l k : ℕ) (e : Maybe ℕ) (n : ℕ) (x : Bags) (set : Set) (m : ℕ) (rows later : List BagValue) (rest past : List AttributeValue) (t : Taken)
+    → bags_from f l k (Some n) (n + 1) rows rest ≡ record { bags = x; next = m; rows = later; rest = set_values n set ++ past }
     → Outside n (n + 1) past → bags_from f (suc l) k e m later past ≡ t
     → bags_from (suc f) (suc l) k e n (bag_value k e nested set ∷ rows) rest ≡ before (nest x set) t
 unfolding bags_from
 nest_taken f l k e n x set m rows later rest past t q h p = let s = set_taken n set past h in rw (eq-eqb k k refl, enclosing_same e, q, s.0, s.1, p)
 
 -- bags whose rows are in front are taken, and no more
-bags_taken : (f l k : ℕ) (e : Enclosing) (n : ℕ) (x : Bags) (rows : List BagValue) (rest : List AttributeValue)
+bags_taken : (f l k : ℕ) (e : Maybe ℕ) (n : ℕ) (x : Bags) (rows : List BagValue) (rest : List AttributeValue)
     → ValidBags l x → length (bag_values k e n x ++ rows) ≤ f → rank e ≤ n → Behind k e rows → Outside n (n + bags_in x) rest
     → bags_from f l k e n (bag_values k e n x ++ rows) (attribute_values n x ++ rest) ≡ record { bags = x; next = n + bags_in x; rows = rows; rest = rest }
 unfolding ValidBags bag_values attribute_values bags_in
@@ -267,7 +266,7 @@ bags_taken (suc f) (suc l) k e n (nest inner set xs) rows rest v z b p q =
     let c : n + (1 + (bags_in inner + bags_in xs)) ≡ m + bags_in xs = omega arith in
     let d : _ ≤ _ = simp length-append at z in
     rw c (simp append_assoc (nest_taken f l k e n inner set m _ _ _ _ _
-    (bags_taken f l k (Bag n) (n + 1) inner (bag_values k e m xs ++ rows) (set_values n set ++ (attribute_values m xs ++ rest)) v.0
+    (bags_taken f l k (Some n) (n + 1) inner (bag_values k e m xs ++ rows) (set_values n set ++ (attribute_values m xs ++ rest)) v.0
     (simp length-append (omega arith)) (omega arith)
     (first_bag (λ r. r.safe ≡ k → rank r.enclosing < n + 1) k e m xs rows (λ y s h. omega arith) (first_also _ _ rows (λ r h i. omega (arith, h i)) p))
     (outside_own (n + 1) m n set _ (λ i. omega arith) (outside_bags (n + 1) m m xs rest (omega arith) (narrower _ _ _ _ rest (omega arith) (omega arith) q))))
@@ -280,7 +279,7 @@ first_safe : (P : BagValue → Type 0) (k n : ℕ) (xs : List Safe) → ((r : Ba
 unfolding bags_of_safes
 first_safe P k n [] h = tt
 first_safe P k n (plain x ∷ xs) h =
-    first_bag P k Enclosing.None n x _ (λ y s. h _ (omega arith)) (first_safe P (k + 1) (n + bags_in x) xs (λ r i. h r (omega arith)))
+    first_bag P k None n x _ (λ y s. h _ (omega arith)) (first_safe P (k + 1) (n + bags_in x) xs (λ r i. h r (omega arith)))
 first_safe P k n (encrypted x ∷ xs) h = first_safe P (k + 1) (n + 0) xs (λ r i. h r (omega arith))
 
 -- and no bag below n
@@ -299,7 +298,7 @@ safes_taken k n (plain x ∷ xs) v =
     let m : ℕ = n + bags_in x in
     let rows : List BagValue = bags_of_safes (k + 1) m xs in
     rw (
-      bags_taken (length (bag_values k Enclosing.None n x ++ rows)) _ k Enclosing.None n x rows (attributes_of_safes m xs) v.0 (omega arith) (omega arith)
+      bags_taken (length (bag_values k None n x ++ rows)) _ k None n x rows (attributes_of_safes m xs) v.0 (omega arith) (omega arith)
           (first_safe _ (k + 1) m xs (λ r h i. absurd (omega arith))) (outside_safes n m m xs (omega arith)),
       safes_taken (k + 1) m xs v.1,
     )

@@ -24,8 +24,7 @@ use Rattle.der.specs.Named.{Each}
 use Rattle.pkcs12.specs.Sound.{Lies, SealedLies, PartsLie, SafeLies, RangesLie}
 use Rattle.range.specs.declared.Range.{Range}
 use Rattle.pkcs12.specs.declared.row.Parts.{Parts}
-use Rattle.pkcs12.specs.declared.row.Enclosing.{Enclosing}
-use Rattle.pkcs12.specs.declared.row.Enclosing.TheVariants.{Bag}
+use Rattle.std.specs.Prelude.{None, Some}
 use Rattle.pkcs12.specs.declared.row.SafeRow.{SafeRow}
 use Rattle.pkcs12.specs.declared.kind.BagKind.{BagKind}
 use Rattle.pkcs12.specs.declared.row.BagRow.{BagRow}
@@ -140,7 +139,7 @@ bags_show s from to w n (bag x set xs) rows own (one_bag p value b l m) =
     let q = bags_show s _ _ w (n + 1) xs _ _ m in
     (bag_shows b (leaf_held s _ _ p x l) q.0, shows_join (set_shows s _ _ n set _ b.attributes) q.1)
 bags_show s from to w n (nest inner set xs) rows own (one_nest value body b e l m) =
-    let d = bags_show s _ _ (owner w.safe (Bag n)) (n + 1) inner _ _ l in
+    let d = bags_show s _ _ (owner w.safe (Some n)) (n + 1) inner _ _ l in
     let q = bags_show s _ _ w (n + 1 + bags_in inner) xs _ _ m in (
       bag_shows b (refl, tt) (shows_join d.0 q.0),
       shows_join d.1 (shows_join (set_shows s _ _ n set _ b.attributes) q.1),
@@ -164,7 +163,7 @@ safes_show : (s : List ℕ) (from to k n : ℕ) (xs : List Safe) (safes : List S
 unfolding safe_values bags_of_safes attributes_of_safes bags_in_safes attributes_in_safes
 safes_show s from to k n [] safes rows own no_safe_laid = record { in_safes = shows_none; in_bags = shows_none; in_attributes = shows_none }
 safes_show s from to k n (plain x ∷ xs) safes rows own (one_plain octets inner d l m) =
-    let b = bags_show s _ _ (owner k Enclosing.None) n x _ _ l in
+    let b = bags_show s _ _ (owner k None) n x _ _ l in
     let q = safes_show s _ _ (k + 1) (n + bags_in x) xs _ _ _ m in
     record {
       in_safes = shows_more refl tt q.in_safes (omega arith);

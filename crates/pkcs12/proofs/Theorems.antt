@@ -1,7 +1,7 @@
 -- What is proved of reading a file and of writing one, stated over `read_file`, the definition that
 -- the reading call follows, and `write_file`, that of the writing call. The proofs are elsewhere.
 -- `Bytes f`: each number of the list is below 256. `IsAccepted f`: `read_file f` accepts. `Follows f
--- x`: f is what the valid reading x is written as, and has at most 65,535 bytes. ``reading_from f`:
+-- x`: f is what the valid reading x is written as, and has at most 65,535 bytes. `reading_from f`:
 -- the reading that the table of f shows of f. `Sound t s`: the table t is sound for the bytes s.
 -- `Delivered t s buffer f x`: writing t over s delivers the file f with the reading x. `Alike t u`:
 -- t and u differ only in what is ignored (Rule 6.7).
@@ -33,9 +33,7 @@ use Rattle.pkcs12.specs.Delivered.{Delivered}
 use Rattle.pkcs12.specs.Alike.{Alike}
 use Rattle.range.specs.declared.Range.{Range}
 use Rattle.pkcs12.specs.declared.table.Table.{Table}
-use Rattle.pkcs12.specs.declared.answers.Answer.{Answer}
-use Rattle.buffer.specs.declared.Written.{Written}
-use Rattle.buffer.specs.declared.Written.TheVariants.{Length}
+use Rattle.std.specs.Prelude.{Err, Ok}
 use Rattle.pkcs12.specs.Numbered.{NumbersNamed}
 use Rattle.pkcs12.proofs.Numbered as numbered
 use Rattle.pkcs12.proofs.Rows as rows
@@ -87,7 +85,7 @@ pub rows_past_counts_empty : (f : List ℕ) → Bytes f → IsAccepted f → tab
 rows_past_counts_empty = corollaries.accepted_table
 
 -- Rule 5.38: the table of a refused file is empty.
-pub refused_table_empty : (f : List ℕ) (fault : Fault) → (read_file f).answer ≡ Answer.Refused fault → table_from f ≡ empty_table
+pub refused_table_empty : (f : List ℕ) (fault : Fault) → (read_file f).answer ≡ Err fault → table_from f ≡ empty_table
 refused_table_empty = refusals.refused_empty
 
 -- ---- writing, and reading back what was written
@@ -108,16 +106,16 @@ sound_is_written = delivered.sound_is_written
 -- only if it is, and its file has more than 65,535 bytes; by 10 if and only if it is, its file has
 -- no more than that, and the buffer is shorter than the file.
 pub refused_iff_unsound : (t : Table) (s buffer : List ℕ) → Bytes s
-    → (write_file t s buffer).answer ≡ Written.Refused (fault 11 0) ↔ (Sound t s → ⊥)
+    → (write_file t s buffer).answer ≡ Err (fault 11 0) ↔ (Sound t s → ⊥)
 refused_iff_unsound = outcomes.refused_11_iff
 
 pub refused_9_iff : (t : Table) (s buffer : List ℕ) → Bytes s
-    → (write_file t s buffer).answer ≡ Written.Refused (fault 9 0)
+    → (write_file t s buffer).answer ≡ Err (fault 9 0)
     ↔ ((o : Sound t s) × (65535 < length (encode o.reading)))
 refused_9_iff = outcomes.refused_9_iff
 
 pub refused_10_iff : (t : Table) (s buffer : List ℕ) → Bytes s
-    → (write_file t s buffer).answer ≡ Written.Refused (fault 10 0)
+    → (write_file t s buffer).answer ≡ Err (fault 10 0)
     ↔ ((o : Sound t s) × (length (encode o.reading) ≤ 65535) × (length buffer < length (encode o.reading)))
 refused_10_iff = outcomes.refused_10_iff
 
@@ -132,12 +130,12 @@ written_is_only = writing.only_file
 
 -- The same of what `write_file` leaves in the buffer: an accepted file with the table's reading, and
 -- behind it what was there.
-pub written_buffer : (t : Table) (s buffer : List ℕ) → Bytes s → (n : ℕ) → (write_file t s buffer).answer ≡ Length n
+pub written_buffer : (t : Table) (s buffer : List ℕ) → Bytes s → (n : ℕ) → (write_file t s buffer).answer ≡ Ok n
     → (f : List ℕ) × (length f ≡ n) × ((write_file t s buffer).buffer ≡ f ++ drop n buffer)
     × IsAccepted f × (reading_from f ≡ reading_of t s)
 written_buffer = outcomes.written_file
 
-pub refused_buffer : (t : Table) (s buffer : List ℕ) (f : Fault) → (write_file t s buffer).answer ≡ Written.Refused f
+pub refused_buffer : (t : Table) (s buffer : List ℕ) (f : Fault) → (write_file t s buffer).answer ≡ Err f
     → (write_file t s buffer).buffer ≡ buffer
 refused_buffer = outcomes.refused_buffer
 

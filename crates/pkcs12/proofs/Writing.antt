@@ -39,8 +39,7 @@ use Rattle.pkcs12.specs.declared.kind.SafeKind.{SafeKind}
 use Rattle.pkcs12.specs.declared.kind.SafeKind.TheVariants.{Plain, Encrypted}
 use Rattle.pkcs12.specs.declared.kind.BagKind.{BagKind}
 use Rattle.pkcs12.specs.declared.kind.BagKind.TheVariants.{Key, ShroudedKey, Certificate, Crl, Secret, Nested}
-use Rattle.pkcs12.specs.declared.row.Enclosing.{Enclosing}
-use Rattle.pkcs12.specs.declared.row.Enclosing.TheVariants.{Bag}
+use Rattle.std.specs.Prelude.{None, Option, Some}
 use Rattle.pkcs12.specs.declared.row.AttributeRow.{AttributeRow}
 use Rattle.pkcs12.specs.declared.row.Mac.{Mac}
 use Rattle.pkcs12.specs.declared.table.Table.{Table}
@@ -222,7 +221,7 @@ unfolding set_bytes
 set_fine n absent h = fine_any tt
 set_fine n (present xs) h = fine_tlv set_tag refl (own_fine n xs h)
 
-bags_fine : (k : ℕ) (e : Enclosing) (n : ℕ) (x : Bags) → Each FineBag (bag_values k e n x) → Each FineAttribute (attribute_values n x) → Fine (bags_bytes x)
+bags_fine : (k : ℕ) (e : Option ℕ) (n : ℕ) (x : Bags) → Each FineBag (bag_values k e n x) → Each FineAttribute (attribute_values n x) → Fine (bags_bytes x)
 unfolding Each bag_values attribute_values bags_bytes
 bags_fine k e n none p q = fine_any tt
 bags_fine k e n (bag x set xs) p q =
@@ -230,10 +229,10 @@ bags_fine k e n (bag x set xs) p q =
     fine_join (bag_fine (kind_of_leaf x) (leaf_bytes x) set p.0 (set_fine n set c.0)) (bags_fine k e (n + 1) xs p.1 c.1)
 bags_fine k e n (nest inner set xs) p q =
     let m : ℕ = n + 1 + bags_in inner in
-    let b = each_split FineBag (bag_values k (Bag n) (n + 1) inner) (bag_values k e m xs) p.1 in
+    let b = each_split FineBag (bag_values k (Some n) (n + 1) inner) (bag_values k e m xs) p.1 in
     let c = each_split FineAttribute (attribute_values (n + 1) inner) (set_values n set ++ attribute_values m xs) q in
     let d = each_split FineAttribute (set_values n set) (attribute_values m xs) c.1 in
-    fine_join (bag_fine Nested _ set (fine_tlv sequence_tag refl (bags_fine k (Bag n) (n + 1) inner b.0 c.0)) (set_fine n set d.0))
+    fine_join (bag_fine Nested _ set (fine_tlv sequence_tag refl (bags_fine k (Some n) (n + 1) inner b.0 c.0)) (set_fine n set d.0))
     (bags_fine k e m xs b.1 d.1)
 
 safes_fine : (k n : ℕ) (xs : List Safe) → Each FineSafe (safe_values xs) → Each FineBag (bags_of_safes k n xs) → Each FineAttribute (attributes_of_safes n xs)
@@ -241,9 +240,9 @@ safes_fine : (k n : ℕ) (xs : List Safe) → Each FineSafe (safe_values xs) →
 unfolding Each safe_values bags_of_safes attributes_of_safes safes_bytes safe_bytes
 safes_fine k n [] g p q = fine_any tt
 safes_fine k n (plain x ∷ xs) g p q =
-    let b = each_split FineBag (bag_values k Enclosing.None n x) (bags_of_safes (k + 1) (n + bags_in x) xs) p in
+    let b = each_split FineBag (bag_values k None n x) (bags_of_safes (k + 1) (n + bags_in x) xs) p in
     let c = each_split FineAttribute (attribute_values n x) (attributes_of_safes (n + bags_in x) xs) q in
-    fine_join (data_fine (bags_bytes x) (bags_fine k Enclosing.None n x b.0 c.0)) (safes_fine (k + 1) (n + bags_in x) xs g.1 b.1 c.1)
+    fine_join (data_fine (bags_bytes x) (bags_fine k None n x b.0 c.0)) (safes_fine (k + 1) (n + bags_in x) xs g.1 b.1 c.1)
 safes_fine k n (encrypted x ∷ xs) g p q = fine_join g.0 (safes_fine (k + 1) (n + 0) xs g.1 p q)
 
 pfx_fine : (x : Pfx) → FineValues (rows_of x) → Fine (encode x)

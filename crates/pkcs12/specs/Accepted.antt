@@ -9,11 +9,11 @@ use Rattle.pkcs12.specs.Valid.{Valid}
 use Rattle.pkcs12.specs.Table.{reading_of}
 use Rattle.pkcs12.specs.Walk.{read_file}
 use Rattle.pkcs12.specs.declared.table.Table.{Table}
-use Rattle.pkcs12.specs.declared.answers.Answer.TheVariants.{Accepted}
+use Rattle.std.specs.Prelude.{Ok}
 
 -- a file is accepted
 abbrev pub IsAccepted : List ℕ → Type 0
-IsAccepted f = (read_file f).answer ≡ Accepted
+IsAccepted f = (read_file f).answer ≡ (Ok tt)
 
 -- Rule 4.7: a file is accepted if and only if it is one PFX, with no byte after it, that keeps
 -- every rule. The file is what a valid reading x is written as, and has at most 65,535 bytes.

@@ -70,7 +70,7 @@ is_sealed s p = both (names_type s p.identifier) (both (holds_at_most_one s p.pa
 unfoldable pub is_typed : List ℕ → Parts → Bool
 is_typed s p = both (names_type s p.identifier) (holds_opaque s p.value)
 
--- Rule 3.19: with x509_certificate that element is an OCTET STRING
+-- Rule 3.19: with x509Certificate that element is an OCTET STRING
 unfoldable pub is_certificate : List ℕ → Parts → Bool
 is_certificate s p = both (is_typed s p) (if same_bytes (bytes_in s p.identifier) x509_certificate then has_tag s p.value octet_string_tag else true)
 

@@ -36,7 +36,7 @@ abbrev pub set_count : Set → ℕ
 set_count absent = 0
 set_count (present xs) = attributes_count xs + 1
 
--- SEQUENCE, bag_id, [0], what is in it, and the set; a nested bag has the SEQUENCE of its
+-- SEQUENCE, bagId, [0], what is in it, and the set; a nested bag has the SEQUENCE of its
 -- SafeContents
 unfoldable pub bags_count : Bags → ℕ
 bags_count none = 0

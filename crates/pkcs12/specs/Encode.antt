@@ -47,7 +47,7 @@ leaf_bytes (key v) = v
 leaf_bytes (shrouded x) = sealed_bytes x
 leaf_bytes (typed k t v) = sequence (identifier t ++ tlv context_tag v)
 
--- Rule 3.13: SafeBag, a SEQUENCE of a bag_id, [0] with one element, and optionally a SET of
+-- Rule 3.13: SafeBag, a SEQUENCE of a bagId, [0] with one element, and optionally a SET of
 -- attributes
 unfoldable pub bag_bytes : BagKind → List ℕ → Set → List ℕ
 bag_bytes k content set = sequence (identifier (identifier_of k) ++ (tlv context_tag content ++ set_bytes set))
@@ -64,7 +64,7 @@ unfoldable pub encrypted_info : Sealed → List ℕ
 encrypted_info x = sequence (identifier data_type ++ (algorithm_bytes x.algorithm ++ tlv ciphertext_tag x.octets))
 
 -- Rule 3.8: of type data, an OCTET STRING whose body is one SafeContents. Rule 3.9: of type
--- encrypted_data, a SEQUENCE of the version 0 and an EncryptedContentInfo
+-- encryptedData, a SEQUENCE of the version 0 and an EncryptedContentInfo
 unfoldable pub safe_bytes : Safe → List ℕ
 safe_bytes (plain xs) = data_bytes (bags_bytes xs)
 safe_bytes (encrypted x) = content_info encrypted_type (sequence (integer encrypted_version ++ encrypted_info x))

@@ -5,7 +5,7 @@ use Rattle.pkcs12.specs.declared.kind.BagKind.{BagKind}
 use Rattle.pkcs12.specs.declared.kind.BagKind.TheVariants.{Key, ShroudedKey, Certificate, Crl, Secret, Nested}
 use Rattle.range.specs.Bytes.{same_bytes}
 
--- Rule 3.23: data is 2A 86 48 86 F7 0D 01 07 01; signedData, envelopedData and encrypted_data have
+-- Rule 3.23: data is 2A 86 48 86 F7 0D 01 07 01; signedData, envelopedData and encryptedData have
 -- the last byte 02, 03, 06
 abbrev pub pkcs7 : ℕ → List ℕ
 pkcs7 last = 0x2A ∷ 0x86 ∷ 0x48 ∷ 0x86 ∷ 0xF7 ∷ 0x0D ∷ 0x01 ∷ 0x07 ∷ last ∷ []
@@ -22,7 +22,7 @@ enveloped_type = pkcs7 0x03
 unfoldable pub encrypted_type : List ℕ
 encrypted_type = pkcs7 0x06
 
--- Rule 3.23: x509_certificate is 2A 86 48 86 F7 0D 01 09 16 01
+-- Rule 3.23: x509Certificate is 2A 86 48 86 F7 0D 01 09 16 01
 unfoldable pub x509_certificate : List ℕ
 x509_certificate = 0x2A ∷ 0x86 ∷ 0x48 ∷ 0x86 ∷ 0xF7 ∷ 0x0D ∷ 0x01 ∷ 0x09 ∷ 0x16 ∷ 0x01 ∷ []
 
@@ -39,7 +39,7 @@ identifier_of Secret = bag_type 0x05
 identifier_of Nested = bag_type 0x06
 identifier_of BagKind.None = []
 
--- the kind that a bag_id's body names; `None` for one of another kind (Rule 5.7)
+-- the kind that a bagId's body names; `None` for one of another kind (Rule 5.7)
 unfoldable pub kind_of : List ℕ → BagKind
 kind_of body =
     if same_bytes body (identifier_of Key) then Key else

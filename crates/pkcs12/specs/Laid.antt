@@ -22,8 +22,7 @@ use Rattle.pkcs12.specs.declared.row.Parts.{Parts}
 use Rattle.pkcs12.specs.declared.kind.SafeKind.TheVariants.{Plain, Encrypted}
 use Rattle.pkcs12.specs.declared.kind.BagKind.{BagKind}
 use Rattle.pkcs12.specs.declared.kind.BagKind.TheVariants.{Nested}
-use Rattle.pkcs12.specs.declared.row.Enclosing.{Enclosing}
-use Rattle.pkcs12.specs.declared.row.Enclosing.TheVariants.{Bag}
+use Rattle.std.specs.Prelude.{None, Some}
 use Rattle.pkcs12.specs.declared.row.SafeRow.{SafeRow}
 use Rattle.pkcs12.specs.declared.row.BagRow.{BagRow}
 use Rattle.pkcs12.specs.declared.row.AttributeRow.{AttributeRow}
@@ -125,7 +124,7 @@ pub data BagsLaid (s : List ℕ) : ℕ → ℕ → Owner → ℕ → Bags → Li
       {below rows : List BagRow} {deep own rest : List AttributeRow} (value body : Range)
       → BagLaid s from mid w n Nested no_parts value (sequence (bags_bytes inner)) set row own
       → ElementLaid s value.start value.end sequence_tag body (bags_bytes inner)
-      → BagsLaid s body.start body.end (owner w.safe (Bag n)) (n + 1) inner below deep
+      → BagsLaid s body.start body.end (owner w.safe (Some n)) (n + 1) inner below deep
       → BagsLaid s mid to w (n + 1 + bags_in inner) xs rows rest
       → BagsLaid s from to w n (nest inner set xs) (row ∷ (below ++ rows)) (deep ++ (own ++ rest))
 
@@ -166,7 +165,7 @@ pub data SafesLaid (s : List ℕ) : ℕ → ℕ → ℕ → ℕ → List Safe �
   no_safe_laid : {at k n : ℕ} → SafesLaid s at at k n [] [] [] []
   one_plain : {from mid to k n : ℕ} {x : Bags} {xs : List Safe} {safes : List SafeRow} {below rows : List BagRow}
       {deep rest : List AttributeRow} (octets inner : Range)
-      → DataLaid s from mid octets inner (bags_bytes x) → BagsLaid s inner.start inner.end (owner k Enclosing.None) n x below deep
+      → DataLaid s from mid octets inner (bags_bytes x) → BagsLaid s inner.start inner.end (owner k None) n x below deep
       → SafesLaid s mid to (k + 1) (n + bags_in x) xs safes rows rest
       → SafesLaid s from to k n (plain x ∷ xs) (safe_row Plain no_parts ∷ safes) (below ++ rows) (deep ++ rest)
   one_encrypted : {from mid to k n : ℕ} {x : Sealed} {xs : List Safe} {safes : List SafeRow} {rows : List BagRow}

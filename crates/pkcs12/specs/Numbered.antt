@@ -36,7 +36,7 @@ named_integers =
     ∷ (default_iterations, 1)
     ∷ []
 
--- Rules 3.23 (types of content, x509_certificate), 3.14 (kinds of bag)
+-- Rules 3.23 (types of content, x509Certificate), 3.14 (kinds of bag)
 unfoldable pub named_identifiers : List (List ℕ × List ℕ)
 named_identifiers =
     (data_type, 0x2A ∷ 0x86 ∷ 0x48 ∷ 0x86 ∷ 0xF7 ∷ 0x0D ∷ 0x01 ∷ 0x07 ∷ 0x01 ∷ [])

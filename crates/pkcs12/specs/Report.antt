@@ -7,19 +7,18 @@ use Rattle.pkcs12.specs.declared.kind.BagKind.{BagKind}
 use Rattle.pkcs12.specs.declared.kind.BagKind.TheVariants.{Key, ShroudedKey, Certificate, Crl, Secret, Nested}
 use Rattle.pkcs12.specs.declared.row.AttributeRow.{AttributeRow}
 use Rattle.pkcs12.specs.declared.row.Mac.{Mac}
-use Rattle.pkcs12.specs.declared.answers.Answer.{Answer}
-use Rattle.pkcs12.specs.declared.answers.Answer.TheVariants.{Accepted}
-use Rattle.pkcs12.specs.declared.answers.PartsAt.{PartsAt}
-use Rattle.pkcs12.specs.declared.answers.MacAt.{MacAt}
+use Rattle.der.specs.declared.Fault.{Fault}
+use Rattle.pkcs12.specs.declared.answers.Parsed.{Parsed}
+use Rattle.std.specs.Prelude.{Err, Ok, Result, ⊤}
 use Rattle.buffer.specs.Report.{range_values}
 
 -- reading: an accepted file's values are in its table
-unfoldable pub answer_report : Answer → Report
-answer_report Accepted = passing []
-answer_report (Answer.Refused f) = refusing f
+unfoldable pub answer_report : Result ⊤ Fault → Report
+answer_report (Ok tt) = passing []
+answer_report (Err f) = refusing f
 
--- Rule 3.14: a kind by its last byte, 01 to 06. Rule 5.7: a bag_id of another kind is 7, here at 0:
--- the body of a bag_id doesn't say where it is in a file
+-- Rule 3.14: a kind by its last byte, 01 to 06. Rule 5.7: a bagId of another kind is 7, here at 0:
+-- the body of a bagId doesn't say where it is in a file
 unfoldable pub kind_report : BagKind → Report
 kind_report Key = passing (1 ∷ [])
 kind_report ShroudedKey = passing (2 ∷ [])
@@ -47,15 +46,15 @@ abbrev pub parts_values : Parts → List ℕ
 parts_values p = range_values p.identifier ++ (range_values p.parameters ++ range_values p.value)
 
 -- parts of a file: their ranges, the number of elements, what follows them
-unfoldable pub parts_report : PartsAt → Report
-parts_report (PartsAt.Found p m n) = passing (parts_values p ++ (m ∷ cursor_values n))
-parts_report (PartsAt.Refused f) = refusing f
+unfoldable pub parts_report : Result (Parsed Parts) Fault → Report
+parts_report (Ok x) = passing (parts_values x.value ++ (x.count ∷ cursor_values x.next))
+parts_report (Err f) = refusing f
 
 -- Rule 4.1: algorithm, parameters, digest, salt and iterations of the MAC; the number of elements,
 -- what follows them
 abbrev pub mac_values : Mac → List ℕ
 mac_values m = parts_values m.parts ++ (range_values m.salt ++ (m.iterations ∷ []))
 
-unfoldable pub mac_report : MacAt → Report
-mac_report (MacAt.Found x m n) = passing (mac_values x ++ (m ∷ cursor_values n))
-mac_report (MacAt.Refused f) = refusing f
+unfoldable pub mac_report : Result (Parsed Mac) Fault → Report
+mac_report (Ok y) = passing (mac_values y.value ++ (y.count ∷ cursor_values y.next))
+mac_report (Err f) = refusing f

@@ -18,7 +18,7 @@ pub record Algorithm : Type 0 where
 -- RFC 5958 (PKCS #8), 3:
 --   EncryptedPrivateKeyInfo ::= SEQUENCE {
 --       encryptionAlgorithm  AlgorithmIdentifier,
---       encrypted_data        OCTET STRING }
+--       encryptedData        OCTET STRING }
 -- RFC 2315 (PKCS #7), 9.4:
 --   DigestInfo ::= SEQUENCE {
 --       digestAlgorithm  AlgorithmIdentifier,
@@ -83,12 +83,12 @@ pub data Set : Type 0 where
 -- RFC 7292, 4.2 and 4.2.6:
 --   SafeContents ::= SEQUENCE OF SafeBag
 --   SafeBag ::= SEQUENCE {
---       bag_id          BAG-TYPE.&id ({PKCS12BagSet}),
---       bag_value       [0] EXPLICIT BAG-TYPE.&Type ({PKCS12BagSet}{@bag_id}),
+--       bagId          BAG-TYPE.&id ({PKCS12BagSet}),
+--       bagValue       [0] EXPLICIT BAG-TYPE.&Type ({PKCS12BagSet}{@bagId}),
 --       bagAttributes  SET OF PKCS12Attribute OPTIONAL }
 --   safeContentsBag BAG-TYPE ::= {SafeContents IDENTIFIED BY {bagtypes 6}}
 -- The bags of a SafeContents in order: `bag` and `nest` put one in front, and `nest` is a
--- safeContentsBag. The bag_id is known by the value; other kinds than these six have no reading
+-- safeContentsBag. The bagId is known by the value; other kinds than these six have no reading
 -- (Rules 3.14, 5.7), and there are at most 8 levels (Rule 3.18).
 pub data Bags : Type 0 where
   none : Bags
@@ -103,7 +103,7 @@ pub data Bags : Type 0 where
 --       content      [0] EXPLICIT ANY DEFINED BY contentType OPTIONAL }
 --   Data ::= OCTET STRING
 -- One of these ContentInfo, with its content: of type data the bags of the SafeContents in the
--- OCTET STRING, of type encrypted_data algorithm and ciphertext. EnvelopedData is not served
+-- OCTET STRING, of type encryptedData algorithm and ciphertext. EnvelopedData is not served
 -- (Rules 3.8, 3.9, 5.7).
 pub data Safe : Type 0 where
   plain : Bags → Safe
@@ -124,9 +124,9 @@ pub record MacData : Type 0 where
 --   PFX ::= SEQUENCE {
 --       version   INTEGER {v3(3)}(v3,...),
 --       authSafe  ContentInfo,
---       mac_data   MacData OPTIONAL }
+--       macData   MacData OPTIONAL }
 -- The version is 3, so it is left out; authSafe has the type data, and its safes take its place
--- (Rules 3.3, 3.5); mac_data must be there (Rules 3.3, 5.7). This is the whole reading (Rule 4.1).
+-- (Rules 3.3, 3.5); macData must be there (Rules 3.3, 5.7). This is the whole reading (Rule 4.1).
 pub record Pfx : Type 0 where
   pub safes : List Safe
   pub mac : MacData

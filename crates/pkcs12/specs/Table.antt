@@ -7,12 +7,14 @@ use Rattle.pkcs12.specs.Syntax.{MacData, Pfx}
 use Rattle.pkcs12.specs.Values.{SafeValue, empty_safe, plain_safe, encrypted_safe, Content, empty_bag, leaf}
 use Rattle.pkcs12.specs.Values.{nested, BagValue, AttributeValue, Values, tree_of}
 use Rattle.range.specs.declared.Range.{Range}
+use Rattle.der.specs.declared.Cursor.{Cursor}
+use Rattle.pkcs12.specs.declared.answers.Parsed.{Parsed}
 use Rattle.pkcs12.specs.declared.row.Parts.{Parts}
 use Rattle.pkcs12.specs.declared.kind.SafeKind.{SafeKind}
 use Rattle.pkcs12.specs.declared.kind.SafeKind.TheVariants.{Plain, Encrypted}
 use Rattle.pkcs12.specs.declared.kind.BagKind.{BagKind}
 use Rattle.pkcs12.specs.declared.kind.BagKind.TheVariants.{Key, ShroudedKey, Certificate, Crl, Secret, Nested}
-use Rattle.pkcs12.specs.declared.row.Enclosing.{Enclosing}
+use Rattle.std.specs.Prelude.{None, Option as Maybe}
 use Rattle.pkcs12.specs.declared.row.SafeRow.{SafeRow}
 use Rattle.pkcs12.specs.declared.row.BagRow.{BagRow}
 use Rattle.pkcs12.specs.declared.row.AttributeRow.{AttributeRow}
@@ -26,17 +28,21 @@ parts i p v = record { identifier = i; parameters = p; value = v }
 abbrev pub no_parts : Parts
 no_parts = parts no_range no_range no_range
 
+-- a part of a file: what its elements hold, the number of elements, and the cursor past them
+abbrev pub parsed : {T : Type 0} → T → ℕ → Cursor → Parsed T
+parsed x k n = record { value = x; count = k; next = n }
+
 abbrev pub safe_row : SafeKind → Parts → SafeRow
 safe_row k p = record { kind = k; parts = p }
 
 abbrev pub no_safe : SafeRow
 no_safe = safe_row SafeKind.None no_parts
 
-abbrev pub bag_row : BagKind → ℕ → Enclosing → Parts → Bool → BagRow
+abbrev pub bag_row : BagKind → ℕ → Maybe ℕ → Parts → Bool → BagRow
 bag_row k s e p h = record { kind = k; safe = s; enclosing = e; parts = p; has_set = h }
 
 abbrev pub no_bag : BagRow
-no_bag = bag_row BagKind.None 0 Enclosing.None no_parts false
+no_bag = bag_row BagKind.None 0 None no_parts false
 
 abbrev pub attribute_row : ℕ → Range → Range → AttributeRow
 attribute_row n i v = record { bag = n; identifier = i; values = v }

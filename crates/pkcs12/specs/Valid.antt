@@ -42,7 +42,7 @@ pub record ValidAlgorithm (a : Algorithm) : Type 0 where
 abbrev pub ValidSealed : Sealed → Type 0
 ValidSealed x = ValidAlgorithm x.algorithm
 
--- Rule 3.19: the value of a certificate with x509_certificate is an OCTET STRING
+-- Rule 3.19: the value of a certificate with x509Certificate is an OCTET STRING
 abbrev pub ValueRule : Typed → List ℕ → List ℕ → Type 0
 ValueRule certificate type x = type ≡ x509_certificate → get_or x 0 0 ≡ octet_string_tag
 ValueRule crl type x = Unit {0}

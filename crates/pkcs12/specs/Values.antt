@@ -7,8 +7,7 @@ use Rattle.pkcs12.specs.Numbers.{levels}
 use Rattle.pkcs12.specs.Syntax.{Sealed, Leaf, Attribute, Set, absent, present, Bags, none, bag, nest, Safe}
 use Rattle.pkcs12.specs.Syntax.{plain, encrypted, MacData, Pfx}
 use Rattle.pkcs12.specs.Valid.{bags_in, bags_in_safe}
-use Rattle.pkcs12.specs.declared.row.Enclosing.{Enclosing}
-use Rattle.pkcs12.specs.declared.row.Enclosing.TheVariants.{Bag}
+use Rattle.std.specs.Prelude.{None, Option as Maybe, Some}
 
 -- what a safe row shows; `empty_safe` is no safe
 pub data SafeValue : Type 0 where
@@ -25,7 +24,7 @@ pub data Content : Type 0 where
 -- Rule 4.3: a bag row names its safe, and its enclosing bag or none
 pub record BagValue : Type 0 where
   pub safe : ℕ
-  pub enclosing : Enclosing
+  pub enclosing : Maybe ℕ
   pub content : Content
   pub has_set : Bool
 
@@ -46,16 +45,16 @@ abbrev pub stands : Set → Bool
 stands absent = false
 stands (present xs) = true
 
-abbrev pub bag_value : ℕ → Enclosing → Content → Set → BagValue
+abbrev pub bag_value : ℕ → Maybe ℕ → Content → Set → BagValue
 bag_value k e x set = record { safe = k; enclosing = e; content = x; has_set = stands set }
 
 -- Rule 4.3: in the order of their first bytes; the bags in safe k and enclosing bag e, the first of
 -- which is row n
-unfoldable pub bag_values : ℕ → Enclosing → ℕ → Bags → List BagValue
+unfoldable pub bag_values : ℕ → Maybe ℕ → ℕ → Bags → List BagValue
 bag_values k e n none = []
 bag_values k e n (bag x set xs) = bag_value k e (leaf x) set ∷ bag_values k e (n + 1) xs
 bag_values k e n (nest inner set xs) =
-    bag_value k e nested set ∷ (bag_values k (Bag n) (n + 1) inner ++ bag_values k e (n + 1 + bags_in inner) xs)
+    bag_value k e nested set ∷ (bag_values k (Some n) (n + 1) inner ++ bag_values k e (n + 1 + bags_in inner) xs)
 
 -- the attributes of bag n
 unfoldable pub own_values : ℕ → List Attribute → List AttributeValue
@@ -82,7 +81,7 @@ safe_values [] = []
 safe_values (x ∷ xs) = safe_value x ∷ safe_values xs
 
 abbrev pub bags_of_safe : ℕ → ℕ → Safe → List BagValue
-bags_of_safe k n (plain xs) = bag_values k Enclosing.None n xs
+bags_of_safe k n (plain xs) = bag_values k None n xs
 bags_of_safe k n (encrypted x) = []
 
 abbrev pub attributes_of_safe : ℕ → Safe → List AttributeValue
@@ -105,11 +104,11 @@ rows_of x =
 -- ---- the reading of rows: they are taken in order, each where it belongs, and what belongs
 -- nowhere is left
 
-abbrev pub same_enclosing : Enclosing → Enclosing → Bool
-same_enclosing Enclosing.None Enclosing.None = true
-same_enclosing Enclosing.None (Bag m) = false
-same_enclosing (Bag n) Enclosing.None = false
-same_enclosing (Bag n) (Bag m) = eqb n m
+abbrev pub same_enclosing : Maybe ℕ → Maybe ℕ → Bool
+same_enclosing None None = true
+same_enclosing None (Some m) = false
+same_enclosing (Some n) None = false
+same_enclosing (Some n) (Some m) = eqb n m
 
 -- the attributes at the front that name bag n, and what is behind them
 unfoldable pub own_of : ℕ → List AttributeValue → List Attribute
@@ -155,7 +154,7 @@ on_level (suc l) no-level below = below l
 -- The bags at the front that are in safe k and enclosing bag e, the first of which is row n, with
 -- all that they enclose; l levels are left below them. The first argument bounds the number of
 -- rows.
-unfoldable pub bags_from : ℕ → ℕ → ℕ → Enclosing → ℕ → List BagValue → List AttributeValue → Taken
+unfoldable pub bags_from : ℕ → ℕ → ℕ → Maybe ℕ → ℕ → List BagValue → List AttributeValue → Taken
 bags_from zero l k e n rows rest = nothing n rows rest
 bags_from (suc f) l k e n [] rest = nothing n [] rest
 bags_from (suc f) l k e n (r ∷ rs) rest =
@@ -167,7 +166,7 @@ bags_from (suc f) l k e n (r ∷ rs) rest =
     (on_level l
     (nothing n (r ∷ rs) rest)
     (λ below.
-    let t = bags_from f below k (Bag n) (n + 1) rs rest in
+    let t = bags_from f below k (Some n) (n + 1) rs rest in
     before (nest t.bags (set_of r.has_set n t.rest)) (bags_from f l k e t.next t.rows (past_set r.has_set n t.rest)))) else
     nothing n (r ∷ rs) rest) else
     nothing n (r ∷ rs) rest
@@ -178,7 +177,7 @@ also_safe x (some xs) = some (x ∷ xs)
 
 -- the bags of one plain safe
 abbrev pub contents_from : ℕ → ℕ → List BagValue → List AttributeValue → Taken
-contents_from k n rows rest = on_level levels (nothing n rows rest) (λ l. bags_from (length rows) l k Enclosing.None n rows rest)
+contents_from k n rows rest = on_level levels (nothing n rows rest) (λ l. bags_from (length rows) l k None n rows rest)
 
 -- the safes from safe k and bag n on; every row must be taken
 unfoldable pub safes_from : ℕ → ℕ → List SafeValue → List BagValue → List AttributeValue → Option (List Safe)

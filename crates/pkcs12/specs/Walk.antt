@@ -5,13 +5,16 @@ use Rattle.std.specs.Prelude.{Bool, true, false, List, [], ◌∷◌, ◌++◌, 
 use Rattle.std.specs.Prelude.{if◌then◌else◌}
 use Rattle.der.specs.Numbers.{content, too_many, octet_string_tag, integer_tag, opaque_levels, sequence_tag, set_tag}
 use Rattle.der.specs.Numbers.{context_tag}
-use Rattle.der.specs.Element.{cursor, fault, whole_of, tag_at, finish_at, expect_at, on_element}
+use Rattle.der.specs.Element.{cursor, fault, whole_of, tag_at, finish_at, expect_at, on_element, on_result}
 use Rattle.der.specs.Content.{bytes_of, identifier_at, integer_at, on_integer}
 use Rattle.der.specs.Many.{many}
 use Rattle.der.specs.Opaque.{on_checked, opaque_at, elements_at}
 use Rattle.der.specs.declared.Fault.{Fault}
 use Rattle.der.specs.declared.Cursor.{Cursor}
 use Rattle.der.specs.declared.Checked.{Checked}
+use Rattle.pkcs12.specs.Table.{parsed}
+use Rattle.pkcs12.specs.declared.answers.Parsed.{Parsed}
+use Rattle.std.specs.Prelude.{Err, None, Ok, Option, Result, Some, ⊤}
 use Rattle.pkcs12.specs.Numbers.{safe_rows, bag_rows, attribute_rows, levels, not_served, ciphertext_tag, pfx_version}
 use Rattle.pkcs12.specs.Numbers.{encrypted_version, attributed_version, default_iterations}
 use Rattle.buffer.specs.Numbers.{file_bytes, too_long}
@@ -26,16 +29,10 @@ use Rattle.pkcs12.specs.declared.row.Parts.{Parts}
 use Rattle.pkcs12.specs.declared.kind.SafeKind.TheVariants.{Plain, Encrypted}
 use Rattle.pkcs12.specs.declared.kind.BagKind.{BagKind}
 use Rattle.pkcs12.specs.declared.kind.BagKind.TheVariants.{Key, ShroudedKey, Certificate, Crl, Secret, Nested}
-use Rattle.pkcs12.specs.declared.row.Enclosing.{Enclosing}
-use Rattle.pkcs12.specs.declared.row.Enclosing.TheVariants.{Bag}
 use Rattle.pkcs12.specs.declared.row.SafeRow.{SafeRow}
 use Rattle.pkcs12.specs.declared.row.BagRow.{BagRow}
 use Rattle.pkcs12.specs.declared.row.AttributeRow.{AttributeRow}
 use Rattle.pkcs12.specs.declared.row.Mac.{Mac}
-use Rattle.pkcs12.specs.declared.answers.PartsAt.{PartsAt}
-use Rattle.pkcs12.specs.declared.answers.MacAt.{MacAt}
-use Rattle.pkcs12.specs.declared.answers.Answer.{Answer}
-use Rattle.pkcs12.specs.declared.answers.Answer.TheVariants.{Accepted}
 use Rattle.pkcs12.specs.declared.answers.Reading.{Reading}
 
 abbrev pub range_of : Cursor → Range
@@ -43,103 +40,102 @@ range_of b = range b.at b.end
 
 -- ---- parts that make no row
 
-abbrev pub on_parts : {A : Type 0} → PartsAt → (Fault → A) → (Parts → ℕ → Cursor → A) → A
-on_parts (PartsAt.Refused f) bad good = bad f
-on_parts (PartsAt.Found p m n) bad good = good p m n
+abbrev pub on_parts : {A : Type 0} → Result (Parsed Parts) Fault → (Fault → A) → (Parts → ℕ → Cursor → A) → A
+on_parts x bad good = on_result x bad (λ p. good p.value p.count p.next)
 
 -- Rule 3.11: AlgorithmIdentifier, an identifier and at most one opaque element; absent parameters
 -- are an empty range at the parent's end
-unfoldable pub algorithm_at : List ℕ → Cursor → PartsAt
+unfoldable pub algorithm_at : List ℕ → Cursor → Result (Parsed Parts) Fault
 algorithm_at s c =
-    on_element (expect_at sequence_tag s c) PartsAt.Refused
+    on_element (expect_at sequence_tag s c) Err
     (λ t b n.
-    on_element (identifier_at s b) PartsAt.Refused
+    on_element (identifier_at s b) Err
     (λ t i m.
     if ltb m.at m.end then
-    on_checked (opaque_at opaque_levels s m) PartsAt.Refused
+    on_checked (opaque_at opaque_levels s m) Err
     (λ k e.
-    on_checked (finish_at e) PartsAt.Refused
-    (λ z f. PartsAt.Found (parts (range_of i) (range m.at e.at) no_range) (k + 2) n)) else
-    PartsAt.Found (parts (range_of i) (range b.end b.end) no_range) 2 n))
+    on_checked (finish_at e) Err
+    (λ z f. Ok (parsed (parts (range_of i) (range m.at e.at) no_range) (k + 2) n))) else
+    Ok (parsed (parts (range_of i) (range b.end b.end) no_range) 2 n)))
 
 abbrev pub with_value : Parts → Range → Parts
 with_value p v = parts p.identifier p.parameters v
 
 -- Rules 3.16, 3.21: a shrouded key, a DigestInfo, each a SEQUENCE of an AlgorithmIdentifier and an
 -- OCTET STRING
-unfoldable pub sealed_at : List ℕ → Cursor → PartsAt
+unfoldable pub sealed_at : List ℕ → Cursor → Result (Parsed Parts) Fault
 sealed_at s c =
-    on_element (expect_at sequence_tag s c) PartsAt.Refused
+    on_element (expect_at sequence_tag s c) Err
     (λ t b n.
-    on_parts (algorithm_at s b) PartsAt.Refused
+    on_parts (algorithm_at s b) Err
     (λ p k m.
-    on_element (expect_at octet_string_tag s m) PartsAt.Refused
+    on_element (expect_at octet_string_tag s m) Err
     (λ t o e.
-    on_checked (finish_at e) PartsAt.Refused
-    (λ z f. PartsAt.Found (with_value p (range_of o)) (k + 2) n))))
+    on_checked (finish_at e) Err
+    (λ z f. Ok (parsed (with_value p (range_of o)) (k + 2) n)))))
 
 -- Rule 3.15: a key, an opaque SEQUENCE
-unfoldable pub key_at : List ℕ → Cursor → PartsAt
+unfoldable pub key_at : List ℕ → Cursor → Result (Parsed Parts) Fault
 key_at s c =
-    on_element (expect_at sequence_tag s c) PartsAt.Refused
+    on_element (expect_at sequence_tag s c) Err
     (λ t b n.
-    on_checked (opaque_at opaque_levels s c) PartsAt.Refused
-    (λ k e. PartsAt.Found (parts no_range no_range (range c.at e.at)) k e))
+    on_checked (opaque_at opaque_levels s c) Err
+    (λ k e. Ok (parsed (parts no_range no_range (range c.at e.at)) k e)))
 
--- Rules 3.17, 3.19: one opaque element; of a certificate with x509_certificate it is an OCTET STRING
-unfoldable pub value_at : Bool → List ℕ → Cursor → Checked
-value_at true s c = on_element (expect_at octet_string_tag s c) Checked.Refused (λ t b n. opaque_at opaque_levels s c)
+-- Rules 3.17, 3.19: one opaque element; of a certificate with x509Certificate it is an OCTET STRING
+unfoldable pub value_at : Bool → List ℕ → Cursor → Result Checked Fault
+value_at true s c = on_element (expect_at octet_string_tag s c) Err (λ t b n. opaque_at opaque_levels s c)
 value_at false s c = opaque_at opaque_levels s c
 
 -- Rule 3.17: certificate, CRL, secret, each a SEQUENCE of an identifier and [0] with one opaque
 -- element
-unfoldable pub typed_at : Bool → List ℕ → Cursor → PartsAt
+unfoldable pub typed_at : Bool → List ℕ → Cursor → Result (Parsed Parts) Fault
 typed_at is-certificate s c =
-    on_element (expect_at sequence_tag s c) PartsAt.Refused
+    on_element (expect_at sequence_tag s c) Err
     (λ t b n.
-    on_element (identifier_at s b) PartsAt.Refused
+    on_element (identifier_at s b) Err
     (λ t i m.
-    on_element (expect_at context_tag s m) PartsAt.Refused
+    on_element (expect_at context_tag s m) Err
     (λ t v e.
-    on_checked (value_at (if is-certificate then same_bytes (bytes_of s i) x509_certificate else false) s v) PartsAt.Refused
+    on_checked (value_at (if is-certificate then same_bytes (bytes_of s i) x509_certificate else false) s v) Err
     (λ k f.
-    on_checked (finish_at f) PartsAt.Refused
+    on_checked (finish_at f) Err
     (λ z g.
-    on_checked (finish_at e) PartsAt.Refused
-    (λ z h. PartsAt.Found (parts (range_of i) no_range (range v.at f.at)) (k + 3) n))))))
+    on_checked (finish_at e) Err
+    (λ z h. Ok (parsed (parts (range_of i) no_range (range v.at f.at)) (k + 3) n)))))))
 
 -- Rule 3.10: EncryptedContentInfo, a SEQUENCE of the identifier data, an AlgorithmIdentifier, and
 -- tag 80 with the ciphertext. Rules 5.7, 5.35: no ciphertext is 7 at the parent's end
-unfoldable pub encrypted_info_at : List ℕ → Cursor → PartsAt
+unfoldable pub encrypted_info_at : List ℕ → Cursor → Result (Parsed Parts) Fault
 encrypted_info_at s c =
-    on_element (expect_at sequence_tag s c) PartsAt.Refused
+    on_element (expect_at sequence_tag s c) Err
     (λ t b n.
-    on_element (identifier_at s b) PartsAt.Refused
+    on_element (identifier_at s b) Err
     (λ t i m.
     if same_bytes (bytes_of s i) data_type then
-    on_parts (algorithm_at s m) PartsAt.Refused
+    on_parts (algorithm_at s m) Err
     (λ p k e.
-    if leb e.end e.at then PartsAt.Refused (fault not_served e.end) else
-    on_element (expect_at ciphertext_tag s e) PartsAt.Refused
+    if leb e.end e.at then Err (fault not_served e.end) else
+    on_element (expect_at ciphertext_tag s e) Err
     (λ t o f.
-    on_checked (finish_at f) PartsAt.Refused
-    (λ z g. PartsAt.Found (with_value p (range_of o)) (k + 3) n))) else
-    PartsAt.Refused (fault content b.at)))
+    on_checked (finish_at f) Err
+    (λ z g. Ok (parsed (with_value p (range_of o)) (k + 3) n)))) else
+    Err (fault content b.at)))
 
 -- Rule 3.9: a SEQUENCE of the version 0 and an EncryptedContentInfo; version 2 is 7 (Rule 5.7)
-unfoldable pub encrypted_at : List ℕ → Cursor → PartsAt
+unfoldable pub encrypted_at : List ℕ → Cursor → Result (Parsed Parts) Fault
 encrypted_at s c =
-    on_element (expect_at sequence_tag s c) PartsAt.Refused
+    on_element (expect_at sequence_tag s c) Err
     (λ t b n.
-    on_integer (integer_at s b) PartsAt.Refused
+    on_integer (integer_at s b) Err
     (λ v m.
-    if eqb v attributed_version then PartsAt.Refused (fault not_served b.at) else
+    if eqb v attributed_version then Err (fault not_served b.at) else
     if eqb v encrypted_version then
-    on_parts (encrypted_info_at s m) PartsAt.Refused
+    on_parts (encrypted_info_at s m) Err
     (λ p k e.
-    on_checked (finish_at e) PartsAt.Refused
-    (λ z f. PartsAt.Found p (k + 2) n)) else
-    PartsAt.Refused (fault content b.at)))
+    on_checked (finish_at e) Err
+    (λ z f. Ok (parsed p (k + 2) n))) else
+    Err (fault content b.at)))
 
 -- ---- parts that make rows
 
@@ -204,18 +200,18 @@ set_at s number st c =
 -- what a bag belongs to: its safe, and its enclosing bag or none
 pub record Owner : Type 0 where
   pub safe : ℕ
-  pub enclosing : Enclosing
+  pub enclosing : Option ℕ
 
-abbrev pub owner : ℕ → Enclosing → Owner
+abbrev pub owner : ℕ → Option ℕ → Owner
 owner k e = record { safe = k; enclosing = e }
 
 -- a bag of a kind that holds no bags: its value's parts, then its row
-abbrev pub leaf_at : PartsAt → BagKind → Owner → Bool → Rows → Walked
+abbrev pub leaf_at : Result (Parsed Parts) Fault → BagKind → Owner → Bool → Rows → Walked
 leaf_at x kind w has_set st =
     on_parts x Refused (λ p k f. Went (add_bag st (bag_row kind w.safe w.enclosing p has_set) (k + 3)) f)
 
 -- what is in [0] of a bag, by its kind; `inner` reads the SafeContents of a nested bag. The
--- bag's SEQUENCE, bag_id and [0] are counted with its row. (`None` doesn't come here: the bag_id was
+-- bag's SEQUENCE, bagId and [0] are counted with its row. (`None` doesn't come here: the bagId was
 -- refused.)
 abbrev pub content_at : (Owner → Rows → Cursor → Walked) → List ℕ → BagKind → Owner → Bool → Rows → Cursor → Walked
 content_at inner s BagKind.None w h st c = Refused (fault not_served c.at)
@@ -225,7 +221,7 @@ content_at inner s Certificate w h st c = leaf_at (typed_at true s c) Certificat
 content_at inner s Crl w h st c = leaf_at (typed_at false s c) Crl w h st
 content_at inner s Secret w h st c = leaf_at (typed_at false s c) Secret w h st
 content_at inner s Nested w h st c =
-    inner (owner w.safe (Bag (length st.bags))) (add_bag st (bag_row Nested w.safe w.enclosing no_parts h) 3) c
+    inner (owner w.safe (Some (length st.bags))) (add_bag st (bag_row Nested w.safe w.enclosing no_parts h) 3) c
 
 abbrev pub on_kind : {A : Type 0} → BagKind → A → A → A
 on_kind BagKind.None bad good = bad
@@ -236,7 +232,7 @@ on_kind Crl bad good = good
 on_kind Secret bad good = good
 on_kind Nested bad good = good
 
--- Rule 3.13: SafeBag, a SEQUENCE of a bag_id, [0] with one element, and optionally a SET of
+-- Rule 3.13: SafeBag, a SEQUENCE of a bagId, [0] with one element, and optionally a SET of
 -- attributes. A set is there if [0] doesn't end the bag.
 unfoldable pub bag_at : (Owner → Rows → Cursor → Walked) → List ℕ → Owner → Rows → Cursor → Walked
 bag_at inner s w st c =
@@ -277,7 +273,7 @@ data_at inner s c =
 
 -- a plain safe: its row, counted with its SEQUENCE, identifier, [0] and OCTET STRING; then its bags
 unfoldable pub plain_at : List ℕ → Rows → Cursor → Walked
-plain_at s st c = data_at (safe_contents_at levels s (owner (length st.safes) Enclosing.None) (add_safe st (safe_row Plain no_parts) 4)) s c
+plain_at s st c = data_at (safe_contents_at levels s (owner (length st.safes) None) (add_safe st (safe_row Plain no_parts) 4)) s c
 
 -- an encrypted safe: its parts, then its row, counted with its SEQUENCE, identifier and [0]
 unfoldable pub sealed_safe_at : List ℕ → Rows → Cursor → Walked
@@ -341,34 +337,33 @@ outer_at s c =
 
 -- ---- the MAC and the file
 
-abbrev pub on_mac : {A : Type 0} → MacAt → (Fault → A) → (Mac → ℕ → Cursor → A) → A
-on_mac (MacAt.Refused f) bad good = bad f
-on_mac (MacAt.Found x m n) bad good = good x m n
+abbrev pub on_mac : {A : Type 0} → Result (Parsed Mac) Fault → (Fault → A) → (Mac → ℕ → Cursor → A) → A
+on_mac x bad good = on_result x bad (λ p. good p.value p.count p.next)
 
 -- Rule 3.22: iterations are 1 where they are absent, else 2 to 2,147,483,647; any other byte there
 -- is 6 (Rule 5.34)
-unfoldable pub iterations_at : List ℕ → Parts → Range → ℕ → Cursor → MacAt
+unfoldable pub iterations_at : List ℕ → Parts → Range → ℕ → Cursor → Result (Parsed Mac) Fault
 iterations_at s p salt k c =
     if eqb (tag_at s c) integer_tag then
-    on_integer (integer_at s c) MacAt.Refused
+    on_integer (integer_at s c) Err
     (λ v e.
-    if leb v default_iterations then MacAt.Refused (fault content c.at) else
-    on_checked (finish_at e) MacAt.Refused (λ z f. MacAt.Found (mac_fields p salt v) (k + 1) e)) else
-    on_checked (finish_at c) MacAt.Refused (λ z f. MacAt.Found (mac_fields p salt default_iterations) k c)
+    if leb v default_iterations then Err (fault content c.at) else
+    on_checked (finish_at e) Err (λ z f. Ok (parsed (mac_fields p salt v) (k + 1) e))) else
+    on_checked (finish_at c) Err (λ z f. Ok (parsed (mac_fields p salt default_iterations) k c))
 
 -- Rule 3.21: MacData, a SEQUENCE of a DigestInfo, the salt, and optionally the iterations
-unfoldable pub mac_at : List ℕ → Cursor → MacAt
+unfoldable pub mac_at : List ℕ → Cursor → Result (Parsed Mac) Fault
 mac_at s c =
-    on_element (expect_at sequence_tag s c) MacAt.Refused
+    on_element (expect_at sequence_tag s c) Err
     (λ t b n.
-    on_parts (sealed_at s b) MacAt.Refused
+    on_parts (sealed_at s b) Err
     (λ p k m.
-    on_element (expect_at octet_string_tag s m) MacAt.Refused
+    on_element (expect_at octet_string_tag s m) Err
     (λ t o e.
-    on_mac (iterations_at s p (range_of o) (k + 2) e) MacAt.Refused (λ x j f. MacAt.Found x j n))))
+    on_mac (iterations_at s p (range_of o) (k + 2) e) Err (λ x j f. Ok (parsed x j n)))))
 
 abbrev pub refused : Fault → Reading
-refused f = record { answer = Answer.Refused f; table = empty_table }
+refused f = record { answer = Err f; table = empty_table }
 
 -- the parts of a PFX behind its version; no MacData is 7 at the parent's end (Rules 5.7, 5.35)
 unfoldable pub body_at : List ℕ → Cursor → Reading
@@ -378,11 +373,11 @@ body_at s c =
     if leb e.end e.at then refused (fault not_served e.end) else
     on_mac (mac_at s e) refused
     (λ x k f.
-    on_checked (finish_at f) refused (λ z g. record { answer = Accepted; table = table_of (counting st k) x })))
+    on_checked (finish_at f) refused (λ z g. record { answer = (Ok tt); table = table_of (counting st k) x })))
 
-abbrev pub on_answer : {A : Type 0} → Answer → (Fault → A) → A → A
-on_answer (Answer.Refused f) bad good = bad f
-on_answer Accepted bad good = good
+abbrev pub on_answer : {A : Type 0} → Result ⊤ Fault → (Fault → A) → A → A
+on_answer (Err f) bad good = bad f
+on_answer (Ok tt) bad good = good
 
 -- after the whole PFX: it has no byte after it (Rule 4.7)
 abbrev pub alone : Cursor → Reading → Reading

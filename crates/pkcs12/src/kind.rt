@@ -1,5 +1,5 @@
 // The kinds of safes and bags. The identifiers of the kinds of bag, and the decision which kind a
-// bag_id's body names, belong to the type (Rule 3.14).
+// bagId's body names, belong to the type (Rule 3.14).
 ghost use Rattle.std.specs.Prelude.{◌≡◌};
 ghost use Rattle.pkcs12.specs.Identifiers.{kind_of};
 ghost use Rattle.pkcs12.specs.Report.{kind_report};
@@ -37,7 +37,7 @@ impl BagKind {
 
     pub const NESTED: [u8; 11] = *b"\x2A\x86\x48\x86\xF7\x0D\x01\x0C\x0A\x01\x06";
 
-    // The kind that a bag_id's body names, `None` if it names no kind.
+    // The kind that a bagId's body names, `None` if it names no kind.
     pub fn of(body: &[u8]) -> BagKind
         ensures value { result ≡ kind_of body.now }
         ensures report { kind_report result ≡ kind_report (kind_of body.now) }

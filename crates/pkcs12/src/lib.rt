@@ -13,10 +13,10 @@ pub mod kind;
 pub mod row;
 pub mod table;
 
-pub use answers::{Answer, MacAt, PartsAt, Reading};
+pub use answers::{Parsed, Reading};
 pub use identifiers::{DATA, ENCRYPTED_DATA, ENVELOPED_DATA, SIGNED_DATA, X509_CERTIFICATE};
 pub use kind::{BagKind, SafeKind};
-pub use row::{AttributeRow, BagRow, Enclosing, Mac, Parts, SafeRow};
+pub use row::{AttributeRow, BagRow, Mac, Parts, SafeRow};
 pub use table::Table;
 
 // The rows of one table (Rule 1.3).

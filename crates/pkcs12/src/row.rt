@@ -12,13 +12,6 @@ pub struct Parts {
     pub value: Range,
 }
 
-// The enclosing bag's row.
-#[derive(Clone, Copy)]
-pub enum Enclosing {
-    None,
-    Bag(u16),
-}
-
 #[derive(Clone, Copy)]
 pub struct SafeRow {
     pub kind: SafeKind,
@@ -29,7 +22,8 @@ pub struct SafeRow {
 pub struct BagRow {
     pub kind: BagKind,
     pub safe: u16,
-    pub enclosing: Enclosing,
+    // the enclosing bag's row
+    pub enclosing: Option<u16>,
     pub parts: Parts,
     // whether the bag has a set of attributes
     pub has_set: bool,
@@ -71,7 +65,7 @@ impl BagRow {
     pub const EMPTY: BagRow = BagRow {
         kind: BagKind::None,
         safe: 0,
-        enclosing: Enclosing::None,
+        enclosing: None,
         parts: Parts::EMPTY,
         has_set: false,
     };

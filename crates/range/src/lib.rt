@@ -9,13 +9,8 @@ ghost use Rattle.range.specs.Range.{bytes_in, lies, body_range, word_range};
 
 use der::Cursor;
 
-// The greatest offset that a range holds, of 64 bits and of 32.
-const GREATEST: usize = 65535;
-
-const GREATEST_WORD: u32 = 65535;
-
 // A range start..end has the bytes start up to end-1.
-#[derive(Clone, Copy)]
+#[derive(Clone, Copy, Debug, PartialEq, Eq)]
 pub struct Range {
     pub start: u16,
     pub end: u16,
@@ -28,28 +23,14 @@ const NOWHERE: Range = Range { start: 1, end: 0 };
 pub fn fewer(count: usize, rows: usize) -> usize
     ensures { result ≡ min count rows }
 {
-    if count <= rows {
-        return count;
-    }
-    rows
+    count.min(rows)
 }
 
 // Whether two strings of bytes are the same.
 pub fn same(a: &[u8], b: &[u8]) -> bool
     ensures { result ≡ same_bytes a.now b.now }
 {
-    let n = a.len();
-    if n != b.len() {
-        return false;
-    }
-    let mut i = 0;
-    while i < n {
-        if a[i] != b[i] {
-            return false;
-        }
-        i = i + 1;
-    }
-    true
+    a == b
 }
 
 // The bytes from one offset up to another, that part of the caller's own; of offsets that go past
@@ -57,26 +38,15 @@ pub fn same(a: &[u8], b: &[u8]) -> bool
 pub fn part(bytes: &[u8], start: usize, end: usize) -> &[u8]
     ensures { result.now ≡ slice start end bytes.now }
 {
-    let n = bytes.len();
-    if end <= start {
-        return &bytes[0..0];
-    }
-    if end <= n {
-        return &bytes[start..end];
-    }
-    if start <= n {
-        return &bytes[start..n];
-    }
-    &bytes[0..0]
+    let to = end.min(bytes.len());
+    &bytes[start.min(to)..to]
 }
 
 // Whether a body is the given bytes.
 pub fn named(s: &[u8], body: Cursor, name: &[u8]) -> bool
     ensures { result ≡ same_bytes (bytes_of s.now body) name.now }
 {
-    let from = body.at;
-    let to = body.end;
-    same(part(s, from, to), name)
+    same(part(s, body.at, body.end), name)
 }
 
 impl Range {
@@ -86,9 +56,10 @@ impl Range {
     pub fn of(c: Cursor) -> Range
         ensures { result ≡ body_range c }
     {
-        let start = fewer(c.at, GREATEST) as u16;
-        let end = fewer(c.end, GREATEST) as u16;
-        Range { start, end }
+        Range {
+            start: u16::try_from(c.at).unwrap_or(u16::MAX),
+            end: u16::try_from(c.end).unwrap_or(u16::MAX),
+        }
     }
 
     // The range with these offsets; one that lies in no bytes if an offset is greater than a range
@@ -96,30 +67,20 @@ impl Range {
     pub fn of_words(start: u32, end: u32) -> Range
         ensures { result ≡ word_range start end }
     {
-        if GREATEST_WORD < start {
+        let Ok(start) = u16::try_from(start) else {
             return NOWHERE;
-        }
-        if GREATEST_WORD < end {
+        };
+        let Ok(end) = u16::try_from(end) else {
             return NOWHERE;
-        }
-        let start16 = start as u16;
-        let end16 = end as u16;
-        Range {
-            start: start16,
-            end: end16,
-        }
+        };
+        Range { start, end }
     }
 
     // Whether the range lies in the bytes.
     pub fn lies(self, bytes: &[u8]) -> bool
         ensures { result ≡ lies bytes.now self }
     {
-        let start = self.start as usize;
-        let end = self.end as usize;
-        if end < start {
-            return false;
-        }
-        end <= bytes.len()
+        self.start <= self.end && self.end as usize <= bytes.len()
     }
 
     // The bytes that the range names, that part of the caller's own; of a range that goes past them
@@ -127,8 +88,6 @@ impl Range {
     pub fn part(self, bytes: &[u8]) -> &[u8]
         ensures { result.now ≡ bytes_in bytes.now self }
     {
-        let start = self.start as usize;
-        let end = self.end as usize;
-        part(bytes, start, end)
+        part(bytes, self.start as usize, self.end as usize)
     }
 }

@@ -11,8 +11,7 @@ use Rattle.buffer.specs.Numbers.{short_buffer}
 use Rattle.pkcs12.specs.Table.{table_of}
 use Rattle.pkcs12.specs.Accepted.{IsAccepted}
 use Rattle.pkcs12.specs.Walk.{refused, read_file}
-use Rattle.pkcs12.specs.declared.answers.Answer.{Answer}
-use Rattle.pkcs12.specs.declared.answers.Answer.TheVariants.{Accepted}
+use Rattle.std.specs.Prelude.{Err, Ok, Result, ⊤}
 use Rattle.pkcs12.specs.declared.answers.Reading.{Reading}
 use Rattle.words.specs.Layout.{table_words}
 use Rattle.words.specs.Stored.{words_of}
@@ -41,47 +40,47 @@ counts_back m k =
     }
 
 -- the walk left the memory m, of the length of m₀ before it, with the answer r
-module _ (m₀ : List ℕ) (whole : length m₀ ≡ table_words) (m : List ℕ) (r : Summary) (x : Reading)
+module _ (m₀ : List ℕ) (whole : length m₀ ≡ table_words) (m : List ℕ) (r : Result Summary Fault) (x : Reading)
     (z : Summed m r x) (kept : length m ≡ length m₀) where
   l : length m ≡ table_words
   l = kept ∙ whole
 
-  module _ (f : Fault) (e : r.answer ≡ Answer.Refused f) where
+  module _ (f : Fault) (e : r ≡ Err f) where
     stopped : x ≡ refused f
     stopped = z.reading ∙ rw e
 
-    pub refused_answer : r.answer ≡ x.answer
-    refused_answer = e ∙ sym (ap (λ (y : Reading). y.answer) stopped)
+    pub refused_answer : Err f ≡ x.answer
+    refused_answer = sym (ap (λ (y : Reading). y.answer) stopped)
 
     pub refused_words : (m' : List ℕ) → m' ≡ cleared m → m' ≡ words_of x.table
     refused_words m' p = p ∙ cleared_words m l ∙ sym (ap (λ (y : Reading). words_of y.table) stopped)
 
-  module _ (e : r.answer ≡ Accepted) where
-    went : x ≡ record { answer = Accepted; table = table_of (rows_at m r.counts) r.mac }
+  module _ (v : Summary) (e : r ≡ Ok v) where
+    went : x ≡ record { answer = (Ok tt); table = table_of (rows_at m v.counts) v.mac }
     went = z.reading ∙ rw e
 
-    pub accepted_answer : r.answer ≡ x.answer
-    accepted_answer = e ∙ sym (ap (λ (y : Reading). y.answer) went)
+    pub accepted_answer : Ok tt ≡ x.answer
+    accepted_answer = sym (ap (λ (y : Reading). y.answer) went)
 
-    pub accepted_words : (m' : List ℕ) → m' ≡ finished m r.counts r.mac → m' ≡ words_of x.table
+    pub accepted_words : (m' : List ℕ) → m' ≡ finished m v.counts v.mac → m' ≡ words_of x.table
     accepted_words m' p =
         p
-        ∙ ap (λ (k : Counts). finished m k r.mac) (sym (counts_back m r.counts))
-        ∙ finished_words m (rows_at m r.counts) r.mac (z.held e) l
+        ∙ ap (λ (k : Counts). finished m k v.mac) (sym (counts_back m v.counts))
+        ∙ finished_words m (rows_at m v.counts) v.mac (z.held v e) l
         ∙ sym (ap (λ (y : Reading). words_of y.table) went)
 
 -- ---- the table that is loaded
 
-table_fits : (f : List ℕ) → Bytes f → (x : Answer) → (read_file f).answer ≡ x → Wordable (read_file f).table
-table_fits f b Accepted e = accepted_wordable f b e
-table_fits f b (Answer.Refused g) e = subst Wordable (sym (refused_table_empty f g e)) empty_wordable
+table_fits : (f : List ℕ) → Bytes f → (x : Result ⊤ Fault) → (read_file f).answer ≡ x → Wordable (read_file f).table
+table_fits f b (Ok tt) e = accepted_wordable f b e
+table_fits f b (Err g) e = subst Wordable (sym (refused_table_empty f g e)) empty_wordable
 
 -- what is loaded from the words of a reading's table, whatever is behind them, is that table
 table_loaded : (f : List ℕ) → Bytes f → (rest : List ℕ)
     → table_in (words_of (read_file f).table ++ rest) ≡ (read_file f).table
 table_loaded f b = stored_is_loaded (read_file f).table (table_fits f b (read_file f).answer refl)
 
-pub read_value : (f : List ℕ) → Bytes f → (a : Answer) → a ≡ (read_file f).answer → (m : List ℕ)
+pub read_value : (f : List ℕ) → Bytes f → (a : Result ⊤ Fault) → a ≡ (read_file f).answer → (m : List ℕ)
     → m ≡ words_of (read_file f).table
     → (t : Table) → t ≡ table_in m → record { answer = a; table = t } ≡ read_file f
 read_value f b a p m q t h =
@@ -92,7 +91,7 @@ read_value f b a p m q t h =
 -- ---- memory of any length
 
 module _ (f m : List ℕ) where
-  pub into_short : length m < table_words → read_into f m ≡ into (Answer.Refused (fault short_buffer 0)) m
+  pub into_short : length m < table_words → read_into f m ≡ into (Err (fault short_buffer 0)) m
   unfolding read_into
   into_short h = rw (lt-ltb (length m) table_words h)
 
@@ -101,11 +100,12 @@ module _ (f m : List ℕ) where
     unfolding read_into
     into_whole = rw (le-ltb (length m) table_words h)
 
-    pub into_accepted : IsAccepted f → read_into f m ≡ into Accepted (words_of (read_file f).table ++ drop table_words m)
-    into_accepted a = into_whole ∙ ap (λ (x : Answer). into x (words_of (read_file f).table ++ drop table_words m)) a
+    pub into_accepted : IsAccepted f → read_into f m ≡ into (Ok tt) (words_of (read_file f).table ++ drop table_words m)
+    into_accepted a =
+        into_whole ∙ ap (λ (x : Result ⊤ Fault). into x (words_of (read_file f).table ++ drop table_words m)) a
 
-    pub into_refused : (x : Fault) → (read_file f).answer ≡ Answer.Refused x
-        → read_into f m ≡ into (Answer.Refused x) (replicate table_words 0 ++ drop table_words m)
+    pub into_refused : (x : Fault) → (read_file f).answer ≡ Err x
+        → read_into f m ≡ into (Err x) (replicate table_words 0 ++ drop table_words m)
     into_refused x e =
         let z : words_of (read_file f).table ≡ replicate table_words 0 =
         ap words_of (refused_table_empty f x e) ∙ empty_is_zeros in

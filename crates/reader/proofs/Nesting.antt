@@ -14,21 +14,19 @@ use Rattle.der.specs.Element.{cursor, fault, expect_at, on_element}
 use Rattle.der.specs.declared.Fault.{Fault}
 use Rattle.der.specs.declared.Cursor.{Cursor}
 use Rattle.der.specs.declared.Element.{Element}
-use Rattle.der.specs.declared.Element.TheVariants.{Found}
+use Rattle.std.specs.Prelude.{Err, Ok, Option, Result}
+use Rattle.buffer.specs.Numbers.{file_bytes}
 use Rattle.pkcs12.specs.Table.{Rows}
 use Rattle.pkcs12.specs.Walk.{Walked, Refused, Went, on_walked, run, counting, Owner, owner, bag_at, safe_contents_at}
-use Rattle.pkcs12.specs.declared.row.Enclosing.{Enclosing}
-use Rattle.pkcs12.specs.declared.answers.Answer.{Answer}
-use Rattle.pkcs12.specs.declared.answers.Answer.TheVariants.{Accepted}
 use Rattle.words.specs.declared.Counts.{Counts}
 use Rattle.load.specs.Holds.{rows_at}
 use Rattle.load.proofs.Counted.{with_count, rows_counted, held_counted}
 use Rattle.reader.specs.Steps.{start_count}
-use Rattle.reader.specs.Memory.{Ready, refused_progress, Shown}
+use Rattle.reader.specs.Memory.{Ready, Shown}
 use Rattle.reader.specs.declared.rows.Progress.{Progress}
 use Rattle.reader.proofs.Past.{bag_past}
 use Rattle.parts.proofs.Past.{Past, Head, expect_head}
-use Rattle.reader.proofs.Shown.{shown_stop, shown_refused, shown_went, walk_went, walk_refused}
+use Rattle.reader.proofs.Shown.{shown_refused, shown_went, walk_went, walk_refused}
 use Rattle.reader.proofs.Loops.{Rowing, rowing_start, rowing_end, rowing_refused, rowing_on}
 
 -- a bag of safe contents with this many levels left
@@ -48,14 +46,14 @@ contents_law (suc l) s w st c =
     let d : suc l - 1 ≡ l = omega arith in
     simp (eqb-suc-zero, d)
 
-module _ (s : List ℕ) (level safe : ℕ) (enclosing : Enclosing) (m₀ : List ℕ) (k₀ : Counts) (c : Cursor) where
+module _ (s : List ℕ) (level safe : ℕ) (enclosing : Option ℕ) (m₀ : List ℕ) (k₀ : Counts) (c : Cursor) where
   abbrev whole_contents : Walked
   whole_contents = safe_contents_at level s (owner safe enclosing) (rows_at m₀ k₀) c
 
   abbrev step_of : Rows → Cursor → Walked
   step_of = bag_in level s (owner safe enclosing)
 
-  module _ (ready : Ready s m₀ k₀ c.at) (x : Element) (p : x ≡ expect_at sequence_tag s c) where
+  module _ (ready : Ready m₀ k₀ c.at) (x : Result Element Fault) (p : x ≡ expect_at sequence_tag s c) where
     contents_is : whole_contents
         ≡ on_element x Refused
         (λ t b n.
@@ -63,64 +61,62 @@ module _ (s : List ℕ) (level safe : ℕ) (enclosing : Enclosing) (m₀ : List 
         on_walked (run step_of (counting (rows_at m₀ k₀) 1) b) Refused (λ st f. Went st n))
     contents_is = contents_law level s (owner safe enclosing) (rows_at m₀ k₀) c ∙ rw (← p)
 
-    pub contents_refused : (f : Fault) (r : Progress) → x ≡ Element.Refused f → r ≡ refused_progress f
+    pub contents_refused : (f : Fault) (r : Result Progress Fault) → x ≡ Err f → r ≡ Err f
         → Shown m₀ r whole_contents
-    contents_refused f r q i = shown_stop m₀ r whole_contents f (contents_is ∙ rw q) i
+    contents_refused f r q i = shown_refused m₀ whole_contents r f (contents_is ∙ rw q) i
 
-    module _ (t : ℕ) (b n : Cursor) (q : x ≡ Found t b n) where
-      pub contents_deep : (r : Progress) → level ≡ 0 → r ≡ refused_progress (fault too_many c.at)
-          → Shown m₀ r whole_contents
-      contents_deep r z i =
-          shown_stop m₀ r whole_contents (fault too_many c.at) (contents_is ∙ rw (q, eq-eqb level 0 z)) i
+    module _ (e : Element) (q : x ≡ Ok e) where
+      pub contents_deep : level ≡ 0 → Shown m₀ (Err (fault too_many c.at)) whole_contents
+      contents_deep z =
+          shown_refused m₀ whole_contents _ (fault too_many c.at) (contents_is ∙ rw (q, eq-eqb level 0 z)) refl
 
-      head : Head s c b n
-      head = expect_head sequence_tag s c t b n (sym p ∙ q)
+      head : Head s c e.body e.next
+      head = expect_head sequence_tag s c e (sym p ∙ q)
 
-      pub contents_fits : Fits w64 (k₀.elements + 1)
+      pub contents_fits : length s ≤ file_bytes → Fits w64 (k₀.elements + 1)
       unfolding start_count
-      contents_fits = omega (arith, ready.counted, ready.short, head)
+      contents_fits l = omega (arith, ready.counted, l, head)
 
       module _ (deep : level ≡ 0 → ⊥) where
         abbrev loop_of : Walked
-        loop_of = run step_of (rows_at m₀ (with_count k₀ 1)) b
+        loop_of = run step_of (rows_at m₀ (with_count k₀ 1)) e.body
 
-        pub contents_start : Rowing s step_of b.end loop_of (length m₀) m₀ (with_count k₀ 1) b.at
+        pub contents_start : Rowing step_of e.body.end loop_of (length m₀) m₀ (with_count k₀ 1) e.body.at
         contents_start =
-            rowing_start s step_of m₀ (with_count k₀ 1) b
+            rowing_start step_of m₀ (with_count k₀ 1) e.body
             (record {
-              short = ready.short;
               held = held_counted m₀ k₀ ready.held 1;
               counted = omega (arith, ready.counted, head.past);
             })
 
-        loop_is : (y : Walked) → loop_of ≡ y → whole_contents ≡ on_walked y Refused (λ st f. Went st n)
+        loop_is : (y : Walked) → loop_of ≡ y → whole_contents ≡ on_walked y Refused (λ st f. Went st e.next)
         loop_is y h = contents_is ∙ rw (q, ne_eqb level 0 deep, ← rows_counted m₀ k₀ ready.held 1, h)
 
-        module _ (m : List ℕ) (k : Counts) (at : ℕ) (g : Rowing s step_of b.end loop_of (length m₀) m k at) where
-          pub contents_end : b.end ≤ at → Shown m (record { answer = Accepted; counts = k; next = n }) whole_contents
+        module _ (m : List ℕ) (k : Counts) (at : ℕ) (g : Rowing step_of e.body.end loop_of (length m₀) m k at) where
+          pub contents_end : e.body.end ≤ at → Shown m (Ok (record { counts = k; next = e.next })) whole_contents
           contents_end h =
-              shown_went m _ whole_contents refl g.ready.held (loop_is _ (rowing_end s step_of _ _ _ m k at g h))
+              shown_went m whole_contents _ g.ready.held (loop_is _ (rowing_end step_of _ _ _ m k at g h))
 
           -- a turn, whose answer the code holds as y, in the memory m'
-          module _ (m' : List ℕ) (l : length m' ≡ length m) (y : Progress) (h : at < b.end)
-              (z : Shown m' y (step_of (rows_at m k) (cursor at b.end))) where
+          module _ (m' : List ℕ) (l : length m' ≡ length m) (y : Result Progress Fault) (h : at < e.body.end)
+              (z : Shown m' y (step_of (rows_at m k) (cursor at e.body.end))) where
             abbrev turn : Walked
-            turn = step_of (rows_at m k) (cursor at b.end)
+            turn = step_of (rows_at m k) (cursor at e.body.end)
 
-            pub bag_stops : (f : Fault) → y.answer ≡ Answer.Refused f → Shown m' y whole_contents
-            bag_stops f i =
-                shown_refused m' y whole_contents f
-                (loop_is _ (rowing_refused s step_of _ _ _ m k at g f h (walk_refused m' y turn f z i))) i
+            pub bag_stops : (f : Fault) (r : Result Progress Fault) → y ≡ Err f → r ≡ Err f
+                → Shown m' r whole_contents
+            bag_stops f r i j =
+                shown_refused m' whole_contents r f
+                (loop_is _ (rowing_refused step_of _ _ _ m k at g f h (walk_refused m' turn y f z i))) j
 
-            bag_goes : y.answer ≡ Accepted
-                → Past s (cursor at b.end) (rows_at m k).count (rows_at m' y.counts).count y.next
-            bag_goes i = bag_past (level - 1) s _ (rows_at m k) _ _ y.next (walk_went m' y turn z i)
+            module _ (v : Progress) (i : y ≡ Ok v) where
+              bag_goes : Past s (cursor at e.body.end) (rows_at m k).count (rows_at m' v.counts).count v.next
+              bag_goes = bag_past (level - 1) s _ (rows_at m k) _ _ v.next (walk_went m' turn y v z i)
 
-            pub bag_on : y.answer ≡ Accepted
-                → Rowing s step_of b.end loop_of (length m₀) m' y.counts y.next.at
-            bag_on i =
-                rowing_on s step_of _ _ _ m k at g _ y.next m' y.counts h (walk_went m' y turn z i) (bag_goes i) l
-                refl (z.held i)
+              pub bag_on : Rowing step_of e.body.end loop_of (length m₀) m' v.counts v.next.at
+              bag_on =
+                  rowing_on step_of _ _ _ m k at g s _ v.next m' v.counts h (walk_went m' turn y v z i) bag_goes l
+                  refl (z.held v i)
 
-            pub bag_less : y.answer ≡ Accepted → b.end - y.next.at < b.end - at
-            bag_less i = omega (arith, (bag_goes i).some)
+              pub bag_less : e.body.end - v.next.at < e.body.end - at
+              bag_less = omega (arith, bag_goes.some)

@@ -15,19 +15,19 @@ use Rattle.der.specs.Content.{bytes_of}
 use Rattle.der.specs.declared.Fault.{Fault}
 use Rattle.der.specs.declared.Cursor.{Cursor}
 use Rattle.der.proofs.Choices.{by_test}
+use Rattle.buffer.specs.Numbers.{file_bytes}
 use Rattle.pkcs12.specs.Numbers.{bag_rows}
 use Rattle.der.specs.Numbers.{sequence_tag, context_tag}
 use Rattle.pkcs12.specs.Identifiers.{kind_of}
 use Rattle.pkcs12.specs.Table.{bag_row, Rows}
 use Rattle.pkcs12.specs.Walk.{Walked, Refused, Went, on_walked, add_bag, owner, bag_at, safe_contents_at}
 use Rattle.pkcs12.specs.declared.row.Parts.{Parts}
-use Rattle.pkcs12.specs.declared.answers.PartsAt.{PartsAt}
+use Rattle.pkcs12.specs.declared.answers.Parsed.{Parsed}
+use Rattle.reader.specs.declared.bags.Bag.{Bag}
+use Rattle.std.specs.Prelude.{Err, Ok, Option, Result, Some}
 use Rattle.pkcs12.specs.declared.kind.BagKind.{BagKind}
 use Rattle.pkcs12.specs.declared.kind.BagKind.TheVariants.{Key, ShroudedKey, Certificate, Crl, Secret, Nested}
-use Rattle.pkcs12.specs.declared.row.Enclosing.{Enclosing}
 use Rattle.pkcs12.specs.declared.row.BagRow.{BagRow}
-use Rattle.pkcs12.specs.declared.answers.Answer.{Answer}
-use Rattle.pkcs12.specs.declared.answers.Answer.TheVariants.{Accepted}
 use Rattle.pkcs12.proofs.Named.{by_kind}
 use Rattle.words.specs.InPlace.{bag_stored}
 use Rattle.words.specs.declared.Counts.{Counts}
@@ -37,13 +37,12 @@ use Rattle.load.proofs.Held.{bag_count, count_of}
 use Rattle.load.proofs.Counted.{with_bag, rows_with_bag, held_with_bag}
 use Rattle.reader.specs.Steps.{on_bag, leaf_of, bag_value_at, bag_of_at, bag_head_at, bag_end_at, inside_at, is_nested}
 use Rattle.reader.specs.Steps.{start_count}
-use Rattle.reader.specs.Memory.{Ready, Inside, refused_progress, Shown}
-use Rattle.reader.specs.declared.bags.Bag.{Bag as Before}
+use Rattle.reader.specs.Memory.{Ready, Inside, Shown}
 use Rattle.reader.specs.declared.rows.Progress.{Progress}
 use Rattle.parts.proofs.Past.{Past, by_expect, by_identifier, key_past, sealed_past, typed_past}
 use Rattle.reader.proofs.Past.{contents_past}
 use Rattle.reader.proofs.BridgeRows.{bag_law}
-use Rattle.reader.proofs.Shown.{shown_stop, shown_refused, shown_went, walk_went, walk_refused}
+use Rattle.reader.proofs.Shown.{shown_refused, shown_went, walk_went, walk_refused}
 
 not_true : false ≡ true → ⊥
 not_true h = let z : ◌≡◌ {A = ℕ} 0 1 = ap (λ (b : Bool). if b then 1 else 0) h in omega (arith, z)
@@ -56,20 +55,20 @@ pub record Known (s : List ℕ) (c : Cursor) (kind : BagKind) (k : ℕ) (v e : C
   pub inside : e.at ≤ length s
   pub nested : is_nested kind ≡ true → (c.at + k ≤ v.at) × (v.end ≤ e.at)
 
-abbrev OfBag : List ℕ → Cursor → Bool → Before → Type 0
-OfBag s c full (Before.Refused f) = Unit {0}
-OfBag s c full (Before.Found kind p k v e n) = (full ≡ false) × Known s c kind k v e
+abbrev OfBag : List ℕ → Cursor → Bool → Result Bag Fault → Type 0
+OfBag s c full (Err f) = Unit {0}
+OfBag s c full (Ok x) = (full ≡ false) × Known s c x.kind x.count x.value x.set
 
 -- in [0] with body v, which ends where e begins
 module _ (s : List ℕ) (c : Cursor) (full : Bool) (free : full ≡ false) (v e n : Cursor) (head : c.at + 3 ≤ v.at)
     (order : v.at ≤ v.end) (stop : e.at ≡ v.end) (inside : e.at ≤ length s) where
-  leaf_of_lem : (kind : BagKind) → is_nested kind ≡ false → (x : PartsAt)
-      → ((p : Parts) (k : ℕ) (f : Cursor) → x ≡ PartsAt.Found p k f → Past s v 0 k f)
+  leaf_of_lem : (kind : BagKind) → is_nested kind ≡ false → (x : Result (Parsed Parts) Fault)
+      → ((p : Parsed Parts) → x ≡ Ok p → Past s v 0 p.count p.next)
       → OfBag s c full (leaf_of kind x e n)
   unfolding leaf_of
-  leaf_of_lem kind not (PartsAt.Refused f) past = tt
-  leaf_of_lem kind not (PartsAt.Found p k f) past =
-      let o = past p k f refl in (
+  leaf_of_lem kind not (Err f) past = tt
+  leaf_of_lem kind not (Ok x) past =
+      let o = past x refl in (
         free,
         record {
           counted = omega (arith, head, o.long, o.within, stop);
@@ -81,11 +80,11 @@ module _ (s : List ℕ) (c : Cursor) (full : Bool) (free : full ≡ false) (v e 
   value_of : (kind : BagKind) → OfBag s c full (bag_value_at s kind v e n)
   unfolding bag_value_at
   value_of BagKind.None = tt
-  value_of Key = leaf_of_lem Key refl _ (λ p k f q. key_past s v _ p k f refl q)
-  value_of ShroudedKey = leaf_of_lem ShroudedKey refl _ (λ p k f q. sealed_past s v _ p k f refl q)
-  value_of Certificate = leaf_of_lem Certificate refl _ (λ p k f q. typed_past true s v _ p k f refl q)
-  value_of Crl = leaf_of_lem Crl refl _ (λ p k f q. typed_past false s v _ p k f refl q)
-  value_of Secret = leaf_of_lem Secret refl _ (λ p k f q. typed_past false s v _ p k f refl q)
+  value_of Key = leaf_of_lem Key refl _ (λ p q. key_past s v _ p refl q)
+  value_of ShroudedKey = leaf_of_lem ShroudedKey refl _ (λ p q. sealed_past s v _ p refl q)
+  value_of Certificate = leaf_of_lem Certificate refl _ (λ p q. typed_past true s v _ p refl q)
+  value_of Crl = leaf_of_lem Crl refl _ (λ p q. typed_past false s v _ p refl q)
+  value_of Secret = leaf_of_lem Secret refl _ (λ p q. typed_past false s v _ p refl q)
   value_of Nested = (
     free,
     record {
@@ -128,7 +127,7 @@ module _ (below : ℕ) (s : List ℕ) (safe number : ℕ) (st : Rows) (c : Curso
   inside_count kind o h = go (is_nested kind) refl h
     where
       go : (b : Bool) → is_nested kind ≡ b
-          → (if b then safe_contents_at below s (owner safe (Enclosing.Bag number)) st v else Went st v) ≡ Went st' f
+          → (if b then safe_contents_at below s (owner safe (Some number)) st v else Went st v) ≡ Went st' f
           → st'.count ≤ e.at + i
       go false n h = leaf_count_lem o.counted h
       go true n h =
@@ -138,29 +137,29 @@ module _ (below : ℕ) (s : List ℕ) (safe number : ℕ) (st : Rows) (c : Curso
 
 -- in a bag whose row is stored
 module _ (below : ℕ) (s : List ℕ) (kind : BagKind) (safe number : ℕ) (m : List ℕ) (k : Counts) (c : Cursor)
-    (pre : Inside s m kind number k c.at) where
+    (pre : Inside m kind number k c.at) where
   abbrev in_bag : Walked
   in_bag = inside_at (safe_contents_at below s) kind safe number (rows_at m k) c
 
   module _ (b : Bool) (e : b ≡ is_nested kind) where
-    pub inside_nested : b ≡ true → (m' : List ℕ) (r : Progress)
-        → Shown m' r (safe_contents_at below s (owner safe (Enclosing.Bag number)) (rows_at m k) c) → Shown m' r in_bag
+    pub inside_nested : b ≡ true → (m' : List ℕ) (r : Result Progress Fault)
+        → Shown m' r (safe_contents_at below s (owner safe (Some number)) (rows_at m k) c) → Shown m' r in_bag
     unfolding inside_at
     inside_nested y m' r h = rw (sym e ∙ y) h
 
-    pub inside_ready : b ≡ true → EnclosingFits (Enclosing.Bag number) × Ready s m k c.at
+    pub inside_ready : b ≡ true → EnclosingFits (Some number) × Ready m k c.at
     inside_ready y = (pre.fits, pre.ready (sym e ∙ y))
 
-    pub inside_leaf : b ≡ false → Shown m (record { answer = Accepted; counts = k; next = c }) in_bag
+    pub inside_leaf : b ≡ false → Shown m (Ok (record { counts = k; next = c })) in_bag
     unfolding inside_at
-    inside_leaf y = shown_went m _ in_bag refl pre.held (rw (sym e ∙ y))
+    inside_leaf y = shown_went m in_bag _ pre.held (rw (sym e ∙ y))
 
 -- a bag of a safe and its enclosing bag at c, where the memory m holds the rows before
-module _ (s : List ℕ) (below safe : ℕ) (enclosing : Enclosing) (m : List ℕ) (k : Counts) (c : Cursor) where
+module _ (s : List ℕ) (below safe : ℕ) (enclosing : Option ℕ) (m : List ℕ) (k : Counts) (c : Cursor) where
   abbrev whole_bag : Walked
   whole_bag = bag_at (safe_contents_at below s) s (owner safe enclosing) (rows_at m k) c
 
-  module _ (pre : EnclosingFits enclosing × Ready s m k c.at) (w : Before)
+  module _ (pre : EnclosingFits enclosing × Ready m k c.at) (w : Result Bag Fault)
       (p : w ≡ bag_head_at s (leb bag_rows k.bags) c) where
     bag_is : whole_bag
         ≡ on_bag w Refused
@@ -173,33 +172,33 @@ module _ (s : List ℕ) (below safe : ℕ) (enclosing : Enclosing) (m : List ℕ
     facts : OfBag s c (leb bag_rows k.bags) w
     facts = rw (← p) at (bag_of s (leb bag_rows k.bags) c)
 
-    pub bag_refused : (f : Fault) (r : Progress) → w ≡ Before.Refused f → r ≡ refused_progress f → Shown m r whole_bag
-    bag_refused f r q i = shown_stop m r whole_bag f (bag_is ∙ rw q) i
+    pub bag_refused : (f : Fault) (r : Result Progress Fault) → w ≡ Err f → r ≡ Err f → Shown m r whole_bag
+    bag_refused f r q i = shown_refused m whole_bag r f (bag_is ∙ rw q) i
 
-    module _ (kind : BagKind) (a : Parts) (j : ℕ) (v e n : Cursor) (q : w ≡ Before.Found kind a j v e n) where
-      found_facts : (leb bag_rows k.bags ≡ false) × Known s c kind j v e
+    module _ (x : Bag) (q : w ≡ Ok x) where
+      found_facts : (leb bag_rows k.bags ≡ false) × Known s c x.kind x.count x.value x.set
       found_facts = rw q at facts
 
       pub bag_few : k.bags < bag_rows
       bag_few = leb-false bag_rows k.bags found_facts.0
 
-      pub bag_fits : Fits w64 (k.elements + j)
+      pub bag_fits : length s ≤ file_bytes → Fits w64 (k.elements + x.count)
       unfolding start_count
-      bag_fits = let o = found_facts.1 in omega (arith, pre.1.counted, pre.1.short, o.counted, o.inside)
+      bag_fits l = let o = found_facts.1 in omega (arith, pre.1.counted, l, o.counted, o.inside)
 
       -- its row is stored
-      module _ (row : BagRow) (u : row ≡ bag_row kind safe enclosing a (ltb e.at e.end)) (m' : List ℕ)
-          (t : m' ≡ bag_stored m k.bags row) where
+      module _ (row : BagRow) (u : row ≡ bag_row x.kind safe enclosing x.parts (ltb x.set.at x.set.end))
+          (m' : List ℕ) (t : m' ≡ bag_stored m k.bags row) where
         row_fits : BagFits row
         row_fits = rw u pre.0
 
-        stored_rows : rows_at m' (with_bag k j) ≡ add_bag (rows_at m k) row j
-        stored_rows = rows_with_bag m k pre.1.held m' row j row_fits bag_few t
+        stored_rows : rows_at m' (with_bag k x.count) ≡ add_bag (rows_at m k) row x.count
+        stored_rows = rows_with_bag m k pre.1.held m' row x.count row_fits bag_few t
 
-        stored_held : Holds m' (rows_at m' (with_bag k j))
-        stored_held = held_with_bag m k pre.1.held m' row j row_fits bag_few t
+        stored_held : Holds m' (rows_at m' (with_bag k x.count))
+        stored_held = held_with_bag m k pre.1.held m' row x.count row_fits bag_few t
 
-        pub bag_inside : Inside s m' kind k.bags (with_bag k j) v.at
+        pub bag_inside : Inside m' x.kind k.bags (with_bag k x.count) x.value.at
         bag_inside =
             record {
               held = stored_held;
@@ -208,7 +207,6 @@ module _ (s : List ℕ) (below safe : ℕ) (enclosing : Enclosing) (m : List ℕ
                   λ h.
                   let o = found_facts.1.nested h in
                   record {
-                    short = pre.1.short;
                     held = stored_held;
                     counted = omega (arith, pre.1.counted, o.0);
                   };
@@ -216,23 +214,28 @@ module _ (s : List ℕ) (below safe : ℕ) (enclosing : Enclosing) (m : List ℕ
 
         -- what is in it, which the code holds as y, in the memory m₁
         abbrev inner_of : Walked
-        inner_of = inside_at (safe_contents_at below s) kind safe k.bags (rows_at m' (with_bag k j)) v
+        inner_of =
+            inside_at (safe_contents_at below s) x.kind safe k.bags (rows_at m' (with_bag k x.count)) x.value
 
-        found_is : whole_bag ≡ on_walked inner_of Refused (λ st' f. bag_end_at s k.bags st' f e n)
+        found_is : whole_bag ≡ on_walked inner_of Refused (λ st' f. bag_end_at s k.bags st' f x.set x.next)
         found_is = bag_is ∙ rw (q, ← u, ← stored_rows)
 
-        module _ (m₁ : List ℕ) (y : Progress) (z : Shown m₁ y inner_of) where
-          pub inner_refused : (f : Fault) → y.answer ≡ Answer.Refused f → Shown m₁ y whole_bag
-          inner_refused f h = shown_refused m₁ y whole_bag f (found_is ∙ rw (walk_refused m₁ y inner_of f z h)) h
+        module _ (m₁ : List ℕ) (y : Result Progress Fault) (z : Shown m₁ y inner_of) where
+          pub inner_refused : (f : Fault) (r : Result Progress Fault) → y ≡ Err f → r ≡ Err f → Shown m₁ r whole_bag
+          inner_refused f r h i =
+              shown_refused m₁ whole_bag r f (found_is ∙ rw (walk_refused m₁ inner_of y f z h)) i
 
-          pub inner_on : y.answer ≡ Accepted → Ready s m₁ y.counts e.at
-          inner_on h =
-              let i : (rows_at m₁ y.counts).count ≡ y.counts.elements = count_of m₁ y.counts in
-              let l : (rows_at m' (with_bag k j)).count ≡ k.elements + j = count_of m' (with_bag k j) in
-              let x = inside_count below s safe k.bags (rows_at m' (with_bag k j)) c j v e _ y.next start_count
-              (omega (arith, l, pre.1.counted)) kind found_facts.1 (walk_went m₁ y inner_of z h) in
-              record { short = pre.1.short; held = z.held h; counted = omega (arith, i, x) }
+          module _ (v : Progress) (h : y ≡ Ok v) where
+            pub inner_on : Ready m₁ v.counts x.set.at
+            inner_on =
+                let i : (rows_at m₁ v.counts).count ≡ v.counts.elements = count_of m₁ v.counts in
+                let l : (rows_at m' (with_bag k x.count)).count ≡ k.elements + x.count =
+                count_of m' (with_bag k x.count) in
+                let o = inside_count below s safe k.bags (rows_at m' (with_bag k x.count)) c x.count x.value x.set _
+                v.next start_count (omega (arith, l, pre.1.counted)) x.kind found_facts.1
+                (walk_went m₁ inner_of y v z h) in
+                record { held = z.held v h; counted = omega (arith, i, o) }
 
-          pub bag_ends : (m₂ : List ℕ) (r : Progress) → y.answer ≡ Accepted
-              → Shown m₂ r (bag_end_at s k.bags (rows_at m₁ y.counts) y.next e n) → Shown m₂ r whole_bag
-          bag_ends m₂ r h i = rw (found_is, walk_went m₁ y inner_of z h) i
+            pub bag_ends : (m₂ : List ℕ) (r : Result Progress Fault)
+                → Shown m₂ r (bag_end_at s k.bags (rows_at m₁ v.counts) v.next x.set x.next) → Shown m₂ r whole_bag
+            bag_ends m₂ r i = rw (found_is, walk_went m₁ inner_of y v z h) i

@@ -19,14 +19,17 @@ use Rattle.pkcs12.specs.Identifiers.{data_type, enveloped_type, encrypted_type, 
 use Rattle.pkcs12.specs.Table.{Rows}
 use Rattle.pkcs12.specs.Walk.{range_of, sealed_at, key_at, typed_at, encrypted_at}
 use Rattle.pkcs12.specs.Walk.{Walked, Refused, Went, run, counting, attribute_at, set_at, Owner, leaf_at, content_at}
-use Rattle.pkcs12.specs.Walk.{bag_at, safe_contents_at, data_at, plain_at, sealed_safe_at, safe_value_at, safe_at, iterations_at}
+use Rattle.pkcs12.specs.Walk.{bag_at, safe_contents_at, data_at, plain_at, sealed_safe_at, safe_value_at}
+use Rattle.pkcs12.specs.Walk.{safe_at, iterations_at}
 use Rattle.pkcs12.specs.Walk.{mac_at}
 use Rattle.range.specs.declared.Range.{Range}
 use Rattle.pkcs12.specs.declared.row.Parts.{Parts}
-use Rattle.pkcs12.specs.declared.answers.PartsAt.{PartsAt}
+use Rattle.der.specs.declared.Fault.{Fault}
+use Rattle.pkcs12.specs.declared.answers.Parsed.{Parsed}
+use Rattle.pkcs12.specs.declared.row.Mac.{Mac}
+use Rattle.std.specs.Prelude.{Err, Ok, Result}
 use Rattle.pkcs12.specs.declared.kind.BagKind.{BagKind}
 use Rattle.pkcs12.specs.declared.kind.BagKind.TheVariants.{Key, ShroudedKey, Certificate, Crl, Secret, Nested}
-use Rattle.pkcs12.specs.declared.answers.MacAt.{MacAt}
 use Rattle.pkcs12.proofs.Named.{by_kind}
 use Rattle.pkcs12.proofs.Parents.{by_finish, In}
 use Rattle.pkcs12.proofs.AcceptedParts.{by_parts}
@@ -106,10 +109,11 @@ set_of_lem s number st c l =
     Good = OfWalked (λ st' n. Room c.at c.end st.count st'.count)
 
 -- what is in [0] of a bag, whose own three elements are counted with it
-leaf_of_lem : (s : List ℕ) (c : Cursor) (kind : BagKind) (w : Owner) (h : Bool) (st : Rows) (x : PartsAt) → PastParts s c x
+leaf_of_lem : (s : List ℕ) (c : Cursor) (kind : BagKind) (w : Owner) (h : Bool) (st : Rows)
+    (x : Result (Parsed Parts) Fault) → PastParts s c x
     → PastRows s c (st.count + 3) (leaf_at x kind w h st)
-leaf_of_lem s c kind w h st (PartsAt.Refused f) p = tt
-leaf_of_lem s c kind w h st (PartsAt.Found y k n) p =
+leaf_of_lem s c kind w h st (Err f) p = tt
+leaf_of_lem s c kind w h st (Ok x) p =
     record {
       some =
           p.some;
@@ -168,8 +172,8 @@ contents_of (suc l) s w st c =
     by_walked (PastRows s c st.count) _ (λ f. tt) (λ st' f. Room b.at b.end (st.count + 1) st'.count) _
     (λ st' f r. past_head s c b n st.count st'.count h (omega (arith, r)) (omega (arith, r)))
     (run (bag_at (safe_contents_at l s) s w) (counting st 1) b)
-    (run_room s (bag_at (safe_contents_at l s) s w) (bag_of s (safe_contents_at l s) (contents_of l s) w) (counting st 1) b
-    h.size))
+    (run_room s (bag_at (safe_contents_at l s) s w) (bag_of s (safe_contents_at l s) (contents_of l s) w)
+    (counting st 1) b h.size))
 
 -- a part as in `Past`, where it may be empty
 record Within (c : Cursor) (i j : ℕ) (n : Cursor) : Type 0 where
@@ -275,7 +279,7 @@ iterations_of s p salt k c =
     (λ y. by_finish Good _ (λ f. tt) e _ (λ z. (omega arith, omega arith)))))
     (λ t. by_finish Good _ (λ f. tt) c _ (λ z. (omega arith, omega arith)))
   where
-    Good : MacAt → Type 0
+    Good : Result (Parsed Mac) Fault → Type 0
     Good = OfMac (λ x j n. (k ≤ j) × (j ≤ k + 1))
 
 pub mac_of : (s : List ℕ) (c : Cursor) → OfMac (λ x k n. Past s c 0 k n) (mac_at s c)
@@ -292,5 +296,5 @@ mac_of s c =
     (iterations_at s p (range_of o) (k + 2) e) (iterations_of s p (range_of o) (k + 2) e)))
     (sealed_at s b) (sealed_of s b))
   where
-    Good : MacAt → Type 0
+    Good : Result (Parsed Mac) Fault → Type 0
     Good = OfMac (λ x k n. Past s c 0 k n)

@@ -12,18 +12,8 @@ use Rattle.pkcs12.specs.Walk.{on_mac, iterations_at}
 use Rattle.range.specs.declared.Range.{Range}
 use Rattle.pkcs12.specs.declared.row.Parts.{Parts}
 use Rattle.pkcs12.specs.declared.row.Mac.{Mac}
-use Rattle.pkcs12.specs.declared.answers.MacAt.{MacAt}
-use Rattle.parts.proofs.Rules.{answers as parts-answers}
-
--- an answer of a callee, taken apart: v is what the definition names, w what the code matched on
-module _ {A : Type 0} where
-  pub mac_refused : (v w : MacAt) (f : Fault) (r : A) (bad : Fault → A) (good : Mac → ℕ → Cursor → A)
-      → w ≡ v → w ≡ MacAt.Refused f → r ≡ bad f → r ≡ on_mac v bad good
-  mac_refused v w f r bad good p q e = rw (sym p ∙ q) e
-
-  pub mac_found : (v w : MacAt) (x : Mac) (k : ℕ) (n : Cursor) (r : A) (bad : Fault → A) (good : Mac → ℕ → Cursor → A)
-      → w ≡ v → w ≡ MacAt.Found x k n → r ≡ good x k n → r ≡ on_mac v bad good
-  mac_found v w x k n r bad good p q e = rw (sym p ∙ q) e
+use Rattle.pkcs12.specs.declared.answers.Parsed.{Parsed}
+use Rattle.std.specs.Prelude.{Err, Ok, Result}
 
 -- a test of what a callee returned: u is its answer
 module _ {A : Type 0} where
@@ -34,16 +24,14 @@ module _ {A : Type 0} where
   given_ne a b u r x y p q e = rw (ne_eqb a b (λ z. q (p ∙ z))) e
 
   -- the iterations behind a salt, whose range the code made
-  pub salted_refused : (s : List ℕ) (p : Parts) (x y : Range) (k : ℕ) (c : Cursor) (w : MacAt) (f : Fault) (r : A)
-      (bad : Fault → A) (good : Mac → ℕ → Cursor → A)
-      → w ≡ iterations_at s p x k c → x ≡ y → w ≡ MacAt.Refused f → r ≡ bad f
+  pub salted_refused : (s : List ℕ) (p : Parts) (x y : Range) (k : ℕ) (c : Cursor) (w : Result (Parsed Mac) Fault)
+      (f : Fault) (r : A) (bad : Fault → A) (good : Mac → ℕ → Cursor → A)
+      → w ≡ iterations_at s p x k c → x ≡ y → w ≡ Err f → r ≡ bad f
       → r ≡ on_mac (iterations_at s p y k c) bad good
   salted_refused s p x y k c w f r bad good e z q h = rw (← z, ← e, q) h
 
-  pub salted_found : (s : List ℕ) (p : Parts) (x y : Range) (k : ℕ) (c : Cursor) (w : MacAt) (m : Mac) (j : ℕ)
-      (n : Cursor) (r : A) (bad : Fault → A) (good : Mac → ℕ → Cursor → A)
-      → w ≡ iterations_at s p x k c → x ≡ y → w ≡ MacAt.Found m j n → r ≡ good m j n
+  pub salted_found : (s : List ℕ) (p : Parts) (x y : Range) (k : ℕ) (c : Cursor) (w : Result (Parsed Mac) Fault)
+      (m : Parsed Mac) (r : A) (bad : Fault → A) (good : Mac → ℕ → Cursor → A)
+      → w ≡ iterations_at s p x k c → x ≡ y → w ≡ Ok m → r ≡ good m.value m.count m.next
       → r ≡ on_mac (iterations_at s p y k c) bad good
-  salted_found s p x y k c w m j n r bad good e z q h = rw (← z, ← e, q) h
-
-pub ruleset answers = (parts-answers, mac_refused, mac_found)
+  salted_found s p x y k c w m r bad good e z q h = rw (← z, ← e, q) h

@@ -1,37 +1,42 @@
 -- What an answer and the memory say of the walk.
-use mathlib.Core.Path.{◌≡◌, sym, ap, ◌∙◌}
+use mathlib.Core.Path.{◌≡◌, sym, ap, subst, ◌∙◌}
 use mathlib.Core.List.{List}
 use Prim.Native.Nat.{ℕ}
 use native.Mathlib.Omega.{arith}
+use Rattle.der.specs.Element.{on_result}
 use Rattle.der.specs.declared.Fault.{Fault}
-use Rattle.pkcs12.specs.Walk.{Walked, Refused, Went, on_answer}
-use Rattle.pkcs12.specs.declared.answers.Answer.{Answer}
-use Rattle.pkcs12.specs.declared.answers.Answer.TheVariants.{Accepted}
+use Rattle.pkcs12.specs.Walk.{Walked, Refused, Went}
+use Rattle.std.specs.Prelude.{Err, Ok, Result}
 use Rattle.load.specs.Holds.{Holds, rows_at}
-use Rattle.reader.specs.Memory.{refused_progress, Shown}
+use Rattle.reader.specs.Memory.{Shown}
 use Rattle.reader.specs.declared.rows.Progress.{Progress}
 
--- no answer is both
-pub not_both : (a : Answer) (f : Fault) → a ≡ Answer.Refused f → a ≡ Accepted → ⊥
-not_both a f p q =
-    let z : ◌≡◌ {A = ℕ} 0 1 = ap (λ (x : Answer). on_answer x (λ g. 0) 1) (sym p ∙ q) in
-    omega (arith, z)
+module _ {A : Type 0} where
+  -- no answer is both
+  pub not_both : (r : Result A Fault) (f : Fault) (y : A) → r ≡ Err f → r ≡ Ok y → ⊥
+  not_both r f y p q =
+      let z : ◌≡◌ {A = ℕ} 0 1 = ap (λ (x : Result A Fault). on_result x (λ g. 0) (λ v. 1)) (sym p ∙ q) in
+      omega (arith, z)
 
-module _ (m : List ℕ) (r : Progress) (x : Walked) where
-  -- a refusal that the code makes, and one that it hands on
-  pub shown_stop : (f : Fault) → x ≡ Refused f → r ≡ refused_progress f → Shown m r x
-  shown_stop f e i =
-      record { walk = e ∙ rw i; held = λ h. absurd (not_both r.answer f (ap (λ (y : Progress). y.answer) i) h) }
+  -- two values of one answer are the same
+  pub same_value : (x y : A) → ◌≡◌ {A = Result A Fault} (Ok x) (Ok y) → x ≡ y
+  same_value x y e = ap (λ (r : Result A Fault). on_result r (λ g. x) (λ v. v)) e
 
-  pub shown_refused : (f : Fault) → x ≡ Refused f → r.answer ≡ Answer.Refused f → Shown m r x
-  shown_refused f e i = record { walk = e ∙ rw i; held = λ h. absurd (not_both r.answer f i h) }
+module _ (m : List ℕ) (x : Walked) where
+  module _ (r : Result Progress Fault) where
+    pub shown_refused : (f : Fault) → x ≡ Refused f → r ≡ Err f → Shown m r x
+    shown_refused f e i = record { walk = e ∙ rw i; held = λ y h. absurd (not_both r f y i h) }
 
-  pub shown_went : r.answer ≡ Accepted → Holds m (rows_at m r.counts) → x ≡ Went (rows_at m r.counts) r.next
-      → Shown m r x
-  shown_went a h e = record { walk = e ∙ rw a; held = λ u. h }
+    pub walk_went : (y : Progress) → Shown m r x → r ≡ Ok y → x ≡ Went (rows_at m y.counts) y.next
+    walk_went y t a = t.walk ∙ rw a
 
-  pub walk_went : Shown m r x → r.answer ≡ Accepted → x ≡ Went (rows_at m r.counts) r.next
-  walk_went t a = t.walk ∙ rw a
+    pub walk_refused : (f : Fault) → Shown m r x → r ≡ Err f → x ≡ Refused f
+    walk_refused f t a = t.walk ∙ rw a
 
-  pub walk_refused : (f : Fault) → Shown m r x → r.answer ≡ Answer.Refused f → x ≡ Refused f
-  walk_refused f t a = t.walk ∙ rw a
+  pub shown_went : (y : Progress) → Holds m (rows_at m y.counts) → x ≡ Went (rows_at m y.counts) y.next
+      → Shown m (Ok y) x
+  shown_went y h e =
+      record {
+        walk = e;
+        held = λ z q. subst (λ (v : Progress). Holds m (rows_at m v.counts)) (same_value y z q) h;
+      }

@@ -12,8 +12,7 @@ use Rattle.der.specs.declared.Fault.{Fault}
 use Rattle.buffer.specs.Numbers.{short_buffer}
 use Rattle.pkcs12.specs.Accepted.{IsAccepted, table_from}
 use Rattle.pkcs12.specs.Walk.{read_file}
-use Rattle.pkcs12.specs.declared.answers.Answer.{Answer}
-use Rattle.pkcs12.specs.declared.answers.Answer.TheVariants.{Accepted}
+use Rattle.std.specs.Prelude.{Err, Ok}
 use Rattle.words.specs.Layout.{table_words}
 use Rattle.words.specs.Stored.{words_of}
 use Rattle.load.specs.Loaded.{table_in}
@@ -21,17 +20,17 @@ use Rattle.reader.specs.Memory.{into, read_into}
 use Rattle.reader.proofs.Filled as filled
 
 -- Memory that is shorter than a table is refused by 10 at 0, whatever the file, and stays as it was.
-pub short_is_10 : (f m : List ℕ) → length m < table_words → read_into f m ≡ into (Answer.Refused (fault short_buffer 0)) m
+pub short_is_10 : (f m : List ℕ) → length m < table_words → read_into f m ≡ into (Err (fault short_buffer 0)) m
 short_is_10 = filled.into_short
 
 module _ (f m : List ℕ) (h : table_words ≤ length m) where
   -- An accepted file leaves the words of its table, whatever was there; words behind them stay.
-  pub accepted_is_stored : IsAccepted f → read_into f m ≡ into Accepted (words_of (table_from f) ++ drop table_words m)
+  pub accepted_is_stored : IsAccepted f → read_into f m ≡ into (Ok tt) (words_of (table_from f) ++ drop table_words m)
   accepted_is_stored = filled.into_accepted f m h
 
   -- After a refused file every word of the table is 0, whatever was there; words behind them stay.
-  pub refused_is_cleared : (x : Fault) → (read_file f).answer ≡ Answer.Refused x
-      → read_into f m ≡ into (Answer.Refused x) (replicate table_words 0 ++ drop table_words m)
+  pub refused_is_cleared : (x : Fault) → (read_file f).answer ≡ Err x
+      → read_into f m ≡ into (Err x) (replicate table_words 0 ++ drop table_words m)
   refused_is_cleared = filled.into_refused f m h
 
   -- For every file the table that is loaded from the memory is the one that reading returns by value.

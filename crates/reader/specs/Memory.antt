@@ -2,15 +2,14 @@
 -- here has to be believed but `read_into`: the other calls' contracts name `read_file`.
 use Rattle.std.specs.Prelude.{true, ◌≡◌, List, ◌++◌, ℕ, ◌+◌, ◌≤◌, ◌<◌, ltb, length, drop}
 use Rattle.std.specs.Prelude.{if◌then◌else◌}
-use Rattle.der.specs.Element.{cursor, fault}
+use Rattle.der.specs.Element.{fault, on_result}
 use Rattle.der.specs.declared.Fault.{Fault}
-use Rattle.buffer.specs.Numbers.{file_bytes, short_buffer}
+use Rattle.buffer.specs.Numbers.{short_buffer}
 use Rattle.pkcs12.specs.Numbers.{safe_rows}
-use Rattle.pkcs12.specs.Table.{no_mac, table_of}
-use Rattle.pkcs12.specs.Walk.{Walked, Refused, Went, on_answer, refused, read_file}
+use Rattle.pkcs12.specs.Table.{table_of}
+use Rattle.pkcs12.specs.Walk.{Walked, Refused, Went, refused, read_file}
 use Rattle.pkcs12.specs.declared.kind.BagKind.{BagKind}
-use Rattle.pkcs12.specs.declared.answers.Answer.{Answer}
-use Rattle.pkcs12.specs.declared.answers.Answer.TheVariants.{Accepted}
+use Rattle.std.specs.Prelude.{Err, Ok, Result, ⊤}
 use Rattle.pkcs12.specs.declared.answers.Reading.{Reading}
 use Rattle.words.specs.Layout.{table_words, greatest_word}
 use Rattle.words.specs.Stored.{words_of}
@@ -22,61 +21,50 @@ use Rattle.reader.specs.declared.Summary.{Summary}
 
 -- ---- the walk
 
--- what the code requires of the bytes, of the memory and of the counts at an offset
-pub record Ready (s m : List ℕ) (k : Counts) (at : ℕ) : Type 0 where
-  pub short : length s ≤ file_bytes
+-- what the code requires of the memory and of the counts at an offset
+pub record Ready (m : List ℕ) (k : Counts) (at : ℕ) : Type 0 where
   pub held : Holds m (rows_at m k)
   pub counted : k.elements ≤ at + start_count
 
 -- the same before the row of a plain safe whose contents begin there
 pub record ReadyForSafe (s m : List ℕ) (k : Counts) (at : ℕ) : Type 0 where
-  pub short : length s ≤ file_bytes
   pub held : Holds m (rows_at m k)
   pub few : k.safes < safe_rows
   pub counted : k.elements + 4 ≤ at + start_count
   pub inside : at ≤ length s
 
 -- the same in [0] of a bag of this kind and number
-pub record Inside (s m : List ℕ) (kind : BagKind) (number : ℕ) (k : Counts) (at : ℕ) : Type 0 where
+pub record Inside (m : List ℕ) (kind : BagKind) (number : ℕ) (k : Counts) (at : ℕ) : Type 0 where
   pub held : Holds m (rows_at m k)
   pub fits : number < greatest_word
-  pub ready : is_nested kind ≡ true → Ready s m k at
-
-abbrev pub no_counts : Counts
-no_counts = record { safes = 0; bags = 0; attributes = 0; elements = 0 }
-
-abbrev pub refused_progress : Fault → Progress
-refused_progress f = record { answer = Answer.Refused f; counts = no_counts; next = cursor 0 0 }
+  pub ready : is_nested kind ≡ true → Ready m k at
 
 -- the walk that an answer and the memory show
-abbrev pub shown_in : List ℕ → Progress → Walked
-shown_in m r = on_answer r.answer Refused (Went (rows_at m r.counts) r.next)
+abbrev pub shown_in : List ℕ → Result Progress Fault → Walked
+shown_in m r = on_result r Refused (λ y. Went (rows_at m y.counts) y.next)
 
-pub record Shown (m : List ℕ) (r : Progress) (x : Walked) : Type 0 where
+pub record Shown (m : List ℕ) (r : Result Progress Fault) (x : Walked) : Type 0 where
   pub walk : x ≡ shown_in m r
-  pub held : r.answer ≡ Accepted → Holds m (rows_at m r.counts)
+  pub held : (y : Progress) → r ≡ Ok y → Holds m (rows_at m y.counts)
 
 -- ---- the whole file
 
-abbrev pub refused_summary : Fault → Summary
-refused_summary f = record { answer = Answer.Refused f; counts = no_counts; mac = no_mac }
-
 -- the reading that an answer and the memory show
-abbrev pub reading_in : List ℕ → Summary → Reading
+abbrev pub reading_in : List ℕ → Result Summary Fault → Reading
 reading_in m r =
-    on_answer r.answer refused record { answer = Accepted; table = table_of (rows_at m r.counts) r.mac }
+    on_result r refused (λ y. record { answer = Ok tt; table = table_of (rows_at m y.counts) y.mac })
 
-pub record Summed (m : List ℕ) (r : Summary) (x : Reading) : Type 0 where
+pub record Summed (m : List ℕ) (r : Result Summary Fault) (x : Reading) : Type 0 where
   pub reading : x ≡ reading_in m r
-  pub held : r.answer ≡ Accepted → Holds m (rows_at m r.counts)
+  pub held : (y : Summary) → r ≡ Ok y → Holds m (rows_at m y.counts)
 
 -- ---- what `read_into` returns, and the memory afterwards
 
 pub record Into : Type 0 where
-  pub answer : Answer
+  pub answer : Result ⊤ Fault
   pub memory : List ℕ
 
-abbrev pub into : Answer → List ℕ → Into
+abbrev pub into : Result ⊤ Fault → List ℕ → Into
 into a m = record { answer = a; memory = m }
 
 -- 10 if the memory is shorter than a table, whatever the file. Else the memory begins with the words
@@ -84,5 +72,5 @@ into a m = record { answer = a; memory = m }
 -- one has the empty table (Rule 5.38).
 unfoldable pub read_into : List ℕ → List ℕ → Into
 read_into f m =
-    if ltb (length m) table_words then into (Answer.Refused (fault short_buffer 0)) m else
+    if ltb (length m) table_words then into (Err (fault short_buffer 0)) m else
     into (read_file f).answer (words_of (read_file f).table ++ drop table_words m)

@@ -8,33 +8,30 @@ ghost use Rattle.pkcs12.specs.Walk.{range_of, on_kind};
 ghost use Rattle.reader.specs.Steps.{SmallParts, attribute_values_at, attribute_parts_at, set_head_at, leaf_of};
 ghost use Rattle.reader.specs.Steps.{bag_value_at, bag_of_at, bag_head_at, is_nested};
 
-use der::{Checked, Cursor, Element, Fault};
-use pkcs12::{BagKind, Parts, PartsAt};
+use der::{Cursor, Fault};
+use parts::File;
+use pkcs12::{BagKind, Parsed, Parts};
 use range::Range;
 
-// The elements of a bag before what is in [0]: SEQUENCE, bag_id, [0].
+// The elements of a bag before what is in [0]: SEQUENCE, bagId, [0].
 const HEAD_COUNT: usize = 3;
 
 // What is in a bag before its attributes: `value` is what is left in [0], or the safe contents in it.
 #[derive(Clone, Copy)]
-pub(crate) enum Bag {
-    Found {
-        kind: BagKind,
-        parts: Parts,
-        count: usize,
-        value: Cursor,
-        set: Cursor,
-        next: Cursor,
-    },
-    Refused(Fault),
+pub(crate) struct Bag {
+    pub(crate) kind: BagKind,
+    pub(crate) parts: Parts,
+    pub(crate) count: usize,
+    pub(crate) value: Cursor,
+    pub(crate) set: Cursor,
+    pub(crate) next: Cursor,
 }
 
-// Where the attributes of a bag are.
+// Where the attributes of a bag are: in the body of a set.
 #[derive(Clone, Copy)]
-pub(crate) enum Set {
-    None,
-    Found { body: Cursor, next: Cursor },
-    Refused(Fault),
+pub(crate) struct Set {
+    pub(crate) body: Cursor,
+    pub(crate) next: Cursor,
 }
 
 // The range of a body in a file: its offsets fit.
@@ -48,229 +45,152 @@ fn range_of(body: Cursor) -> Range
 }
 
 // The values of an attribute whose identifier has body i; n is past the attribute.
-fn attribute_values(s: &[u8], i: Cursor, m: Cursor, n: Cursor) -> PartsAt
-    requires { (length s.now ≤ file_bytes) × (i.at ≤ i.end) × (i.end ≤ length s.now) }
-    ensures { result ≡ attribute_values_at s.now i m n }
+fn attribute_values(s: File, i: Cursor, m: Cursor, n: Cursor) -> Result<Parsed<Parts>, Fault>
+    requires { (i.at ≤ i.end) × (i.end ≤ length s.bytes.now) }
+    ensures { result ≡ attribute_values_at s.entry.bytes.now i m n }
 {
-    match m.expect(s, der::SET) {
-        Element::Refused(f) => PartsAt::Refused(f),
-        Element::Found { tag: _, body, next } => match body.elements(s, der::OPAQUE_LEVELS) {
-            Checked::Refused(f) => PartsAt::Refused(f),
-            Checked::Passed { count, next: _ } => match next.finish() {
-                Checked::Refused(f) => PartsAt::Refused(f),
-                Checked::Passed { count: _, next: _ } => {
-                    let identifier = range_of(i);
-                    let parameters = Range::EMPTY;
-                    let value = range_of(body);
-                    let parts = Parts {
-                        identifier,
-                        parameters,
-                        value,
-                    };
-                    let more = count + 3;
-                    PartsAt::Found {
-                        parts,
-                        count: more,
-                        next: n,
-                    }
-                }
-            },
-        },
-    }
+    let set = m.expect(s.bytes, der::SET)?;
+    let values = set.body.elements(s.bytes, der::OPAQUE_LEVELS)?;
+    set.next.finish()?;
+    let parts = Parts {
+        identifier: range_of(i),
+        parameters: Range::EMPTY,
+        value: range_of(set.body),
+    };
+    Ok(Parsed {
+        value: parts,
+        count: values.count + 3,
+        next: n,
+    })
 }
 
 // An attribute; it is refused if the table is full.
-pub(crate) fn attribute(s: &[u8], full: bool, c: Cursor) -> PartsAt
-    requires { length s.now ≤ file_bytes }
-    ensures { result ≡ attribute_parts_at s.now full c }
+pub(crate) fn attribute(s: File, full: bool, c: Cursor) -> Result<Parsed<Parts>, Fault>
+    ensures { result ≡ attribute_parts_at s.entry.bytes.now full c }
 {
-    match c.expect(s, der::SEQUENCE) {
-        Element::Refused(f) => PartsAt::Refused(f),
-        Element::Found { tag: _, body, next } => {
-            if full {
-                let at = c.at;
-                return PartsAt::Refused(Fault {
-                    number: der::TOO_MANY,
-                    offset: at,
-                });
-            }
-            match body.identifier(s) {
-                Element::Refused(f) => PartsAt::Refused(f),
-                Element::Found {
-                    tag: _,
-                    body: i,
-                    next: m,
-                } => attribute_values(s, i, m, next),
-            }
-        }
+    let whole = c.expect(s.bytes, der::SEQUENCE)?;
+    if full {
+        return Err(Fault {
+            number: der::TOO_MANY,
+            offset: c.at,
+        });
     }
+    let id = whole.body.identifier(s.bytes)?;
+    attribute_values(s, id.body, id.next, whole.next)
 }
 
-// The set at c, behind [0] of the bag, in whose body e is left.
-pub(crate) fn set_at(s: &[u8], e: Cursor, c: Cursor) -> Set
+// The set at c, or none, behind [0] of the bag, in whose body e is left.
+pub(crate) fn set_at(s: &[u8], e: Cursor, c: Cursor) -> Result<Option<Set>, Fault>
     ensures { result ≡ set_head_at s.now e c }
 {
-    match e.finish() {
-        Checked::Refused(f) => Set::Refused(f),
-        Checked::Passed { count: _, next: _ } => {
-            match c.expect(s, der::SET) {
-                Element::Found { tag: _, body, next } => Set::Found { body, next },
-                Element::Refused(f) => {
-                    if c.tag(s) == der::SET {
-                        return Set::Refused(f);
-                    }
-                    match c.finish() {
-                        Checked::Refused(g) => Set::Refused(g),
-                        Checked::Passed { count: _, next: _ } => Set::None,
-                    }
-                }
-            }
-        }
+    e.finish()?;
+    if c.tag(s) == der::SET {
+        let found = c.expect(s, der::SET)?;
+        return Ok(Some(Set {
+            body: found.body,
+            next: found.next,
+        }));
     }
+    c.finish()?;
+    Ok(None)
 }
 
 // A bag that holds no bags, from the parts of its value.
-fn leaf(kind: BagKind, value: PartsAt, set: Cursor, next: Cursor) -> Bag
+fn leaf(
+    kind: BagKind,
+    value: Result<Parsed<Parts>, Fault>,
+    set: Cursor,
+    next: Cursor,
+) -> Result<Bag, Fault>
     requires { SmallParts value }
     ensures { result ≡ leaf_of kind value set next }
 {
-    match value {
-        PartsAt::Refused(f) => Bag::Refused(f),
-        PartsAt::Found {
-            parts,
-            count,
-            next: end,
-        } => {
-            let more = count + 3;
-            Bag::Found {
-                kind,
-                parts,
-                count: more,
-                value: end,
-                set,
-                next,
-            }
-        }
-    }
+    let found = value?;
+    Ok(Bag {
+        kind,
+        parts: found.value,
+        count: found.count + HEAD_COUNT,
+        value: found.next,
+        set,
+        next,
+    })
 }
 
 // What is in [0], with body v, of a bag of this kind.
-fn bag_value(s: &[u8], kind: BagKind, v: Cursor, set: Cursor, next: Cursor) -> Bag
-    requires { length s.now ≤ file_bytes }
-    ensures { result ≡ bag_value_at s.now kind v set next }
+fn bag_value(s: File, kind: BagKind, v: Cursor, set: Cursor, next: Cursor) -> Result<Bag, Fault>
+    ensures { result ≡ bag_value_at s.entry.bytes.now kind v set next }
 {
     match kind {
-        // not met: the bag_id was refused
-        BagKind::None => {
-            let at = v.at;
-            Bag::Refused(Fault {
-                number: pkcs12::NOT_SERVED,
-                offset: at,
-            })
-        }
-        BagKind::Key => leaf(kind, parts::key(s, v), set, next),
-        BagKind::ShroudedKey => leaf(kind, parts::sealed(s, v), set, next),
-        BagKind::Certificate => leaf(kind, parts::typed(true, s, v), set, next),
-        BagKind::Crl => leaf(kind, parts::typed(false, s, v), set, next),
-        BagKind::Secret => leaf(kind, parts::typed(false, s, v), set, next),
-        BagKind::Nested => {
-            let parts = Parts::EMPTY;
-            Bag::Found {
-                kind,
-                parts,
-                count: HEAD_COUNT,
-                value: v,
-                set,
-                next,
-            }
-        }
+        // not met: the bagId was refused
+        BagKind::None => Err(Fault {
+            number: pkcs12::NOT_SERVED,
+            offset: v.at,
+        }),
+        BagKind::Key => leaf(kind, parts::key(s.bytes, v), set, next),
+        BagKind::ShroudedKey => leaf(kind, parts::sealed(s.bytes, v), set, next),
+        BagKind::Certificate => leaf(kind, parts::typed(true, s.bytes, v), set, next),
+        BagKind::Crl => leaf(kind, parts::typed(false, s.bytes, v), set, next),
+        BagKind::Secret => leaf(kind, parts::typed(false, s.bytes, v), set, next),
+        BagKind::Nested => Ok(Bag {
+            kind,
+            parts: Parts::EMPTY,
+            count: HEAD_COUNT,
+            value: v,
+            set,
+            next,
+        }),
     }
 }
 
-// The kind that a bag_id names, with body i.
+// The kind that a bagId names, with body i.
 fn kind_of(s: &[u8], i: Cursor) -> BagKind
     requires { (i.at ≤ i.end) × (i.end ≤ length s.now) }
     ensures { result ≡ kind_of (bytes_of s.now i) }
 {
-    let from = i.at;
-    let to = i.end;
-    BagKind::of(&s[from..to])
+    BagKind::of(&s[i.at..i.end])
 }
 
-// Whether a bag_id names no kind.
+// Whether a bagId names no kind.
 fn is_none(kind: BagKind) -> bool
     ensures { result ≡ on_kind kind true false }
 {
-    match kind {
-        BagKind::None => true,
-        BagKind::Key => false,
-        BagKind::ShroudedKey => false,
-        BagKind::Certificate => false,
-        BagKind::Crl => false,
-        BagKind::Secret => false,
-        BagKind::Nested => false,
-    }
+    matches!(kind, BagKind::None)
 }
 
 // Whether a bag of this kind holds bags.
 pub(crate) fn is_nested(kind: BagKind) -> bool
     ensures { result ≡ is_nested kind }
 {
-    match kind {
-        BagKind::None => false,
-        BagKind::Key => false,
-        BagKind::ShroudedKey => false,
-        BagKind::Certificate => false,
-        BagKind::Crl => false,
-        BagKind::Secret => false,
-        BagKind::Nested => true,
-    }
+    matches!(kind, BagKind::Nested)
 }
 
-// The bag whose bag_id is at `at`, with body i; n is past the bag.
-fn bag_of(s: &[u8], at: usize, i: Cursor, m: Cursor, n: Cursor) -> Bag
-    requires { (length s.now ≤ file_bytes) × (i.at ≤ i.end) × (i.end ≤ length s.now) }
-    ensures { result ≡ bag_of_at s.now at i m n }
+// The bag whose bagId is at `at`, with body i; n is past the bag.
+fn bag_of(s: File, at: usize, i: Cursor, m: Cursor, n: Cursor) -> Result<Bag, Fault>
+    requires { (i.at ≤ i.end) × (i.end ≤ length s.bytes.now) }
+    ensures { result ≡ bag_of_at s.entry.bytes.now at i m n }
 {
-    let kind = kind_of(s, i);
+    let kind = kind_of(s.bytes, i);
     if is_none(kind) {
-        return Bag::Refused(Fault {
+        return Err(Fault {
             number: pkcs12::NOT_SERVED,
             offset: at,
         });
     }
-    match m.expect(s, der::CONTEXT_0) {
-        Element::Refused(f) => Bag::Refused(f),
-        Element::Found { tag: _, body, next } => bag_value(s, kind, body, next, n),
-    }
+    let found = m.expect(s.bytes, der::CONTEXT_0)?;
+    bag_value(s, kind, found.body, found.next, n)
 }
 
 // A bag up to its attributes; it is refused if the table is full.
-pub(crate) fn bag_at(s: &[u8], full: bool, c: Cursor) -> Bag
-    requires { length s.now ≤ file_bytes }
-    ensures { result ≡ bag_head_at s.now full c }
+pub(crate) fn bag_at(s: File, full: bool, c: Cursor) -> Result<Bag, Fault>
+    ensures { result ≡ bag_head_at s.entry.bytes.now full c }
 {
-    match c.expect(s, der::SEQUENCE) {
-        Element::Refused(f) => Bag::Refused(f),
-        Element::Found { tag: _, body, next } => {
-            if full {
-                let at = c.at;
-                return Bag::Refused(Fault {
-                    number: der::TOO_MANY,
-                    offset: at,
-                });
-            }
-            match body.identifier(s) {
-                Element::Refused(f) => Bag::Refused(f),
-                Element::Found {
-                    tag: _,
-                    body: i,
-                    next: m,
-                } => {
-                    let at = body.at;
-                    bag_of(s, at, i, m, next)
-                }
-            }
-        }
+    let whole = c.expect(s.bytes, der::SEQUENCE)?;
+    if full {
+        return Err(Fault {
+            number: der::TOO_MANY,
+            offset: c.at,
+        });
     }
+    let id = whole.body.identifier(s.bytes)?;
+    bag_of(s, whole.body.at, id.body, id.next, whole.next)
 }

@@ -8,80 +8,72 @@ ghost use Rattle.reader.specs.Steps.{pfx_head_at, opened_safes_at, opened_value_
 ghost use Rattle.reader.specs.Steps.{salted_at, last_at, close_at};
 
 use crate::safes;
-use crate::safes::Octets;
-use der::{Checked, Cursor, Element, Fault, Integer};
-use pkcs12::{Answer, Mac, MacAt, Parts, PartsAt};
+use der::{Cursor, Fault};
+use parts::File;
+use pkcs12::{Mac, Parsed, Parts};
 use range::Range;
 
 // The cursors at the outer ContentInfo and past the PFX.
 #[derive(Clone, Copy)]
-enum Outer {
-    Found { body: Cursor, next: Cursor },
-    Refused(Fault),
+struct Outer {
+    body: Cursor,
+    next: Cursor,
 }
 
 // The AuthenticatedSafe's body, in the MAC input; what is left behind it, behind the OCTET STRING
 // and behind [0]; the MAC; and what is left of the file behind the PFX.
 #[derive(Clone, Copy)]
-pub(crate) enum Opened {
-    Found {
-        input: Cursor,
-        body: Cursor,
-        safes: Cursor,
-        string: Cursor,
-        content: Cursor,
-        mac: Cursor,
-        file: Cursor,
-    },
-    Refused(Fault),
+pub(crate) struct Opened {
+    pub(crate) input: Cursor,
+    pub(crate) body: Cursor,
+    pub(crate) safes: Cursor,
+    pub(crate) string: Cursor,
+    pub(crate) content: Cursor,
+    pub(crate) mac: Cursor,
+    pub(crate) file: Cursor,
 }
 
-fn pfx(s: &[u8], c: Cursor) -> Outer
+fn pfx(s: &[u8], c: Cursor) -> Result<Outer, Fault>
     ensures { result ≡ pfx_head_at s.now c }
 {
-    match c.expect(s, der::SEQUENCE) {
-        Element::Refused(f) => Outer::Refused(f),
-        Element::Found { tag: _, body, next } => match body.integer(s) {
-            Integer::Refused(f) => Outer::Refused(f),
-            Integer::Value { value, next: m } => {
-                if value == pkcs12::PFX_VERSION {
-                    return Outer::Found { body: m, next };
-                }
-                let at = body.at;
-                Outer::Refused(Fault {
-                    number: der::CONTENT,
-                    offset: at,
-                })
-            }
-        },
+    let whole = c.expect(s, der::SEQUENCE)?;
+    let version = whole.body.integer(s)?;
+    if version.value == pkcs12::PFX_VERSION {
+        return Ok(Outer {
+            body: version.next,
+            next: whole.next,
+        });
     }
+    Err(Fault {
+        number: der::CONTENT,
+        offset: whole.body.at,
+    })
 }
 
-fn opened_safes(s: &[u8], c: Cursor, mac: Cursor, file: Cursor) -> Opened
+fn opened_safes(s: &[u8], c: Cursor, mac: Cursor, file: Cursor) -> Result<Opened, Fault>
     ensures { result ≡ opened_safes_at s.now c mac file }
 {
-    match safes::data(s, c) {
-        Octets::Refused(f) => Opened::Refused(f),
-        Octets::Found {
-            body: input,
-            string,
-            content,
-        } => match input.expect(s, der::SEQUENCE) {
-            Element::Refused(f) => Opened::Refused(f),
-            Element::Found { tag: _, body, next } => Opened::Found {
-                input,
-                body,
-                safes: next,
-                string,
-                content,
-                mac,
-                file,
-            },
-        },
-    }
+    let octets = safes::data(s, c)?;
+    let found = octets.body.expect(s, der::SEQUENCE)?;
+    Ok(Opened {
+        input: octets.body,
+        body: found.body,
+        safes: found.next,
+        string: octets.string,
+        content: octets.content,
+        mac,
+        file,
+    })
 }
 
-fn opened_value(s: &[u8], i: Cursor, at: usize, c: Cursor, mac: Cursor, file: Cursor) -> Opened
+fn opened_value(
+    s: &[u8],
+    i: Cursor,
+    at: usize,
+    c: Cursor,
+    mac: Cursor,
+    file: Cursor,
+) -> Result<Opened, Fault>
     requires { (i.at ≤ i.end) × (i.end ≤ length s.now) }
     ensures { result ≡ opened_value_at s.now (bytes_of s.now i) at c mac file }
 {
@@ -89,181 +81,129 @@ fn opened_value(s: &[u8], i: Cursor, at: usize, c: Cursor, mac: Cursor, file: Cu
         return opened_safes(s, c, mac, file);
     }
     if range::named(s, i, &pkcs12::SIGNED_DATA) {
-        return Opened::Refused(Fault {
+        return Err(Fault {
             number: pkcs12::NOT_SERVED,
             offset: at,
         });
     }
-    Opened::Refused(Fault {
+    Err(Fault {
         number: der::CONTENT,
         offset: at,
     })
 }
 
-fn opened_info(s: &[u8], c: Cursor, file: Cursor) -> Opened
+fn opened_info(s: &[u8], c: Cursor, file: Cursor) -> Result<Opened, Fault>
     ensures { result ≡ opened_info_at s.now c file }
 {
-    match c.expect(s, der::SEQUENCE) {
-        Element::Refused(f) => Opened::Refused(f),
-        Element::Found { tag: _, body, next } => match body.identifier(s) {
-            Element::Refused(f) => Opened::Refused(f),
-            Element::Found {
-                tag: _,
-                body: i,
-                next: m,
-            } => {
-                let at = body.at;
-                opened_value(s, i, at, m, next, file)
-            }
-        },
-    }
+    let whole = c.expect(s, der::SEQUENCE)?;
+    let id = whole.body.identifier(s)?;
+    opened_value(s, id.body, whole.body.at, id.next, whole.next, file)
 }
 
-pub(crate) fn open(s: &[u8], c: Cursor) -> Opened
+pub(crate) fn open(s: &[u8], c: Cursor) -> Result<Opened, Fault>
     ensures { result ≡ open_at s.now c }
 {
-    match pfx(s, c) {
-        Outer::Refused(f) => Opened::Refused(f),
-        Outer::Found { body, next } => opened_info(s, body, next),
-    }
+    let outer = pfx(s, c)?;
+    opened_info(s, outer.body, outer.next)
 }
 
 // The iterations that are written at c.
-fn stated(s: &[u8], parts: Parts, salt: Range, count: usize, c: Cursor) -> MacAt
+fn stated(
+    s: &[u8],
+    parts: Parts,
+    salt: Range,
+    count: usize,
+    c: Cursor,
+) -> Result<Parsed<Mac>, Fault>
     requires { count ≤ file_bytes + 2 }
     ensures { result ≡ stated_at s.now parts salt count c }
 {
-    match c.integer(s) {
-        Integer::Refused(f) => MacAt::Refused(f),
-        Integer::Value { value, next } => {
-            if value <= pkcs12::DEFAULT_ITERATIONS {
-                let at = c.at;
-                return MacAt::Refused(Fault {
-                    number: der::CONTENT,
-                    offset: at,
-                });
-            }
-            match next.finish() {
-                Checked::Refused(f) => MacAt::Refused(f),
-                Checked::Passed { count: _, next: _ } => {
-                    let more = count + 1;
-                    let mac = Mac {
-                        parts,
-                        salt,
-                        iterations: value,
-                    };
-                    MacAt::Found {
-                        mac,
-                        count: more,
-                        next,
-                    }
-                }
-            }
-        }
+    let found = c.integer(s)?;
+    if found.value <= pkcs12::DEFAULT_ITERATIONS {
+        return Err(Fault {
+            number: der::CONTENT,
+            offset: c.at,
+        });
     }
+    found.next.finish()?;
+    let mac = Mac {
+        parts,
+        salt,
+        iterations: found.value,
+    };
+    Ok(Parsed {
+        value: mac,
+        count: count + 1,
+        next: found.next,
+    })
 }
 
-fn iterations(s: &[u8], parts: Parts, salt: Range, count: usize, c: Cursor) -> MacAt
+fn iterations(
+    s: &[u8],
+    parts: Parts,
+    salt: Range,
+    count: usize,
+    c: Cursor,
+) -> Result<Parsed<Mac>, Fault>
     requires { count ≤ file_bytes + 2 }
     ensures { result ≡ iterations_at s.now parts salt count c }
 {
     if c.tag(s) == der::INTEGER {
         return stated(s, parts, salt, count, c);
     }
-    match c.finish() {
-        Checked::Refused(f) => MacAt::Refused(f),
-        Checked::Passed { count: _, next: _ } => {
-            let mac = Mac {
-                parts,
-                salt,
-                iterations: pkcs12::DEFAULT_ITERATIONS,
-            };
-            MacAt::Found {
-                mac,
-                count,
-                next: c,
-            }
-        }
-    }
+    c.finish()?;
+    let mac = Mac {
+        parts,
+        salt,
+        iterations: pkcs12::DEFAULT_ITERATIONS,
+    };
+    Ok(Parsed {
+        value: mac,
+        count,
+        next: c,
+    })
 }
 
-fn salted(s: &[u8], parts: Parts, count: usize, m: Cursor, n: Cursor) -> MacAt
-    requires { (length s.now ≤ file_bytes) × (count ≤ file_bytes) }
-    ensures { result ≡ salted_at s.now parts count m n }
+fn salted(s: File, parts: Parts, count: usize, m: Cursor, n: Cursor) -> Result<Parsed<Mac>, Fault>
+    requires { count ≤ file_bytes }
+    ensures { result ≡ salted_at s.entry.bytes.now parts count m n }
 {
-    match m.octet_string(s) {
-        Element::Refused(f) => MacAt::Refused(f),
-        Element::Found { tag: _, body, next } => {
-            let salt = Range::of(body);
-            let more = count + 2;
-            match iterations(s, parts, salt, more, next) {
-                MacAt::Refused(f) => MacAt::Refused(f),
-                MacAt::Found {
-                    mac,
-                    count: all,
-                    next: _,
-                } => MacAt::Found {
-                    mac,
-                    count: all,
-                    next: n,
-                },
-            }
-        }
-    }
+    let octets = m.octet_string(s.bytes)?;
+    let salt = Range::of(octets.body);
+    let found = iterations(s.bytes, parts, salt, count + 2, octets.next)?;
+    Ok(Parsed {
+        value: found.value,
+        count: found.count,
+        next: n,
+    })
 }
 
-fn mac(s: &[u8], c: Cursor) -> MacAt
-    requires { length s.now ≤ file_bytes }
-    ensures { result ≡ mac_at s.now c }
+fn mac(s: File, c: Cursor) -> Result<Parsed<Mac>, Fault>
+    ensures { result ≡ mac_at s.entry.bytes.now c }
 {
-    match c.expect(s, der::SEQUENCE) {
-        Element::Refused(f) => MacAt::Refused(f),
-        Element::Found { tag: _, body, next } => match parts::sealed(s, body) {
-            PartsAt::Refused(f) => MacAt::Refused(f),
-            PartsAt::Found {
-                parts,
-                count,
-                next: m,
-            } => salted(s, parts, count, m, next),
-        },
-    }
+    let whole = c.expect(s.bytes, der::SEQUENCE)?;
+    let digest = parts::sealed(s.bytes, whole.body)?;
+    salted(s, digest.value, digest.count, digest.next, whole.next)
 }
 
-fn last(s: &[u8], c: Cursor, file: Cursor) -> MacAt
-    requires { length s.now ≤ file_bytes }
-    ensures { result ≡ last_at s.now c file }
+fn last(s: File, c: Cursor, file: Cursor) -> Result<Parsed<Mac>, Fault>
+    ensures { result ≡ last_at s.entry.bytes.now c file }
 {
-    let at = c.at;
-    let end = c.end;
-    if end <= at {
-        return MacAt::Refused(Fault {
+    if c.end <= c.at {
+        return Err(Fault {
             number: pkcs12::NOT_SERVED,
-            offset: end,
+            offset: c.end,
         });
     }
-    match mac(s, c) {
-        MacAt::Refused(f) => MacAt::Refused(f),
-        MacAt::Found { mac, count, next } => match safes::both(next, file) {
-            Checked::Refused(f) => MacAt::Refused(f),
-            Checked::Passed { count: _, next: _ } => MacAt::Found { mac, count, next },
-        },
-    }
+    let found = mac(s, c)?;
+    safes::both(found.next, file)?;
+    Ok(found)
 }
 
-pub(crate) fn close(
-    s: &[u8],
-    answer: Answer,
-    safes: Cursor,
-    string: Cursor,
-    content: Cursor,
-    mac: Cursor,
-    file: Cursor,
-) -> MacAt
-    requires { length s.now ≤ file_bytes }
-    ensures { result ≡ close_at s.now answer safes string content mac file }
+// What follows the safes of an opened file: they end what they are in, and the MAC is behind them.
+pub(crate) fn close(s: File, o: Opened) -> Result<Parsed<Mac>, Fault>
+    ensures { result ≡ close_at s.entry.bytes.now o.safes o.string o.content o.mac o.file }
 {
-    match safes::closed(answer, safes, string, content) {
-        Checked::Refused(f) => MacAt::Refused(f),
-        Checked::Passed { count: _, next: _ } => last(s, mac, file),
-    }
+    safes::closed(o.safes, o.string, o.content)?;
+    last(s, o.mac, o.file)
 }

@@ -7,7 +7,7 @@ ghost use Rattle.pkcs12.specs.Report.{answer_report};
 ghost use Rattle.pkcs12.specs.Walk.{read_file};
 ghost use Rattle.words.specs.Layout.{table_words};
 ghost use Rattle.words.specs.Stored.{words_of};
-ghost use Rattle.reader.specs.Memory.{refused_summary, Summed, read_into};
+ghost use Rattle.reader.specs.Memory.{Summed, read_into};
 
 mod bags;
 mod file;
@@ -15,8 +15,8 @@ mod rows;
 mod safes;
 
 use der::{Cursor, Fault};
-use file::Opened;
-use pkcs12::{Answer, Mac, MacAt, Reading};
+use parts::File;
+use pkcs12::{Mac, Reading};
 use words::{Counts, put};
 
 // A file that is too long is refused at its start, and so is memory that is too short for a table.
@@ -33,102 +33,58 @@ const SHORT: Fault = Fault {
 // What was read of the whole file: the counts of the rows in the memory, and the MAC.
 #[derive(Clone, Copy)]
 struct Summary {
-    answer: Answer,
     counts: Counts,
     mac: Mac,
 }
 
-fn refused(fault: Fault) -> Summary
-    ensures { result ≡ refused_summary fault }
-{
-    let counts = Counts {
-        safes: 0,
-        bags: 0,
-        attributes: 0,
-        elements: 0,
-    };
-    let mac = Mac::EMPTY;
-    Summary {
-        answer: Answer::Refused(fault),
-        counts,
-        mac,
-    }
-}
-
 // Reads a file; its rows are in the memory.
-fn walk(file: &[u8], memory: &mut [u16]) -> Summary
+fn walk(file: &[u8], memory: &mut [u16]) -> Result<Summary, Fault>
     requires { table_words ≤ length memory.old }
     ensures { Summed memory.new result (read_file file.now) }
 {
-    if buffer::FILE_BYTES < file.len() {
-        return refused(LONG);
-    }
-    let whole = Cursor::over(file);
-    match file::open(file, whole) {
-        Opened::Refused(f) => refused(f),
-        Opened::Found {
-            input,
-            body,
-            safes,
-            string,
-            content,
-            mac,
-            file: rest,
-        } => {
-            let all = rows::safes(file, memory, input, body);
-            let answer = all.answer;
-            match file::close(file, answer, safes, string, content, mac, rest) {
-                MacAt::Refused(f) => refused(f),
-                MacAt::Found {
-                    mac: fields,
-                    count,
-                    next: _,
-                } => {
-                    let mut counts = all.counts;
-                    let elements = counts.elements + count;
-                    counts.elements = elements;
-                    Summary {
-                        answer: Answer::Accepted,
-                        counts,
-                        mac: fields,
-                    }
-                }
-            }
-        }
-    }
+    let Some(s) = File::new(file) else {
+        return Err(LONG);
+    };
+    let opened = file::open(s.bytes, Cursor::over(s.bytes))?;
+    let all = rows::safes(s, memory, opened.input, opened.body)?;
+    let end = file::close(s, opened)?;
+    let mut counts = all.counts;
+    counts.elements += end.count;
+    Ok(Summary {
+        counts,
+        mac: end.value,
+    })
 }
 
 // Reads a file into the words of its table, which are 0 if the file is refused.
-fn fill(file: &[u8], memory: &mut [u16]) -> Answer
+fn fill(file: &[u8], memory: &mut [u16]) -> Result<(), Fault>
     requires { length memory.old ≡ table_words }
     ensures value { result ≡ (read_file file.now).answer }
     ensures memory_after { memory.new ≡ words_of (read_file file.now).table }
     ensures bytes { Bytes file.now }
 {
-    let all = walk(file, memory);
-    let answer = all.answer;
-    match answer {
-        Answer::Refused(_) => {
+    match walk(file, memory) {
+        Err(fault) => {
             put::clear(memory);
-            answer
+            Err(fault)
         }
-        Answer::Accepted => {
+        Ok(all) => {
             put::finish(memory, all.counts, all.mac);
-            answer
+            Ok(())
         }
     }
 }
 
 // The answer for a file, and its table as words at the front of the memory; 10 if the memory is
 // shorter than a table.
-pub fn read_into(file: &[u8], memory: &mut [u16]) -> Answer
+pub fn read_into(file: &[u8], memory: &mut [u16]) -> Result<(), Fault>
     ensures value { result ≡ (read_into file.now memory.old).answer }
     ensures report { answer_report result ≡ answer_report (read_into file.now memory.old).answer }
     ensures memory_after { memory.new ≡ (read_into file.now memory.old).memory }
     ensures bytes { Bytes file.now }
 {
     if memory.len() < words::TABLE_WORDS {
-        return Answer::Refused(SHORT);
+        return Err(SHORT);
     }
     fill(file, &mut memory[..words::TABLE_WORDS])
 }

@@ -1,22 +1,19 @@
 // Safes up to the rows that they make: the ContentInfo of each, and what is in it.
 ghost use Rattle.std.specs.Prelude.{◌≡◌, ◌≤◌, length};
 ghost use Rattle.der.specs.Content.{bytes_of};
-ghost use Rattle.buffer.specs.Numbers.{file_bytes};
 ghost use Rattle.reader.specs.Steps.{data_head_at, both_at, plain_head_at, encrypted_head_at, safe_of_at, safe_head_at};
 ghost use Rattle.reader.specs.Steps.{closed_at};
 
-use der::{Checked, Cursor, Element, Fault};
-use pkcs12::{Answer, Parts, PartsAt};
+use der::{Checked, Cursor, Fault};
+use parts::File;
+use pkcs12::Parts;
 
 // The body of a data OCTET STRING in [0], with what is left behind the string and behind [0].
 #[derive(Clone, Copy)]
-pub(crate) enum Octets {
-    Found {
-        body: Cursor,
-        string: Cursor,
-        content: Cursor,
-    },
-    Refused(Fault),
+pub(crate) struct Octets {
+    pub(crate) body: Cursor,
+    pub(crate) string: Cursor,
+    pub(crate) content: Cursor,
 }
 
 // A safe up to its bags.
@@ -33,151 +30,95 @@ pub(crate) enum Contents {
         count: usize,
         next: Cursor,
     },
-    Refused(Fault),
 }
 
-pub(crate) fn data(s: &[u8], c: Cursor) -> Octets
+pub(crate) fn data(s: &[u8], c: Cursor) -> Result<Octets, Fault>
     ensures { result ≡ data_head_at s.now c }
 {
-    match c.expect(s, der::CONTEXT_0) {
-        Element::Refused(f) => Octets::Refused(f),
-        Element::Found {
-            tag: _,
-            body: v,
-            next: content,
-        } => match v.octet_string(s) {
-            Element::Refused(f) => Octets::Refused(f),
-            Element::Found {
-                tag: _,
-                body,
-                next: string,
-            } => Octets::Found {
-                body,
-                string,
-                content,
-            },
-        },
-    }
+    let outer = c.expect(s, der::CONTEXT_0)?;
+    let inner = outer.body.octet_string(s)?;
+    Ok(Octets {
+        body: inner.body,
+        string: inner.next,
+        content: outer.next,
+    })
 }
 
 // Whether both parents are at their end.
-pub(crate) fn both(a: Cursor, b: Cursor) -> Checked
+pub(crate) fn both(a: Cursor, b: Cursor) -> Result<Checked, Fault>
     ensures { result ≡ both_at a b }
 {
-    match a.finish() {
-        Checked::Refused(f) => Checked::Refused(f),
-        Checked::Passed { count: _, next: _ } => b.finish(),
-    }
+    a.finish()?;
+    b.finish()
 }
 
-fn plain(s: &[u8], c: Cursor, n: Cursor) -> Contents
+fn plain(s: &[u8], c: Cursor, n: Cursor) -> Result<Contents, Fault>
     ensures { result ≡ plain_head_at s.now c n }
 {
-    match data(s, c) {
-        Octets::Refused(f) => Contents::Refused(f),
-        Octets::Found {
-            body,
-            string,
-            content,
-        } => Contents::Plain {
-            body,
-            string,
-            content,
-            next: n,
-        },
-    }
+    let found = data(s, c)?;
+    Ok(Contents::Plain {
+        body: found.body,
+        string: found.string,
+        content: found.content,
+        next: n,
+    })
 }
 
-fn encrypted(s: &[u8], c: Cursor, n: Cursor) -> Contents
-    requires { length s.now ≤ file_bytes }
-    ensures { result ≡ encrypted_head_at s.now c n }
+fn encrypted(s: File, c: Cursor, n: Cursor) -> Result<Contents, Fault>
+    ensures { result ≡ encrypted_head_at s.entry.bytes.now c n }
 {
-    match c.expect(s, der::CONTEXT_0) {
-        Element::Refused(f) => Contents::Refused(f),
-        Element::Found { tag: _, body, next } => match parts::encrypted(s, body) {
-            PartsAt::Refused(f) => Contents::Refused(f),
-            PartsAt::Found {
-                parts,
-                count,
-                next: e,
-            } => match both(e, next) {
-                Checked::Refused(f) => Contents::Refused(f),
-                Checked::Passed { count: _, next: _ } => {
-                    let more = count + 3;
-                    Contents::Encrypted {
-                        parts,
-                        count: more,
-                        next: n,
-                    }
-                }
-            },
-        },
-    }
+    let outer = c.expect(s.bytes, der::CONTEXT_0)?;
+    let found = parts::encrypted(s.bytes, outer.body)?;
+    both(found.next, outer.next)?;
+    Ok(Contents::Encrypted {
+        parts: found.value,
+        count: found.count + 3,
+        next: n,
+    })
 }
 
 // What follows the type of a safe; the type is at `at`, with body i, and n is past the safe.
-fn safe_value(s: &[u8], i: Cursor, at: usize, c: Cursor, n: Cursor) -> Contents
-    requires { (length s.now ≤ file_bytes) × (i.at ≤ i.end) × (i.end ≤ length s.now) }
-    ensures { result ≡ safe_of_at s.now (bytes_of s.now i) at c n }
+fn safe_value(s: File, i: Cursor, at: usize, c: Cursor, n: Cursor) -> Result<Contents, Fault>
+    requires { (i.at ≤ i.end) × (i.end ≤ length s.bytes.now) }
+    ensures { result ≡ safe_of_at s.entry.bytes.now (bytes_of s.entry.bytes.now i) at c n }
 {
-    if range::named(s, i, &pkcs12::DATA) {
-        return plain(s, c, n);
+    if range::named(s.bytes, i, &pkcs12::DATA) {
+        return plain(s.bytes, c, n);
     }
-    if range::named(s, i, &pkcs12::ENCRYPTED_DATA) {
+    if range::named(s.bytes, i, &pkcs12::ENCRYPTED_DATA) {
         return encrypted(s, c, n);
     }
-    if range::named(s, i, &pkcs12::ENVELOPED_DATA) {
-        return Contents::Refused(Fault {
+    if range::named(s.bytes, i, &pkcs12::ENVELOPED_DATA) {
+        return Err(Fault {
             number: pkcs12::NOT_SERVED,
             offset: at,
         });
     }
-    Contents::Refused(Fault {
+    Err(Fault {
         number: der::CONTENT,
         offset: at,
     })
 }
 
 // A safe up to its bags; it is refused if the table is full.
-pub(crate) fn safe(s: &[u8], full: bool, c: Cursor) -> Contents
-    requires { length s.now ≤ file_bytes }
-    ensures { result ≡ safe_head_at s.now full c }
+pub(crate) fn safe(s: File, full: bool, c: Cursor) -> Result<Contents, Fault>
+    ensures { result ≡ safe_head_at s.entry.bytes.now full c }
 {
-    match c.expect(s, der::SEQUENCE) {
-        Element::Refused(f) => Contents::Refused(f),
-        Element::Found { tag: _, body, next } => {
-            if full {
-                let at = c.at;
-                return Contents::Refused(Fault {
-                    number: der::TOO_MANY,
-                    offset: at,
-                });
-            }
-            match body.identifier(s) {
-                Element::Refused(f) => Contents::Refused(f),
-                Element::Found {
-                    tag: _,
-                    body: i,
-                    next: m,
-                } => {
-                    let at = body.at;
-                    safe_value(s, i, at, m, next)
-                }
-            }
-        }
+    let whole = c.expect(s.bytes, der::SEQUENCE)?;
+    if full {
+        return Err(Fault {
+            number: der::TOO_MANY,
+            offset: c.at,
+        });
     }
+    let id = whole.body.identifier(s.bytes)?;
+    safe_value(s, id.body, whole.body.at, id.next, whole.next)
 }
 
-// Whether safe contents were accepted and end their OCTET STRING, and that its [0], and that its
-// ContentInfo.
-pub(crate) fn closed(answer: Answer, body: Cursor, string: Cursor, content: Cursor) -> Checked
-    ensures { result ≡ closed_at answer body string content }
+// Whether safe contents end their OCTET STRING, and that its [0], and that its ContentInfo.
+pub(crate) fn closed(body: Cursor, string: Cursor, content: Cursor) -> Result<Checked, Fault>
+    ensures { result ≡ closed_at body string content }
 {
-    match answer {
-        Answer::Refused(f) => Checked::Refused(f),
-        Answer::Accepted => match body.finish() {
-            Checked::Refused(f) => Checked::Refused(f),
-            Checked::Passed { count: _, next: _ } => both(string, content),
-        },
-    }
+    body.finish()?;
+    both(string, content)
 }

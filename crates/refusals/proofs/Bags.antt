@@ -24,7 +24,9 @@ use Rattle.pkcs12.specs.declared.kind.BagKind.TheVariants.{Key, ShroudedKey, Cer
 use Rattle.pkcs12.specs.declared.row.SafeRow.{SafeRow}
 use Rattle.pkcs12.specs.declared.row.BagRow.{BagRow}
 use Rattle.pkcs12.specs.declared.row.AttributeRow.{AttributeRow}
-use Rattle.pkcs12.specs.declared.answers.PartsAt.{PartsAt}
+use Rattle.pkcs12.specs.declared.answers.Parsed.{Parsed}
+use Rattle.pkcs12.specs.declared.row.Parts.{Parts}
+use Rattle.std.specs.Prelude.{Err, Ok, Result}
 use Rattle.refusals.specs.Element.{Left, Made, Account, stops, goes, Rule, closed, allowed, onwards}
 use Rattle.refusals.specs.Element.{front_body, each, if_tag, is, any, constructed, opaque}
 use Rattle.refusals.specs.Bodies.{is_identifier, bag_id, any_type, bag_type}
@@ -179,11 +181,11 @@ kind_is x e =
 module _ (s : List ℕ) (inner : Owner → Rows → Cursor → Walked) (rule : Rule)
     (below : (w : Owner) (st : Rows) (c : Cursor) → Lies s c
     → Agree s (Past s c) (walked_out (inner w st c)) (rule (made_in st) (here s c))) where
-  leaf_agrees : (kind : BagKind) (w : Owner) (has_set : Bool) (st : Rows) (c : Cursor) (x : PartsAt) (a : Account)
+  leaf_agrees : (kind : BagKind) (w : Owner) (has_set : Bool) (st : Rows) (c : Cursor) (x : Result (Parsed Parts) Fault) (a : Account)
       → Agree s (Past s c) (parts_out (more_bags (made_in st)) x) a
       → Agree s (Past s c) (walked_out (leaf_at x kind w has_set st)) a
-  leaf_agrees kind w has_set st c (PartsAt.Refused f) a q = q
-  leaf_agrees kind w has_set st c (PartsAt.Found p k n) a q = (rw (bag_made st _ _) q.0, q.1)
+  leaf_agrees kind w has_set st c (Err f) a q = q
+  leaf_agrees kind w has_set st c (Ok x) a q = (rw (bag_made st _ _) q.0, q.1)
 
   -- a served kind
   content_agrees : (kind : BagKind) (w : Owner) (has_set : Bool) (st : Rows) (c : Cursor) → Lies s c

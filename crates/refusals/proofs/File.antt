@@ -20,9 +20,8 @@ use Rattle.pkcs12.specs.Walk.{Walked, Refused, Went, on_walked, run, owner, safe
 use Rattle.pkcs12.specs.Walk.{sealed_safe_at, safe_value_at, safe_at, start_rows, safes_at, outer_value_at, outer_at}
 use Rattle.pkcs12.specs.Walk.{encrypted_at, mac_at, refused, body_at, alone, pfx_at, read_file}
 use Rattle.pkcs12.specs.declared.kind.SafeKind.TheVariants.{Plain}
-use Rattle.pkcs12.specs.declared.row.Enclosing.{Enclosing}
-use Rattle.pkcs12.specs.declared.answers.Answer.{Answer}
-use Rattle.pkcs12.specs.declared.answers.Answer.TheVariants.{Accepted}
+use Rattle.der.specs.declared.Fault.{Fault}
+use Rattle.std.specs.Prelude.{Err, None, Ok, Result, ⊤}
 use Rattle.pkcs12.specs.declared.answers.Reading.{Reading}
 use Rattle.refusals.specs.Element.{Left, left, Made, Account, stops, goes, Rule, closed, allowed, onwards}
 use Rattle.refusals.specs.Element.{◌before◌, front_body, each, served, constructed}
@@ -100,7 +99,7 @@ module _ (s : List ℕ) where
       (wrapped (safe_contents 8) (more_safes (made_in st)) (here s c))
   unfolding plain_at
   plain_agrees st c h =
-      data_agrees (safe_contents_at 8 s (owner (length st.safes) Enclosing.None) _) (safe_contents 8)
+      data_agrees (safe_contents_at 8 s (owner (length st.safes) None) _) (safe_contents 8)
       (more_safes (made_in st))
       (λ o k. rw (sym (safe_made st (safe_row Plain no_parts) 4)) (contents_agree s 8 _ _ o k)) c h
 
@@ -212,9 +211,9 @@ module _ (s : List ℕ) where
   -- ---- the file
 
   -- what a reading answers and what the account comes to agree
-  abbrev pub Agreed : Answer → Account → Type 0
-  Agreed (Answer.Refused f) a = a ≡ stops f.number f.offset
-  Agreed Accepted a = (made : Made) × (a ≡ goes made (left (length s) []))
+  abbrev pub Agreed : Result ⊤ Fault → Account → Type 0
+  Agreed (Err f) a = a ≡ stops f.number f.offset
+  Agreed (Ok tt) a = (made : Made) × (a ≡ goes made (left (length s) []))
 
   abbrev over : Left
   over = left (length s) []

@@ -10,11 +10,13 @@ use lib.ListN.{length, get_or, take, drop}
 use lib.Seq.{slice, slice-cons, length-slice, drop-drop, take-take}
 use borrow.Author.Tests.{lt-ltb, le-ltb, le-leb, lt-leb, ltb-false}
 use Rattle.std.specs.Prelude.{if◌then◌else◌}
-use Rattle.der.specs.Element.{cursor, within, one_octet, two_octets, extent_at, element_at, on_extent}
+use Rattle.der.specs.Element.{cursor, within, one_octet, two_octets, extent_at, element_at, on_result}
 use Rattle.der.specs.Content.{bytes_of}
 use Rattle.der.specs.declared.Cursor.{Cursor}
+use Rattle.der.specs.Element.{element}
 use Rattle.der.specs.declared.Element.{Element}
-use Rattle.der.specs.declared.Element.TheVariants.{Found}
+use Rattle.der.specs.declared.Fault.{Fault}
+use Rattle.std.specs.Prelude.{Err, Ok, Result}
 use Rattle.der.proofs.Choices.{either}
 use Rattle.der.proofs.Placed.{left_is, left_none}
 use Rattle.range.proofs.Cut.{part_slice, cut_backward}
@@ -56,13 +58,13 @@ same_test a b c d f g = either a b (λ h. lt-ltb a b h ∙ sym (lt-ltb c d (f h)
 
 module _ (s : List ℕ) (at end : ℕ) where
   -- what the walk reads and the account's header agree
-  abbrev pub Same : Element → Header → Type 0
-  Same (Element.Refused f) h = (h ≡ wrong f.number) × (f.offset ≡ at)
-  Same (Found t b n) h =
-      (h ≡ right t (b.at - at) (b.end - b.at) (slice b.at end s)) × (at < b.at) × (b.at ≤ b.end)
-      × (b.end ≤ end) × (n ≡ cursor b.end end)
+  abbrev pub Same : Result Element Fault → Header → Type 0
+  Same (Err f) h = (h ≡ wrong f.number) × (f.offset ≡ at)
+  Same (Ok x) h =
+      (h ≡ right x.tag (x.body.at - at) (x.body.end - x.body.at) (slice x.body.at end s)) × (at < x.body.at) × (x.body.at ≤ x.body.end)
+      × (x.body.end ≤ end) × (x.next ≡ cursor x.body.end end)
 
-  by_same : {X : Type 0} (F : X → Element) (u v : Bool) (x y : X) (z w : Header) → u ≡ v → (u ≡ true → Same (F x) z)
+  by_same : {X : Type 0} (F : X → Result Element Fault) (u v : Bool) (x y : X) (z w : Header) → u ≡ v → (u ≡ true → Same (F x) z)
       → (u ≡ false → Same (F y) w)
       → Same (F (if u then x else y)) (if v then z else w)
   by_same F true true x y z w e f g = f refl
@@ -72,12 +74,12 @@ module _ (s : List ℕ) (at end : ℕ) where
 
   module _ (inside : end ≤ length s) (t : ℕ) where
     fitting_same : (start h size : ℕ) → at + h ≡ start → at < start → start ≤ end
-        → Same (on_extent (within at start size end) Element.Refused (λ b. Found t b (cursor b.end end)))
+        → Same (on_result (within at start size end) Err (λ b. Ok (element t b (cursor b.end end))))
         (fitting t h size (slice start end s))
     unfolding within fitting
     fitting_same start h size e m k =
         let l = length-slice start end s inside in
-        by_same (λ x. on_extent x Element.Refused (λ b. Found t b (cursor b.end end))) (ltb end (start + size))
+        by_same (λ x. on_result x Err (λ b. Ok (element t b (cursor b.end end)))) (ltb end (start + size))
         (ltb (length (slice start end s)) size) _ _ _ _
         (rw l (same_test end (start + size) (end - start) size (λ p. omega arith) (λ p. omega arith)))
         (λ p. (refl, refl))
@@ -87,21 +89,21 @@ module _ (s : List ℕ) (at end : ℕ) where
         (rw (a, b) refl, m, omega arith, ltb-false end (start + size) p, refl))
 
     one_same : at + 2 ≤ end
-        → Same (on_extent (one_octet s at end) Element.Refused (λ b. Found t b (cursor b.end end)))
+        → Same (on_result (one_octet s at end) Err (λ b. Ok (element t b (cursor b.end end))))
         (after81 t (slice (at + 2) end s))
     unfolding one_octet after81
     one_same h =
         either (at + 2) end
         (λ k.
         rw (lt-leb end (at + 2) k, first_left s (at + 2) end (at + 3) k inside (omega arith))
-        (by_same (λ x. on_extent x Element.Refused (λ b. Found t b (cursor b.end end)))
+        (by_same (λ x. on_result x Err (λ b. Ok (element t b (cursor b.end end))))
         (ltb (get_or s (at + 2) 0) 128) _ _ _ _ _ refl
         (λ p. (refl, refl))
         (λ p. fitting_same (at + 3) 3 (get_or s (at + 2) 0) refl (omega arith) (omega arith))))
         (λ k. rw (le-leb end (at + 2) k, none_left s (at + 2) end k) (refl, refl))
 
     two_same : at + 2 ≤ end
-        → Same (on_extent (two_octets s at end) Element.Refused (λ b. Found t b (cursor b.end end)))
+        → Same (on_result (two_octets s at end) Err (λ b. Ok (element t b (cursor b.end end))))
         (after82 t (slice (at + 2) end s))
     unfolding two_octets after82
     two_same h =
@@ -113,7 +115,7 @@ module _ (s : List ℕ) (at end : ℕ) where
           first_left s
               (at + 3) end (at + 4) k inside (omega arith),
         )
-        (by_same (λ x. on_extent x Element.Refused (λ b. Found t b (cursor b.end end))) (eqb (get_or s (at + 2) 0) 0)
+        (by_same (λ x. on_result x Err (λ b. Ok (element t b (cursor b.end end)))) (eqb (get_or s (at + 2) 0) 0)
         _ _ _ _ _ refl
         (λ p. (refl, refl))
         (λ p. fitting_same (at + 4) 4 (get_or s (at + 2) 0 * 256 + get_or s (at + 3) 0) refl (omega arith)
@@ -130,20 +132,20 @@ module _ (s : List ℕ) (at end : ℕ) where
         (λ l. rw (le-leb end (at + 3) k, none_left s (at + 2) end l) (refl, refl)))
 
     sized_same : at + 1 ≤ end
-        → Same (on_extent (extent_at s at end) Element.Refused (λ b. Found t b (cursor b.end end)))
+        → Same (on_result (extent_at s at end) Err (λ b. Ok (element t b (cursor b.end end))))
         (sized t (slice (at + 1) end s))
     unfolding extent_at sized
     sized_same h =
         either (at + 1) end
         (λ k.
         rw (lt-leb end (at + 1) k, first_left s (at + 1) end (at + 2) k inside (omega arith))
-        (by_same (λ x. on_extent x Element.Refused (λ b. Found t b (cursor b.end end)))
+        (by_same (λ x. on_result x Err (λ b. Ok (element t b (cursor b.end end))))
         (ltb (get_or s (at + 1) 0) 128) _ _ _ _ _ refl
         (λ p. fitting_same (at + 2) 2 (get_or s (at + 1) 0) refl (omega arith) (omega arith))
-        (λ p. by_same (λ x. on_extent x Element.Refused (λ b. Found t b (cursor b.end end)))
+        (λ p. by_same (λ x. on_result x Err (λ b. Ok (element t b (cursor b.end end))))
         (eqb (get_or s (at + 1) 0) 129) _ _ _ _ _ refl
         (λ q. one_same (omega arith))
-        (λ q. by_same (λ x. on_extent x Element.Refused (λ b. Found t b (cursor b.end end)))
+        (λ q. by_same (λ x. on_result x Err (λ b. Ok (element t b (cursor b.end end))))
         (eqb (get_or s (at + 1) 0) 130) _ _ _ _ _ refl (λ r. two_same (omega arith)) (λ r. (refl, refl))))))
         (λ k. rw (le-leb end (at + 1) k, none_left s (at + 1) end k) (refl, refl))
 

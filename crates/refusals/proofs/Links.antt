@@ -15,10 +15,9 @@ use Rattle.der.specs.Opaque.{on_checked}
 use Rattle.der.specs.Octets.{number}
 use Rattle.der.specs.declared.Fault.{Fault}
 use Rattle.der.specs.declared.Cursor.{Cursor}
+use Rattle.der.specs.Element.{element as met, valued}
 use Rattle.der.specs.declared.Element.{Element}
-use Rattle.der.specs.declared.Element.TheVariants.{Found}
-use Rattle.der.specs.declared.Integer.{Integer}
-use Rattle.der.specs.declared.Integer.TheVariants.{Value}
+use Rattle.std.specs.Prelude.{Err, Ok, Result}
 use Rattle.der.proofs.Choices.{either}
 use Rattle.der.proofs.Placed.{left_is, left_none}
 use Rattle.refusals.specs.Element.{Left, left, Made, Account, stops, goes, Rule, header}
@@ -45,7 +44,7 @@ pub record Past (s : List ℕ) (c n : Cursor) : Type 0 where
 
 -- an element at c with the tag t, its body b, and n past it
 pub record Stands (s : List ℕ) (c : Cursor) (t : ℕ) (b n : Cursor) : Type 0 where
-  pub found : element_at s c ≡ Found t b n
+  pub found : element_at s c ≡ Ok (met t b n)
   pub body : Lies s b
   pub past : Past s c n
   pub front : front_body (bytes_of s c) ≡ bytes_of s b
@@ -61,19 +60,19 @@ module _ (s : List ℕ) {A : Type 0} (P : A → Account → Type 0) (bad : Fault
   unfolding element front_body
   link_element due full content good g = go (element_at s c) refl (header_same s c lies)
     where
-      go : (x : Element) → element_at s c ≡ x → Same s c.at c.end x (header (bytes_of s c))
+      go : (x : Result Element Fault) → element_at s c ≡ x → Same s c.at c.end x (header (bytes_of s c))
           → P (on_element x bad good) (K (element due full content made (here s c)))
-      go (Element.Refused f) o q = rw (q.0, sym q.1) (strict f)
-      go (Found t b n) o q =
-          let e : n ≡ cursor b.end c.end = q.4 in
-          let p : c.at + (b.at - c.at) ≡ b.at = omega (arith, q.1) in
-          let r : b.at + (b.end - b.at) ≡ b.end = omega (arith, q.2) in
-          let y = body_taken s b.at b.end c.end q.3 in
-          let z = after_dropped s b.at b.end c.end q.2 in
+      go (Err f) o q = rw (q.0, sym q.1) (strict f)
+      go (Ok x) o q =
+          let e : x.next ≡ cursor x.body.end c.end = q.4 in
+          let p : c.at + (x.body.at - c.at) ≡ x.body.at = omega (arith, q.1) in
+          let r : x.body.at + (x.body.end - x.body.at) ≡ x.body.end = omega (arith, q.2) in
+          let y = body_taken s x.body.at x.body.end c.end q.3 in
+          let z = after_dropped s x.body.at x.body.end c.end q.2 in
           rw (q.0, p, r, y, z, e)
-          (g t b (cursor b.end c.end)
+          (g x.tag x.body (cursor x.body.end c.end)
           (record {
-            found = o ∙ ap (Found t b) e;
+            found = o ∙ ap (λ m. Ok (met x.tag x.body m)) e;
             body = record { order = q.2; inside = omega (arith, q.3, lies.inside) };
             past = record {
               lies = record { order = q.3; inside = lies.inside };
@@ -100,7 +99,7 @@ module _ (s : List ℕ) {A : Type 0} (P : A → Account → Type 0) (bad : Fault
       → P (on_element (expect_at due s c) bad good) (K (element (is due) full content made (here s c)))
   unfolding expect_at
   link_expect due full content good g =
-      link_element s (λ e a. P (on_element e bad good) a) Element.Refused K strict c lies made (is due) full content _
+      link_element s (λ e a. P (on_element e bad good) a) Err K strict c lies made (is due) full content _
       (λ t b n d.
       link_test P (λ e. on_element e bad good) K (eqb t due) _ _ _ _
       (λ h.
@@ -118,12 +117,12 @@ module _ (s : List ℕ) {A : Type 0} (P : A → Account → Type 0) (bad : Fault
       → P (on_element (identifier_at s c) bad good) (K (primitive 0x06 judge made (here s c)))
   unfolding identifier_at
   link_identifier wrong-is good g =
-      link_expect s (λ e a. P (on_element e bad good) a) Element.Refused K strict c lies made 0x06 never
+      link_expect s (λ e a. P (on_element e bad good) a) Err K strict c lies made 0x06 never
       (λ t. judged judge) _
       (λ b n d. go b n d (identifier_body (bytes_of s b)) (identifier_same (bytes_of s b)))
     where
       go : (b n : Cursor) → Stands s c 0x06 b n → (u : Bool) → u ≡ is_identifier (bytes_of s b)
-          → P (on_element (if u then Found 0x06 b n else Element.Refused (record { number = 5; offset = c.at })) bad
+          → P (on_element (if u then Ok (met 0x06 b n) else Err (record { number = 5; offset = c.at })) bad
           good) (K (allowed (judge (bytes_of s b)) c.at made (here s n)))
       go b n d true e = g b n d (sym e)
       go b n d false e = rw (wrong-is (bytes_of s b) (sym e)) (strict _)
@@ -134,12 +133,12 @@ module _ (s : List ℕ) {A : Type 0} (P : A → Account → Type 0) (bad : Fault
       → P (on_integer (integer_at s c) bad good) (K (primitive 0x02 judge made (here s c)))
   unfolding integer_at
   link_integer wrong-is good g =
-      link_expect s (λ e a. P (on_integer e bad good) a) Integer.Refused K strict c lies made 0x02 never
+      link_expect s (λ e a. P (on_integer e bad good) a) Err K strict c lies made 0x02 never
       (λ t. judged judge) _
       (λ b n d. go b n d (integer_body s b) (integer_same s b d.body.inside))
     where
       go : (b n : Cursor) → Stands s c 0x02 b n → (u : Bool) → u ≡ is_integer (bytes_of s b)
-          → P (on_integer (if u then Value (integer_value s b) n else Integer.Refused
+          → P (on_integer (if u then Ok (valued (integer_value s b) n) else Err
           (record { number = 5; offset = c.at })) bad good)
           (K (allowed (judge (bytes_of s b)) c.at made (here s n)))
       go b n d true e = rw (value_same s b d.body.inside (sym e)) (g b n d (sym e))

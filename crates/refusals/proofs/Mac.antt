@@ -17,7 +17,8 @@ use Rattle.pkcs12.specs.Walk.{range_of, on_mac, sealed_at, iterations_at, mac_at
 use Rattle.range.specs.declared.Range.{Range}
 use Rattle.pkcs12.specs.declared.row.Parts.{Parts}
 use Rattle.pkcs12.specs.declared.row.Mac.{Mac}
-use Rattle.pkcs12.specs.declared.answers.MacAt.{MacAt}
+use Rattle.pkcs12.specs.declared.answers.Parsed.{Parsed}
+use Rattle.std.specs.Prelude.{Err, Result}
 use Rattle.refusals.specs.Element.{Left, Made, Account, stops, goes, closed, allowed, onwards, ◌before◌, if_tag}
 use Rattle.refusals.specs.Element.{anything, primitive}
 use Rattle.refusals.specs.Bodies.{is_integer, iterations}
@@ -53,32 +54,32 @@ module _ (s : List ℕ) (made : Made) where
       rw (sym (first_tag s c 0x02 h refl))
       (link_test P (λ x. on_mac x bad good) (λ a. closed a after) (eqb (tag_at s c) 0x02) _ _ _ _
       (λ u.
-      link_integer s (λ x a. P (on_mac x bad good) a) MacAt.Refused (λ a. closed a after) strict c h made iterations
+      link_integer s (λ x a. P (on_mac x bad good) a) Err (λ a. closed a after) strict c h made iterations
       no_number _
       (λ i e d v.
       rw (number_is (bytes_of s i) v)
       (link_test P (λ x. on_mac x bad good) (λ k. closed (allowed k c.at made (here s e)) after)
       (leb (number (bytes_of s i)) 1) _ _ _ _
       (λ w. strict _)
-      (λ w. link_finish s (λ x a. P (on_mac x bad good) a) MacAt.Refused (λ a. a) strict e d.past.lies made after _
+      (λ w. link_finish s (λ x a. P (on_mac x bad good) a) Err (λ a. a) strict e d.past.lies made after _
       (λ z. g _ _ _)))))
-      (λ u. link_finish s (λ x a. P (on_mac x bad good) a) MacAt.Refused (λ a. a) strict c h made after _
+      (λ u. link_finish s (λ x a. P (on_mac x bad good) a) Err (λ a. a) strict c h made after _
       (λ z. g _ _ _)))
 
   pub mac_agrees : (c : Cursor) → Lies s c → Agree s (Past s c) (mac_out made (mac_at s c)) (mac_data made (here s c))
   unfolding mac_at mac_data
   mac_agrees c h =
-      link_expect s Good MacAt.Refused (λ a. a) (λ f. refl) c h made 0x30 _ _ _
+      link_expect s Good Err (λ a. a) (λ f. refl) c h made 0x30 _ _ _
       (λ b n d.
-      by_parts s Good MacAt.Refused (λ a. closed (onwards a
+      by_parts s Good Err (λ a. closed (onwards a
       (primitive 0x04 anything before if_tag 0x02 (primitive 0x02 iterations))) (here s n)) (λ f. refl) (Past s b) made
       _
       (sealed_at s b) _ (sealed_agrees s made b d.body)
       (λ p k m q.
-      link_expect s Good MacAt.Refused (λ a. closed (onwards a (if_tag 0x02 (primitive 0x02 iterations))) (here s n))
+      link_expect s Good Err (λ a. closed (onwards a (if_tag 0x02 (primitive 0x02 iterations))) (here s n))
       (λ f. refl) m q.lies made 0x04 _ _ _
-      (λ o e g. iterations_link Good MacAt.Refused (λ f. refl) e g.past.lies (here s n) p (range_of o) (k + 2) _
+      (λ o e g. iterations_link Good Err (λ f. refl) e g.past.lies (here s n) p (range_of o) (k + 2) _
       (λ x j f. (refl, d.past)))))
     where
-      Good : MacAt → Account → Type 0
+      Good : Result (Parsed Mac) Fault → Account → Type 0
       Good x a = Agree s (Past s c) (mac_out made x) a

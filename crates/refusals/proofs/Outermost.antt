@@ -14,11 +14,11 @@ use Rattle.der.specs.Content.{bytes_of}
 use Rattle.der.specs.Span.{Bytes}
 use Rattle.der.specs.Overrun.{RunsPast}
 use Rattle.der.specs.declared.Element.{Element}
-use Rattle.der.specs.declared.Element.TheVariants.{Found}
+use Rattle.der.specs.declared.Fault.{Fault}
+use Rattle.std.specs.Prelude.{Err, Ok, Result}
 use Rattle.der.proofs.Choices.{either}
 use Rattle.der.proofs.Laws.{missing_iff, overrun_iff}
 use Rattle.pkcs12.specs.Walk.{read_file}
-use Rattle.pkcs12.specs.declared.answers.Answer.{Answer}
 use Rattle.refusals.specs.Element.{left, Made, stops, Rule, wrong, header, closed, element, constructed}
 use Rattle.refusals.specs.Grammar.{pfx, none_made}
 use Rattle.refusals.proofs.Headers.{Lies, Same, header_same}
@@ -36,19 +36,19 @@ same_whole f =
     let w : bytes_of f (whole_of f) ≡ f = take-length f in
     rw w at (header_same f (whole_of f) (whole_lies f))
 
-element_header : (f : List ℕ) (n p : ℕ) → element_at f (whole_of f) ≡ Element.Refused (fault n p) → header f ≡ wrong n
+element_header : (f : List ℕ) (n p : ℕ) → element_at f (whole_of f) ≡ Err (fault n p) → header f ≡ wrong n
 element_header f n p e = (rw e at (same_whole f)).0
 
-header_element : (f : List ℕ) (n : ℕ) → header f ≡ wrong n → element_at f (whole_of f) ≡ Element.Refused (fault n 0)
+header_element : (f : List ℕ) (n : ℕ) → header f ≡ wrong n → element_at f (whole_of f) ≡ Err (fault n 0)
 header_element f n e = go (element_at f (whole_of f)) (same_whole f)
   where
-    go : (x : Element) → Same f 0 (length f) x (header f) → x ≡ Element.Refused (fault n 0)
-    go (Element.Refused g) q =
+    go : (x : Result Element Fault) → Same f 0 (length f) x (header f) → x ≡ Err (fault n 0)
+    go (Err g) q =
         let z : wrong g.number ≡ wrong n = sym q.0 ∙ e in
         let u : g.number ≡ n = cc in
         let v : g.offset ≡ 0 = q.1 in
         rw (sym u, sym v) refl
-    go (Found t b m) q =
+    go (Ok x) q =
         let z = sym q.0 ∙ e in
         let y : ◌≡◌ {A = ℕ} 0 1 = cc in
         absurd (omega arith)
@@ -81,7 +81,7 @@ module _ (rule : Rule) (keeps : Keeps rule) (made : Made) (f : List ℕ) (n : �
 -- ---- the file
 
 refused_header : (f : List ℕ) (n : ℕ) → eqb 4 n ≡ false → eqb 9 n ≡ false
-    → (read_file f).answer ≡ Answer.Refused (fault n 0) → (length f ≤ 65535) × (header f ≡ wrong n)
+    → (read_file f).answer ≡ Err (fault n 0) → (length f ≤ 65535) × (header f ≡ wrong n)
 unfolding pfx
 refused_header f n p q e =
     let a = refused_stops f n 0 e in
@@ -93,28 +93,28 @@ refused_header f n p q e =
     (λ h. (h, stops_header _ body_keeps none_made f n p (sym (not_long f h) ∙ a)))
 
 header_refused : (f : List ℕ) (n : ℕ) → length f ≤ 65535 → header f ≡ wrong n
-    → (read_file f).answer ≡ Answer.Refused (fault n 0)
+    → (read_file f).answer ≡ Err (fault n 0)
 unfolding pfx element
 header_refused f n h e = stops_refused f n 0 (not_long f h ∙ rw e refl)
 
-pub empty_sound : (f : List ℕ) → (read_file f).answer ≡ Answer.Refused (fault 1 0) → f ≡ []
+pub empty_sound : (f : List ℕ) → (read_file f).answer ≡ Err (fault 1 0) → f ≡ []
 empty_sound [] e = refl
 empty_sound (b ∷ f) e =
     let h = refused_header (b ∷ f) 1 refl refl e in
     let m = (missing_iff (b ∷ f) (whole_of (b ∷ f)) 0).0 (header_element (b ∷ f) 1 h.1) in
     absurd (m.0 (record { some = omega arith; inside = omega arith }))
 
-pub empty_complete : (f : List ℕ) → f ≡ [] → (read_file f).answer ≡ Answer.Refused (fault 1 0)
+pub empty_complete : (f : List ℕ) → f ≡ [] → (read_file f).answer ≡ Err (fault 1 0)
 unfolding header
 empty_complete f e = rw e (header_refused [] 1 (omega arith) refl)
 
-pub overrun_sound : (f : List ℕ) → Bytes f → (read_file f).answer ≡ Answer.Refused (fault 15 0)
+pub overrun_sound : (f : List ℕ) → Bytes f → (read_file f).answer ≡ Err (fault 15 0)
     → (length f ≤ 65535) × RunsPast f (whole_of f)
 overrun_sound f bytes e =
     let h = refused_header f 15 refl refl e in
     (h.0, ((overrun_iff f (whole_of f) 0 bytes).0 (header_element f 15 h.1)).0)
 
 pub overrun_complete : (f : List ℕ) → Bytes f → (length f ≤ 65535) × RunsPast f (whole_of f)
-    → (read_file f).answer ≡ Answer.Refused (fault 15 0)
+    → (read_file f).answer ≡ Err (fault 15 0)
 overrun_complete f bytes h =
     header_refused f 15 h.0 (element_header f 15 0 ((overrun_iff f (whole_of f) 0 bytes).1 (h.1, refl)))

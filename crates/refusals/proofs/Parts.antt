@@ -12,10 +12,13 @@ use Rattle.der.specs.Content.{bytes_of}
 use Rattle.der.specs.Octets.{number}
 use Rattle.der.specs.Opaque.{on_checked, opaque_at}
 use Rattle.der.specs.declared.Cursor.{Cursor}
-use Rattle.der.specs.declared.Element.{Element}
-use Rattle.der.specs.declared.Element.TheVariants.{Found}
 use Rattle.der.specs.declared.Checked.{Checked}
-use Rattle.der.specs.declared.Checked.TheVariants.{Passed}
+use Rattle.der.specs.declared.Element.{Element}
+use Rattle.der.specs.declared.Fault.{Fault}
+use Rattle.pkcs12.specs.Table.{parsed}
+use Rattle.pkcs12.specs.declared.answers.Parsed.{Parsed}
+use Rattle.pkcs12.specs.declared.row.Parts.{Parts}
+use Rattle.std.specs.Prelude.{Err, Ok, Result}
 use Rattle.der.proofs.Choices.{either}
 use Rattle.range.specs.Bytes.{same_bytes}
 use Rattle.pkcs12.specs.Identifiers.{x509_certificate}
@@ -23,7 +26,6 @@ use Rattle.pkcs12.specs.Identifiers as identifiers
 use Rattle.range.specs.Range.{range, no_range}
 use Rattle.pkcs12.specs.Table.{parts}
 use Rattle.pkcs12.specs.Walk.{algorithm_at, sealed_at, key_at, value_at, typed_at, encrypted_info_at, encrypted_at}
-use Rattle.pkcs12.specs.declared.answers.PartsAt.{PartsAt}
 use Rattle.refusals.specs.Element.{Made, Account, goes, closed, allowed, onwards, ◌before◌, front_body, if_any}
 use Rattle.refusals.specs.Element.{served, is, any, anything, primitive, constructed, opaque}
 use Rattle.refusals.specs.Bodies.{is_identifier, is_integer, any_type, data_type, encrypted_version}
@@ -67,9 +69,9 @@ module _ (s : List ℕ) (made : Made) where
       (algorithm made (here s c))
   unfolding algorithm_at algorithm
   algorithm_agrees c h =
-      link_expect s Good PartsAt.Refused (λ a. a) (λ f. refl) c h made 0x30 _ _ _
+      link_expect s Good Err (λ a. a) (λ f. refl) c h made 0x30 _ _ _
       (λ b n d.
-      link_identifier s Good PartsAt.Refused (λ a. closed (onwards a (if_any (opaque any 16))) (here s n)) (λ f. refl)
+      link_identifier s Good Err (λ a. closed (onwards a (if_any (opaque any 16))) (here s n)) (λ f. refl)
       b d.body made any_type no_type _
       (λ i m e v.
       rw (any_type_lem (bytes_of s i) v)
@@ -80,9 +82,9 @@ module _ (s : List ℕ) (made : Made) where
         some_chosen s m.at m.end (goes made (here s m))
             (opaque any 16 made (here s m)) k e.past.lies.inside,
       )
-      (by_checked s Good PartsAt.Refused (λ a. closed a (here s n)) (λ f. refl) (Past s m) made _ (opaque_at 16 s m) _
+      (by_checked s Good Err (λ a. closed a (here s n)) (λ f. refl) (Past s m) made _ (opaque_at 16 s m) _
       (opaque_agrees s made 16 m e.past.lies)
-      (λ j g p. link_finish s Good PartsAt.Refused (λ a. a) (λ f. refl) g p.lies made (here s n) _
+      (λ j g p. link_finish s Good Err (λ a. a) (λ f. refl) g p.lies made (here s n) _
       (λ z. (refl, d.past)))))
       (λ k.
       rw (
@@ -92,24 +94,24 @@ module _ (s : List ℕ) (made : Made) where
       )
       (link_full s m made (here s n) (omega (arith, e.past.lies.order)), d.past)))))
     where
-      Good : PartsAt → Account → Type 0
+      Good : Result (Parsed Parts) Fault → Account → Type 0
       Good x a = Agree s (Past s c) (parts_out made x) a
 
   pub sealed_agrees : (c : Cursor) → Lies s c → Agree s (Past s c) (parts_out made (sealed_at s c))
       (sealed made (here s c))
   unfolding sealed_at sealed
   sealed_agrees c h =
-      link_expect s Good PartsAt.Refused (λ a. a) (λ f. refl) c h made 0x30 _ _ _
+      link_expect s Good Err (λ a. a) (λ f. refl) c h made 0x30 _ _ _
       (λ b n d.
-      by_parts s Good PartsAt.Refused (λ a. closed (onwards a (primitive 0x04 anything)) (here s n)) (λ f. refl)
+      by_parts s Good Err (λ a. closed (onwards a (primitive 0x04 anything)) (here s n)) (λ f. refl)
       (Past s b) made _ (algorithm_at s b) _
       (algorithm_agrees b d.body)
       (λ p k m q.
-      link_expect s Good PartsAt.Refused (λ a. closed a (here s n)) (λ f. refl) m q.lies made 0x04 _ _ _
-      (λ o e g. link_finish s Good PartsAt.Refused (λ a. a) (λ f. refl) e g.past.lies made (here s n) _
+      link_expect s Good Err (λ a. closed a (here s n)) (λ f. refl) m q.lies made 0x04 _ _ _
+      (λ o e g. link_finish s Good Err (λ a. a) (λ f. refl) e g.past.lies made (here s n) _
       (λ z. (refl, d.past)))))
     where
-      Good : PartsAt → Account → Type 0
+      Good : Result (Parsed Parts) Fault → Account → Type 0
       Good x a = Agree s (Past s c) (parts_out made x) a
 
   -- a key: its tag, then the whole element
@@ -118,16 +120,16 @@ module _ (s : List ℕ) (made : Made) where
   unfolding key_at
   key_agrees c h = go (expect_at 0x30 s c) (opaque_at 16 s c) (due_agrees s made 15 0x30 c h)
     where
-      go : (x : Element) (y : Checked)
-          → Agree s (Past s c) (checked_out made (on_element x Checked.Refused (λ t b n. y)))
+      go : (x : Result Element Fault) (y : Result Checked Fault)
+          → Agree s (Past s c) (checked_out made (on_element x Err (λ t b n. y)))
           (opaque (is 0x30) 16 made (here s c))
           → Agree s (Past s c)
-          (parts_out made (on_element x PartsAt.Refused (λ t b n. on_checked y PartsAt.Refused
-          (λ k e. PartsAt.Found (parts no_range no_range (range c.at e.at)) k e))))
+          (parts_out made (on_element x Err (λ t b n. on_checked y Err
+          (λ k e. Ok (parsed (parts no_range no_range (range c.at e.at)) k e)))))
           (opaque (is 0x30) 16 made (here s c))
-      go (Element.Refused f) y q = q
-      go (Found t b n) (Checked.Refused f) q = q
-      go (Found t b n) (Passed k e) q = q
+      go (Err f) y q = q
+      go (Ok x) (Err f) q = q
+      go (Ok x) (Ok y) q = q
 
   -- a value, where an OCTET STRING may be due
   value_agrees : (due : Bool) (c : Cursor) → Lies s c → Agree s (Past s c) (checked_out made (value_at due s c))
@@ -146,34 +148,34 @@ module _ (s : List ℕ) (made : Made) where
       → Agree s (Past s c) (parts_out made (typed_at is-certificate s c)) (typed is-certificate made (here s c))
   unfolding typed_at typed
   typed_agrees w c h =
-      link_expect s Good PartsAt.Refused (λ a. a) (λ f. refl) c h made 0x30 _ _ _
+      link_expect s Good Err (λ a. a) (λ f. refl) c h made 0x30 _ _ _
       (λ b n d.
-      link_identifier s Good PartsAt.Refused
+      link_identifier s Good Err
       (λ a. closed (onwards a (constructed 0xA0 (opaque (value_tag w (front_body (bytes_of s b))) 16))) (here s n))
       (λ f. refl) b d.body made any_type no_type _
       (λ i m e v.
       rw (any_type_lem (bytes_of s i) v, e.front)
-      (link_expect s Good PartsAt.Refused (λ a. closed a (here s n)) (λ f. refl) m e.past.lies made 0xA0 _ _ _
+      (link_expect s Good Err (λ a. closed a (here s n)) (λ f. refl) m e.past.lies made 0xA0 _ _ _
       (λ o g u.
       rw (tag_is w (bytes_of s i))
-      (by_checked s Good PartsAt.Refused (λ a. closed (closed a (here s g)) (here s n)) (λ f. refl) (Past s o) made _
+      (by_checked s Good Err (λ a. closed (closed a (here s g)) (here s n)) (λ f. refl) (Past s o) made _
       (value_at (if w then same_bytes (bytes_of s i) x509_certificate else false) s o) _
       (value_agrees (if w then same_bytes (bytes_of s i) x509_certificate else false) o u.body)
       (λ k f p.
-      link_finish s Good PartsAt.Refused (λ a. closed a (here s n)) (λ f. refl) f p.lies made (here s g) _
-      (λ z. link_finish s Good PartsAt.Refused (λ a. a) (λ f. refl) g u.past.lies made (here s n) _
+      link_finish s Good Err (λ a. closed a (here s n)) (λ f. refl) f p.lies made (here s g) _
+      (λ z. link_finish s Good Err (λ a. a) (λ f. refl) g u.past.lies made (here s n) _
       (λ y. (refl, d.past)))))))))
     where
-      Good : PartsAt → Account → Type 0
+      Good : Result (Parsed Parts) Fault → Account → Type 0
       Good x a = Agree s (Past s c) (parts_out made x) a
 
   pub info_agrees : (c : Cursor) → Lies s c → Agree s (Past s c) (parts_out made (encrypted_info_at s c))
       (encrypted_info made (here s c))
   unfolding encrypted_info_at encrypted_info
   info_agrees c h =
-      link_expect s Good PartsAt.Refused (λ a. a) (λ f. refl) c h made 0x30 _ _ _
+      link_expect s Good Err (λ a. a) (λ f. refl) c h made 0x30 _ _ _
       (λ b n d.
-      link_identifier s Good PartsAt.Refused (λ a. closed
+      link_identifier s Good Err (λ a. closed
       (onwards a (algorithm before served (primitive 0x80 anything))) (here s n)) (λ f. refl)
       b d.body made data_type no_data _
       (λ i m e v.
@@ -182,28 +184,28 @@ module _ (s : List ℕ) (made : Made) where
       (algorithm before served (primitive 0x80 anything))) (here s n))
       (same_bytes (bytes_of s i) identifiers.data_type) _ _ _ _
       (λ u.
-      by_parts s Good PartsAt.Refused (λ a. closed (onwards a (served (primitive 0x80 anything))) (here s n))
+      by_parts s Good Err (λ a. closed (onwards a (served (primitive 0x80 anything))) (here s n))
       (λ f. refl) (Past s m) made _ (algorithm_at s m) _
       (algorithm_agrees m e.past.lies)
       (λ p k g q.
-      link_served s Good PartsAt.Refused (λ a. closed a (here s n)) (λ f. refl) g q.lies made
+      link_served s Good Err (λ a. closed a (here s n)) (λ f. refl) g q.lies made
       (primitive 0x80 anything) _
       (λ l.
-      link_expect s Good PartsAt.Refused (λ a. closed a (here s n)) (λ f. refl) g q.lies made 0x80 _ _ _
-      (λ o f w. link_finish s Good PartsAt.Refused (λ a. a) (λ f. refl) f w.past.lies made (here s n) _
+      link_expect s Good Err (λ a. closed a (here s n)) (λ f. refl) g q.lies made 0x80 _ _ _
+      (λ o f w. link_finish s Good Err (λ a. a) (λ f. refl) f w.past.lies made (here s n) _
       (λ z. (refl, d.past))))))
       (λ u. refl))))
     where
-      Good : PartsAt → Account → Type 0
+      Good : Result (Parsed Parts) Fault → Account → Type 0
       Good x a = Agree s (Past s c) (parts_out made x) a
 
   pub encrypted_agrees : (c : Cursor) → Lies s c → Agree s (Past s c) (parts_out made (encrypted_at s c))
       (encrypted_data made (here s c))
   unfolding encrypted_at encrypted_data
   encrypted_agrees c h =
-      link_expect s Good PartsAt.Refused (λ a. a) (λ f. refl) c h made 0x30 _ _ _
+      link_expect s Good Err (λ a. a) (λ f. refl) c h made 0x30 _ _ _
       (λ b n d.
-      link_integer s Good PartsAt.Refused (λ a. closed (onwards a encrypted_info) (here s n)) (λ f. refl) b d.body
+      link_integer s Good Err (λ a. closed (onwards a encrypted_info) (here s n)) (λ f. refl) b d.body
       made encrypted_version no_version _
       (λ i m e v.
       rw (version_is (bytes_of s i) v)
@@ -214,11 +216,11 @@ module _ (s : List ℕ) (made : Made) where
       link_test Good (λ x. x) (λ k. closed (onwards (allowed k b.at made (here s m)) encrypted_info) (here s n))
       (eqb (number (bytes_of s i)) 0) _ _ _ _
       (λ w.
-      by_parts s Good PartsAt.Refused (λ a. closed a (here s n)) (λ f. refl) (Past s m) made _ (encrypted_info_at s m) _
+      by_parts s Good Err (λ a. closed a (here s n)) (λ f. refl) (Past s m) made _ (encrypted_info_at s m) _
       (info_agrees m e.past.lies)
-      (λ p k g q. link_finish s Good PartsAt.Refused (λ a. a) (λ f. refl) g q.lies made (here s n) _
+      (λ p k g q. link_finish s Good Err (λ a. a) (λ f. refl) g q.lies made (here s n) _
       (λ z. (refl, d.past))))
       (λ w. refl)))))
     where
-      Good : PartsAt → Account → Type 0
+      Good : Result (Parsed Parts) Fault → Account → Type 0
       Good x a = Agree s (Past s c) (parts_out made x) a

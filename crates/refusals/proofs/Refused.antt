@@ -11,8 +11,8 @@ use Rattle.der.specs.Element.{fault}
 use Rattle.der.proofs.Choices.{either}
 use Rattle.pkcs12.specs.Walk.{read_file}
 use Rattle.pkcs12.specs.Accepted.{IsAccepted}
-use Rattle.pkcs12.specs.declared.answers.Answer.{Answer}
-use Rattle.pkcs12.specs.declared.answers.Answer.TheVariants.{Accepted}
+use Rattle.der.specs.declared.Fault.{Fault}
+use Rattle.std.specs.Prelude.{Err, Ok, Result, ⊤}
 use Rattle.pkcs12.proofs.AcceptedFile.{accepted_size}
 use Rattle.refusals.specs.Element.{Left, left, Made, Account, stops, goes, closed}
 use Rattle.refusals.specs.Grammar.{pfx, none_made, account_of}
@@ -20,27 +20,27 @@ use Rattle.refusals.proofs.File.{Agreed, file_agrees}
 use Rattle.refusals.proofs.Kept.{Number, Kept, closed_kept, in_pfx, pfx_keeps}
 use Rattle.refusals.proofs.Fronts.{apart, Whole, whole_of, after_stops, cut_stops}
 
-pub refused_stops : (f : List ℕ) (n p : ℕ) → (read_file f).answer ≡ Answer.Refused (fault n p) → account_of f ≡ stops n p
+pub refused_stops : (f : List ℕ) (n p : ℕ) → (read_file f).answer ≡ Err (fault n p) → account_of f ≡ stops n p
 refused_stops f n p e = rw e at (file_agrees f)
 
-stops_at : (f : List ℕ) (n p : ℕ) (x : Answer) (a : Account) → Agreed f x a → a ≡ stops n p → x
-    ≡ Answer.Refused (fault n p)
-stops_at f n p (Answer.Refused r) a q e =
+stops_at : (f : List ℕ) (n p : ℕ) (x : Result ⊤ Fault) (a : Account) → Agreed f x a → a ≡ stops n p → x
+    ≡ Err (fault n p)
+stops_at f n p (Err r) a q e =
     let z : stops r.number r.offset ≡ stops n p = sym q ∙ e in
     let u : r.number ≡ n = cc in
     let v : r.offset ≡ p = cc in
     rw (sym u, sym v) refl
-stops_at f n p Accepted a q e = apart q.0 (left (length f) []) n p (sym e ∙ q.1)
+stops_at f n p (Ok tt) a q e = apart q.0 (left (length f) []) n p (sym e ∙ q.1)
 
-pub stops_refused : (f : List ℕ) (n p : ℕ) → account_of f ≡ stops n p → (read_file f).answer ≡ Answer.Refused (fault n p)
+pub stops_refused : (f : List ℕ) (n p : ℕ) → account_of f ≡ stops n p → (read_file f).answer ≡ Err (fault n p)
 stops_refused f n p e = stops_at f n p (read_file f).answer (account_of f) (file_agrees f) e
 
 pub accepted_goes : (f : List ℕ) → IsAccepted f → (made : Made) × (account_of f ≡ goes made (left (length f) []))
 accepted_goes f e = rw e at (file_agrees f)
 
-goes_at : (f : List ℕ) (m : Made) (l : Left) (x : Answer) (a : Account) → Agreed f x a → a ≡ goes m l → x ≡ Accepted
-goes_at f m l (Answer.Refused r) a q e = apart m l r.number r.offset (sym q ∙ e)
-goes_at f m l Accepted a q e = refl
+goes_at : (f : List ℕ) (m : Made) (l : Left) (x : Result ⊤ Fault) (a : Account) → Agreed f x a → a ≡ goes m l → x ≡ Ok tt
+goes_at f m l (Err r) a q e = apart m l r.number r.offset (sym q ∙ e)
+goes_at f m l (Ok tt) a q e = refl
 
 pub goes_accepted : (f : List ℕ) (m : Made) (l : Left) → account_of f ≡ goes m l → IsAccepted f
 goes_accepted f m l e = goes_at f m l (read_file f).answer (account_of f) (file_agrees f) e
@@ -61,7 +61,7 @@ file_kept f =
     closed_kept 0 0 (0 + length f) (length f) (pfx none_made (left 0 f)) (left (length f) []) (omega arith)
     (omega arith) (pfx_keeps.kept none_made (left 0 f)) (omega arith) (omega arith)
 
-pub refusal_of_lem : (f : List ℕ) (n p : ℕ) → (read_file f).answer ≡ Answer.Refused (fault n p)
+pub refusal_of_lem : (f : List ℕ) (n p : ℕ) → (read_file f).answer ≡ Err (fault n p)
     → (((1 ≤ n) × (n ≤ 9)) ⊎ (n ≡ 15)) × (p ≤ length f)
 refusal_of_lem f n p e =
     let a = refused_stops f n p e in
@@ -79,10 +79,10 @@ refusal_of_lem f n p e =
     wider (inl h) = inl (h.0, omega (arith, h.1))
     wider (inr h) = inr h
 
-pub long_is_9 : (f : List ℕ) → 65535 < length f → (read_file f).answer ≡ Answer.Refused (fault 9 0)
+pub long_is_9 : (f : List ℕ) → 65535 < length f → (read_file f).answer ≡ Err (fault 9 0)
 long_is_9 f h = stops_refused f 9 0 (too_long_lem f h)
 
-pub nine_is_long : (f : List ℕ) (p : ℕ) → (read_file f).answer ≡ Answer.Refused (fault 9 p) → (65535 < length f)
+pub nine_is_long : (f : List ℕ) (p : ℕ) → (read_file f).answer ≡ Err (fault 9 p) → (65535 < length f)
     × (p ≡ 0)
 nine_is_long f p e =
     let a = refused_stops f 9 p e in
@@ -109,7 +109,7 @@ accepted_whole f e =
     (sym (not_long f (accepted_size f e)) ∙ g.1)
 
 pub cut_refused : (f g r : List ℕ) → IsAccepted g → f ++ r ≡ g → (f ≡ [] → ⊥) → (r ≡ [] → ⊥)
-    → (read_file f).answer ≡ Answer.Refused (fault 15 0)
+    → (read_file f).answer ≡ Err (fault 15 0)
 unfolding pfx
 cut_refused [] g r e q k h = absurd (k refl)
 cut_refused (a ∷ f) g [] e q k h = absurd (h refl)
@@ -120,7 +120,7 @@ cut_refused (a ∷ f) g (b ∷ r) e q k h =
     ∙ cut_stops in_pfx none_made (a ∷ f) (b ∷ r) (left (length (a ∷ f)) []) w (omega arith) (omega arith))
 
 pub after_refused : (f r : List ℕ) → IsAccepted f → (r ≡ [] → ⊥) → length (f ++ r) ≤ 65535 → (read_file (f ++ r)).answer
-    ≡ Answer.Refused (fault 6 (length f))
+    ≡ Err (fault 6 (length f))
 unfolding pfx
 after_refused f [] e h k = absurd (h refl)
 after_refused f (b ∷ r) e h k =

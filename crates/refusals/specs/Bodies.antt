@@ -50,7 +50,7 @@ outer_type x =
     if same_bytes x (pkcs7 0x02) then 7 else 5 else
     5
 
--- Rules 3.8, 3.9: a safe's is data or encrypted_data; envelopedData is 7 (Rule 5.7)
+-- Rules 3.8, 3.9: a safe's is data or encryptedData; envelopedData is 7 (Rule 5.7)
 unfoldable pub safe_type : List ℕ → ℕ
 safe_type x =
     if is_identifier x then
@@ -66,7 +66,7 @@ data_type x =
     if same_bytes x (pkcs7 0x01) then 0 else 5 else
     5
 
--- Rule 3.14: the six kinds of bag; a well-formed bag_id of another kind is 7 (Rule 5.7)
+-- Rule 3.14: the six kinds of bag; a well-formed bagId of another kind is 7 (Rule 5.7)
 unfoldable pub bag_type : List ℕ → ℕ
 bag_type x =
     if is_identifier x then

@@ -20,7 +20,7 @@ unfoldable pub sealed : Rule
 sealed = constructed 0x30 (algorithm before primitive 0x04 anything)
 
 -- Rules 3.17, 3.19: a SEQUENCE of an identifier and [0] with one opaque element; of a certificate
--- with x509_certificate it is an OCTET STRING
+-- with x509Certificate it is an OCTET STRING
 abbrev pub value_tag : Bool → List ℕ → ℕ → Bool
 value_tag is-certificate type = if is-certificate then (if same_bytes type x509 then is 0x04 else any) else any
 
@@ -67,7 +67,7 @@ bag_value inner id =
     if same_bytes id (bag_id 0x05) then typed false else
     inner
 
--- Rule 3.13: SafeBag, a SEQUENCE of a bag_id, [0] with one element, and optionally a SET of
+-- Rule 3.13: SafeBag, a SEQUENCE of a bagId, [0] with one element, and optionally a SET of
 -- attributes
 unfoldable pub bag : Rule → Rule
 bag inner =

@@ -2,28 +2,23 @@
 // makes, and nothing else. A refusal is one line.
 #![tactic(auto)]
 
-use pkcs12::{Answer, Table};
+use der::Fault;
 use std::io;
 use std::io::Write;
 
-// The writer refuses no table of an accepted file.
-fn write_back(output: &mut impl Write, table: Table, file: &[u8]) -> io::Result<()> {
-    let mut out = [0u8; stdio::LARGE];
-    let written = writer::write(table, file, &mut out);
-    stdio::write_result(output, &out, written)?;
-    Ok(())
+// Writes the file of the table that reading makes into a buffer. The writer refuses no table of an
+// accepted file.
+fn written_back(file: &[u8], out: &mut [u8]) -> Result<usize, Fault> {
+    let reading = reader::read(file);
+    reading.answer?;
+    writer::write(reading.table, file, out)
 }
 
 fn rewrite(output: &mut impl Write, file: &[u8]) -> io::Result<()> {
-    let reading = reader::read(file);
-    let answer = reading.answer;
-    match answer {
-        Answer::Accepted => write_back(output, reading.table, file),
-        Answer::Refused(fault) => {
-            stdio::write_refused(output, fault)?;
-            Ok(())
-        }
-    }
+    let mut out = [0u8; stdio::LARGE];
+    let written = written_back(file, &mut out);
+    stdio::write_result(output, &out, written)?;
+    Ok(())
 }
 
 // Of a file that is too long one byte more than the longest has is read, so that it is refused as

@@ -5,6 +5,7 @@ use Prim.Native.Nat.{ℕ}
 use lib.ListN.{length, length-append}
 use Rattle.der.specs.Octets.{digits_from, digits, length_octets, tlv, integer_octets, integer, identifier, sequence}
 use Rattle.der.specs.Octets.{octet_string}
+use Rattle.std.specs.Prelude.{None}
 use Rattle.der.specs.Numbers.{context_tag}
 use Rattle.pkcs12.specs.Numbers.{pfx_version}
 use Rattle.pkcs12.specs.Identifiers.{data_type, encrypted_type, identifier_of}
@@ -16,11 +17,10 @@ use Rattle.sizes.specs.Bodies.{encrypted_data_body, mac_body}
 use Rattle.sizes.specs.Picked.{form_of}
 use Rattle.sizes.specs.Sizes.{bag_size, content_info_size, data_size, pfx_size}
 use Rattle.encode.specs.Sizes.{element_size}
-use Rattle.sizes.specs.declared.rows.Form.{Form}
 use Rattle.encode.proofs.Capped.{length_element}
 
 -- every kind of bag has an identifier of eleven bytes
-bag_id_long : (k : BagKind) → (form_of k ≡ Form.None → ⊥) → length (identifier (identifier_of k)) ≡ 13
+bag_id_long : (k : BagKind) → (form_of k ≡ None → ⊥) → length (identifier (identifier_of k)) ≡ 13
 unfolding identifier_of tlv length_octets
 bag_id_long BagKind.None h = absurd (h refl)
 bag_id_long Key h = refl
@@ -31,7 +31,7 @@ bag_id_long Secret h = refl
 bag_id_long Nested h = refl
 
 -- the body of a bag
-pub bag_body_long : (k : BagKind) (c : List ℕ) (set : Set) → (form_of k ≡ Form.None → ⊥)
+pub bag_body_long : (k : BagKind) (c : List ℕ) (set : Set) → (form_of k ≡ None → ⊥)
     → length (identifier (identifier_of k) ++ (tlv context_tag c ++ set_bytes set))
     ≡ bag_size (length c) (length (set_bytes set))
 unfolding bag_size
@@ -43,7 +43,7 @@ bag_body_long k c set h =
       length_element context_tag c,
     ) refl
 
-pub length_bag : (k : BagKind) (c : List ℕ) (set : Set) → (form_of k ≡ Form.None → ⊥)
+pub length_bag : (k : BagKind) (c : List ℕ) (set : Set) → (form_of k ≡ None → ⊥)
     → length (bag_bytes k c set) ≡ element_size (bag_size (length c) (length (set_bytes set)))
 unfolding bag_bytes
 length_bag k c set h = length_element _ _ ∙ ap element_size (bag_body_long k c set h)

@@ -13,7 +13,7 @@ use Rattle.pkcs12.specs.Encode.{attribute_bytes, attributes_bytes, bags_bytes, s
 use Rattle.der.specs.Choice.{both}
 use Rattle.pkcs12.specs.Values.{same_enclosing}
 use Rattle.pkcs12.specs.Table.{no_attribute}
-use Rattle.pkcs12.specs.declared.row.Enclosing.{Enclosing}
+use Rattle.std.specs.Prelude.{Option}
 use Rattle.pkcs12.specs.declared.table.Table.{Table}
 use Rattle.sizes.specs.Bodies.{attribute_in}
 use Rattle.sizes.specs.Picked.{attribute_end, bag_end, safe_end, attribute_value, bag_value, own_picked, nothing}
@@ -69,7 +69,7 @@ module _ (t : Table) (s : List ℕ) (n from : ℕ) where
 
 -- ---- the bags in safe k and enclosing bag e, from rows `first` and `from` on
 
-module _ (t : Table) (s : List ℕ) (l k : ℕ) (e : Enclosing) (first from : ℕ) where
+module _ (t : Table) (s : List ℕ) (l k : ℕ) (e : Option ℕ) (first from : ℕ) where
   abbrev pub BagsSeen : ℕ → ℕ → List ℕ → Type 0
   BagsSeen n m x =
       Seen {A = ℕ × ℕ} (bags_bytes (bags_picked t s l k e first from).bags) (bags_bytes (bags_picked t s l k e n m).bags)

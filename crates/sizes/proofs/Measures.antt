@@ -17,19 +17,16 @@ use Rattle.pkcs12.specs.Values.{same_enclosing}
 use Rattle.pkcs12.specs.Table.{no_attribute, no_bag}
 use Rattle.pkcs12.specs.declared.kind.BagKind.{BagKind}
 use Rattle.pkcs12.specs.declared.row.BagRow.{BagRow}
-use Rattle.pkcs12.specs.declared.row.Enclosing.{Enclosing}
-use Rattle.pkcs12.specs.declared.row.Enclosing.TheVariants.{Bag}
+use Rattle.std.specs.Prelude.{None, Option as Maybe, Some}
 use Rattle.pkcs12.specs.declared.table.Table.{Table}
 use Rattle.sizes.specs.Bodies.{content_of, attribute_in, attribute_body}
 use Rattle.sizes.specs.Picked.{attribute_end, bag_end, attribute_value, bag_value, form_of, SetPicked, set_picked}
 use Rattle.sizes.specs.Picked.{Picked, OnePicked, bag_picked, bags_picked}
-use Rattle.sizes.specs.Sizes.{bag_size, present_as, set_sized, sized_as, one_of, taken_sized, one_sized}
+use Rattle.sizes.specs.Sizes.{bag_size, present_as, set_sized, sized_as, taken_sized, one_sized}
 use Rattle.encode.specs.Sizes.{capped, element_size}
 use Rattle.sizes.specs.declared.rows.Owned.{Owned}
 use Rattle.sizes.specs.declared.rows.Taken.{Taken}
 use Rattle.sizes.specs.declared.rows.Form.{Form}
-use Rattle.sizes.specs.declared.rows.One.{One}
-use Rattle.sizes.specs.declared.rows.One.TheVariants.{Found}
 use Rattle.encode.proofs.Capped.{Sized, sized_told, sum_is, element_is, sized_element, near_element}
 use Rattle.sizes.proofs.Nears.{near_bag}
 use Rattle.sizes.proofs.Lengths.{length_bag}
@@ -109,51 +106,51 @@ module _ (t : Table) (s : List ℕ) (h : Bool) (n from : ℕ) where
 
 -- by the sizes of its content and of its set
 one_of_lem : (o : Option OnePicked) (k : BagKind) (c : List ℕ) (set : SetPicked) (next : ℕ) → BagTaken o k c set next
-    → (content bag : ℕ) (owned : Owned) (r : One) → Sized content c → owned ≡ set_sized set → bag ≡ next
-    → r ≡ one_of (element_size (bag_size content owned.size)) bag owned.next → r ≡ one_sized o
+    → (content bag : ℕ) (owned : Owned) (r : Taken) → Sized content c → owned ≡ set_sized set → bag ≡ next
+    → r ≡ sized_as (element_size (bag_size content owned.size)) bag owned.next → Some r ≡ one_sized o
 unfolding one_sized
 one_of_lem o k c set next b content bag owned r p w q e =
     let size : capped (element_size (bag_size content owned.size)) ≡ capped (length (bag_bytes k c set.set)) =
     (near_element _ _
     (near_bag content owned.size (length c) (length (set_bytes set.set)) p (owned_sized set owned w))).alike
     ∙ ap capped (sym (length_bag k c set.set b.kind)) in
-    e ∙ rw (b.found, b.bytes, b.bag, b.attribute, size, q, owned_next set owned w) refl
+    ap Some e ∙ rw (b.found, b.bytes, b.bag, b.attribute, size, q, owned_next set owned w) refl
 
-module _ (t : Table) (s : List ℕ) (l k n from : ℕ) (row : BagRow) (e : row ≡ get_or t.bags n no_bag) (f : Form)
+module _ (t : Table) (s : List ℕ) (l k n from : ℕ) (row : BagRow) (e : row ≡ get_or t.bags n no_bag) (f : Maybe Form)
     (o : f ≡ form_of row.kind) where
-  pub one_none : f ≡ Form.None → One.None ≡ one_sized (bag_picked t s l k n from)
+  pub one_none : f ≡ None → None ≡ one_sized (bag_picked t s l k n from)
   unfolding one_sized
   one_none h = rw (bag_is_empty t s l k n from row e (sym o ∙ h)) refl
 
-  pub one_leaf : (content : ℕ) (owned : Owned) (r : One) → f ≡ Form.Leaf
+  pub one_leaf : (content : ℕ) (owned : Owned) (r : Taken) → f ≡ Some Form.Leaf
       → content ≡ capped (length (content_of s row.kind row.parts))
       → owned ≡ set_sized (set_picked t s row.has_set n from)
-      → r ≡ one_of (element_size (bag_size content owned.size)) (n + 1) owned.next
-      → r ≡ one_sized (bag_picked t s l k n from)
+      → r ≡ sized_as (element_size (bag_size content owned.size)) (n + 1) owned.next
+      → Some r ≡ one_sized (bag_picked t s l k n from)
   one_leaf content owned r h c w p =
       one_of_lem _ _ _ _ _ (bag_is_leaf t s l k n from row e (sym o ∙ h)) content (n + 1) owned r
       (sized_told content (content_of s row.kind row.parts) c) w refl p
 
-  module _ (h : f ≡ Form.Nested) where
-    pub one_too_deep : l ≡ 0 → One.None ≡ one_sized (bag_picked t s l k n from)
+  module _ (h : f ≡ Some Form.Nested) where
+    pub one_too_deep : l ≡ 0 → None ≡ one_sized (bag_picked t s l k n from)
     unfolding one_sized
     one_too_deep z = rw (bag_is_too_deep t s l k n from row e (sym o ∙ h) z) refl
 
-    pub one_nest : (inner : Taken) (content : ℕ) (owned : Owned) (r : One) → (l ≡ 0 → ⊥)
-        → inner ≡ taken_sized (bags_picked t s (l - 1) k (Bag n) (n + 1) from) → content ≡ capped (element_size inner.size)
+    pub one_nest : (below : ℕ) → l ≡ below + 1 → (inner : Taken) (content : ℕ) (owned : Owned) (r : Taken)
+        → inner ≡ taken_sized (bags_picked t s below k (Some n) (n + 1) from) → content ≡ capped (element_size inner.size)
         → owned ≡ set_sized (set_picked t s row.has_set n inner.attribute)
-        → r ≡ one_of (element_size (bag_size content owned.size)) inner.bag owned.next
-        → r ≡ one_sized (bag_picked t s l k n from)
-    one_nest inner content owned r z i c w p =
-        let all : Picked = bags_picked t s (l - 1) k (Bag n) (n + 1) from in
-        one_of_lem _ _ _ _ _ (bag_is_nest t s l k n from row e (sym o ∙ h) z) content inner.bag owned r
+        → r ≡ sized_as (element_size (bag_size content owned.size)) inner.bag owned.next
+        → Some r ≡ one_sized (bag_picked t s l k n from)
+    one_nest below z inner content owned r i c w p =
+        let all : Picked = bags_picked t s below k (Some n) (n + 1) from in
+        one_of_lem _ _ _ _ _ (bag_is_nest t s l k n from row e (sym o ∙ h) below z) content inner.bag owned r
         (sized_element content inner.size sequence_tag (bags_bytes all.bags) c (taken_sized_lem all inner i))
         (rw (taken_attribute all inner i) at w) (taken_bag all inner i) p
 
 -- ---- bags side by side
 
 -- the loop of `bags`
-pub record BagsGoing (t : Table) (s : List ℕ) (l k : ℕ) (e : Enclosing) (first from end : ℕ)
+pub record BagsGoing (t : Table) (s : List ℕ) (l k : ℕ) (e : Maybe ℕ) (first from end : ℕ)
     (taken : Taken) : Type 0 where
   pub seen_bytes : List ℕ
   pub seen : BagsSeen t s l k e first from taken.bag taken.attribute seen_bytes
@@ -161,7 +158,7 @@ pub record BagsGoing (t : Table) (s : List ℕ) (l k : ℕ) (e : Enclosing) (fir
   pub end_is : end ≡ bag_end t
   pub within : end ≤ bag_rows
 
-module _ (t : Table) (s : List ℕ) (l k : ℕ) (e : Enclosing) (first from : ℕ) where
+module _ (t : Table) (s : List ℕ) (l k : ℕ) (e : Maybe ℕ) (first from : ℕ) where
   pub bags_starts : (end : ℕ) → end ≡ bag_end t
       → BagsGoing t s l k e first from end (record { size = 0; bag = first; attribute = from })
   unfolding capped
@@ -190,13 +187,13 @@ module _ (t : Table) (s : List ℕ) (l k : ℕ) (e : Enclosing) (first from : �
       bags_leaves z = all_taken (bags_leave t s l k e first from taken.bag taken.attribute g.seen_bytes
           g.seen (rw g.end_is at h) (sym b ∙ z))
 
-      module _ (z : u ≡ true) (r : One) (o : r ≡ one_sized (bag_picked t s l k taken.bag taken.attribute)) where
-        pub bags_nots : r ≡ One.None → taken ≡ taken_sized (bags_picked t s l k e first from)
+      module _ (z : u ≡ true) (r : Maybe Taken) (o : r ≡ one_sized (bag_picked t s l k taken.bag taken.attribute)) where
+        pub bags_nots : r ≡ None → taken ≡ taken_sized (bags_picked t s l k e first from)
         bags_nots q =
             all_taken (bags_not t s l k e first from taken.bag taken.attribute g.seen_bytes g.seen
             (rw g.end_is at h) (sym b ∙ z) (none_one _ (sym q ∙ o)))
 
-        pub bags_goes : (one joined : Taken) → r ≡ Found one
+        pub bags_goes : (one joined : Taken) → r ≡ Some one
             → joined ≡ sized_as (taken.size + one.size) one.bag one.attribute
             → BagsGoing t s l k e first from end joined
         bags_goes one joined q j =
@@ -213,7 +210,7 @@ module _ (t : Table) (s : List ℕ) (l k : ℕ) (e : Enclosing) (first from : �
             }
 
         -- and the rows to come are fewer
-        pub bags_less : (one joined : Taken) → r ≡ Found one
+        pub bags_less : (one joined : Taken) → r ≡ Some one
             → joined ≡ sized_as (taken.size + one.size) one.bag one.attribute
             → end - joined.bag < end - taken.bag
         bags_less one joined q j =

@@ -11,7 +11,7 @@ use Rattle.pkcs12.specs.Table.{no_safe, sealed_in}
 use Rattle.pkcs12.specs.declared.kind.SafeKind.{SafeKind}
 use Rattle.pkcs12.specs.declared.kind.SafeKind.TheVariants.{Plain, Encrypted}
 use Rattle.pkcs12.specs.declared.row.SafeRow.{SafeRow}
-use Rattle.pkcs12.specs.declared.row.Enclosing.{Enclosing}
+use Rattle.std.specs.Prelude.{None, Option, Some}
 use Rattle.pkcs12.specs.declared.table.Table.{Table}
 use Rattle.sizes.specs.Bodies.{encrypted_data_body}
 use Rattle.sizes.specs.Picked.{safe_end, Picked, bags_picked, safe_picked, safes_picked}
@@ -19,8 +19,6 @@ use Rattle.sizes.specs.Sizes.{content_info_size, data_size, sized_as, taken_size
 use Rattle.encode.specs.Sizes.{capped, element_size}
 use Rattle.sizes.specs.declared.rows.Taken.{Taken}
 use Rattle.sizes.specs.declared.rows.Safes.{Safes}
-use Rattle.sizes.specs.declared.rows.One.{One}
-use Rattle.sizes.specs.declared.rows.One.TheVariants.{Found}
 use Rattle.encode.proofs.Capped.{Near, near_told, near_then, near_element, sized_told, sum_is}
 use Rattle.sizes.proofs.Nears.{near_data, near_content_info}
 use Rattle.sizes.proofs.Leaves.{found_is}
@@ -32,18 +30,18 @@ use Rattle.sizes.proofs.Taken.{safe_is_empty, safe_is_plain, safe_is_encrypted}
 -- ---- one safe
 
 module _ (t : Table) (s : List ℕ) (k first from : ℕ) (row : SafeRow) (e : row ≡ get_or t.safes k no_safe) where
-  pub safe_none_sized : row.kind ≡ SafeKind.None → One.None ≡ safe_sized (safe_picked t s k first from)
+  pub safe_none_sized : row.kind ≡ SafeKind.None → None ≡ safe_sized (safe_picked t s k first from)
   unfolding safe_sized
   safe_none_sized h = rw (safe_is_empty t s k first from row e h) refl
 
   pub safe_plain_sized : (taken : Taken) (body size : ℕ) → row.kind ≡ Plain
-      → taken ≡ taken_sized (bags_picked t s 7 k Enclosing.None first from)
+      → taken ≡ taken_sized (bags_picked t s 7 k None first from)
       → body ≡ capped (data_size taken.size) → size ≡ capped (element_size body)
-      → Found (record { size = size; bag = taken.bag; attribute = taken.attribute })
+      → Some (record { size = size; bag = taken.bag; attribute = taken.attribute })
       ≡ safe_sized (safe_picked t s k first from)
   unfolding safe_sized safe_bytes
   safe_plain_sized taken body size h w p q =
-      let all : Picked = bags_picked t s 7 k Enclosing.None first from in
+      let all : Picked = bags_picked t s 7 k None first from in
       let bytes : List ℕ = bags_bytes all.bags in
       let near : Near body (data_size (length bytes)) =
       near_then _ _ _ (near_told body _ p) (near_data taken.size (length bytes) (taken_sized_lem all taken w)) in
@@ -59,7 +57,7 @@ module _ (t : Table) (s : List ℕ) (k first from : ℕ) (row : SafeRow) (e : ro
       → content ≡ capped (length (encrypted_data_body (sealed_in s row.parts)))
       → string ≡ capped (element_size content) → info ≡ capped (content_info_size string)
       → size ≡ capped (element_size info)
-      → Found (record { size = size; bag = first; attribute = from }) ≡ safe_sized (safe_picked t s k first from)
+      → Some (record { size = size; bag = first; attribute = from }) ≡ safe_sized (safe_picked t s k first from)
   unfolding safe_sized
   safe_encrypted_sized content string info size h c p q r =
       let bytes : List ℕ = encrypted_data_body (sealed_in s row.parts) in
@@ -96,13 +94,13 @@ module _ (t : Table) (s : List ℕ) where
     safes_ends r h p = all_safes r
         (safes_end_lem t s k taken.bag taken.attribute g.seen_bytes g.seen (rw g.end_is at h)) p
 
-    module _ (h : k < end) (r : One) (o : r ≡ safe_sized (safe_picked t s k taken.bag taken.attribute)) where
-      pub safes_nots : (x : Safes) → r ≡ One.None → x ≡ with_safe taken k → x ≡ safes_sized (safes_picked t s 0 0 0)
+    module _ (h : k < end) (r : Option Taken) (o : r ≡ safe_sized (safe_picked t s k taken.bag taken.attribute)) where
+      pub safes_nots : (x : Safes) → r ≡ None → x ≡ with_safe taken k → x ≡ safes_sized (safes_picked t s 0 0 0)
       safes_nots x q p =
           all_safes x (safes_not t s k taken.bag taken.attribute g.seen_bytes g.seen (rw g.end_is at h)
           (none_safe _ (sym q ∙ o))) p
 
-      pub safes_goes : (one joined : Taken) → r ≡ Found one
+      pub safes_goes : (one joined : Taken) → r ≡ Some one
           → joined ≡ sized_as (taken.size + one.size) one.bag one.attribute → SafesGoing t s end joined (k + 1)
       safes_goes one joined q j =
           let a = found_safe one _ (sym q ∙ o) in

@@ -14,8 +14,7 @@ use Rattle.der.proofs.Choices.{by_test, by_lt}
 use Rattle.pkcs12.specs.Syntax.{Leaf, Bags, none, bag, nest}
 use Rattle.pkcs12.specs.Encode.{bags_bytes}
 use Rattle.pkcs12.specs.Values.{Content, empty_bag, leaf, nested, same_enclosing, on_content, on_level}
-use Rattle.pkcs12.specs.declared.row.Enclosing.{Enclosing}
-use Rattle.pkcs12.specs.declared.row.Enclosing.TheVariants.{Bag}
+use Rattle.std.specs.Prelude.{Option as Maybe, Some}
 use Rattle.pkcs12.specs.declared.table.Table.{Table}
 use Rattle.sizes.specs.Picked.{attribute_end, bag_end, safe_end, attribute_value, bag_value, also_own, own_from}
 use Rattle.sizes.specs.Picked.{own_picked}
@@ -122,7 +121,7 @@ module _ (t : Table) (s : List ℕ) where
   -- ---- bags
 
   -- the next bag row is none before
-  pub bags_ahead : (f l k : ℕ) (e : Enclosing) (n m : ℕ) → n ≤ (bags_from t s f l k e n m).bag
+  pub bags_ahead : (f l k : ℕ) (e : Maybe ℕ) (n m : ℕ) → n ≤ (bags_from t s f l k e n m).bag
   unfolding bags_from
   bags_ahead zero l k e n m = omega arith
   bags_ahead (suc f) l k e n m =
@@ -133,12 +132,12 @@ module _ (t : Table) (s : List ℕ) where
       (λ c. omega arith)
       (λ x c. further n (n + 1) _ (omega arith) (bags_ahead f l k e (n + 1) _))
       (λ c. by_level (λ (p : Picked). n ≤ p.bag) _ l _ (omega arith)
-      (λ below. further n _ _ (bags_ahead f below k (Bag n) (n + 1) m) (bags_ahead f l k e _ _))))
+      (λ below. further n _ _ (bags_ahead f below k (Some n) (n + 1) m) (bags_ahead f l k e _ _))))
       (λ q. omega arith))
       (λ h. omega arith)
 
   -- a nested bag from either of two that are the same
-  same_nest : (f g l k : ℕ) (e : Enclosing) (n : ℕ) (h : Bool) (p q : Picked) → p ≡ q
+  same_nest : (f g l k : ℕ) (e : Maybe ℕ) (n : ℕ) (h : Bool) (p q : Picked) → p ≡ q
       → bags_from t s f l k e p.bag (set_picked t s h n p.attribute).next
       ≡ bags_from t s g l k e p.bag (set_picked t s h n p.attribute).next
       → before (nest p.bags (set_picked t s h n p.attribute).set)
@@ -148,7 +147,7 @@ module _ (t : Table) (s : List ℕ) where
   same_nest f g l k e n h p q c d = rw (← c, d)
 
   -- any number of turns that is enough takes the same bags
-  pub bags_enough : (f g l k : ℕ) (e : Enclosing) (n m : ℕ) → bag_end t - n ≤ f → bag_end t - n ≤ g
+  pub bags_enough : (f g l k : ℕ) (e : Maybe ℕ) (n m : ℕ) → bag_end t - n ≤ f → bag_end t - n ≤ g
       → bags_from t s f l k e n m ≡ bags_from t s g l k e n m
   unfolding bags_from
   bags_enough zero zero l k e n m p q = refl
@@ -163,18 +162,18 @@ module _ (t : Table) (s : List ℕ) where
       (same_level l _ _ _
       (λ below.
       same_nest f g l k e n (bag_value t s n).has_set
-      (bags_from t s f below k (Bag n) (n + 1) m) (bags_from t s g below k (Bag n) (n + 1) m)
-      (bags_enough f g below k (Bag n) (n + 1) m (omega arith) (omega arith))
+      (bags_from t s f below k (Some n) (n + 1) m) (bags_from t s g below k (Some n) (n + 1) m)
+      (bags_enough f g below k (Some n) (n + 1) m (omega arith) (omega arith))
       (bags_enough f g l k e _ _
-      (omega (arith, p, h, bags_ahead f below k (Bag n) (n + 1) m))
-      (omega (arith, q, h, bags_ahead f below k (Bag n) (n + 1) m)))))))
+      (omega (arith, p, h, bags_ahead f below k (Some n) (n + 1) m))
+      (omega (arith, q, h, bags_ahead f below k (Some n) (n + 1) m)))))))
 
   -- none are left, or the next belongs elsewhere
-  pub bags_past : (l k : ℕ) (e : Enclosing) (n m : ℕ) → bag_end t ≤ n → bags_picked t s l k e n m ≡ nothing n m
+  pub bags_past : (l k : ℕ) (e : Maybe ℕ) (n m : ℕ) → bag_end t ≤ n → bags_picked t s l k e n m ≡ nothing n m
   unfolding bags_picked bags_from
   bags_past l k e n m h = let z : bag_end t - n ≡ 0 = omega arith in rw z refl
 
-  module _ (l k : ℕ) (e : Enclosing) (n m : ℕ) (h : n < bag_end t) where
+  module _ (l k : ℕ) (e : Maybe ℕ) (n m : ℕ) (h : n < bag_end t) where
     pub bags_other : both (eqb (bag_value t s n).safe k) (same_enclosing (bag_value t s n).enclosing e) ≡ false
         → bags_picked t s l k e n m ≡ nothing n m
     unfolding bags_picked bags_from
@@ -190,8 +189,8 @@ module _ (t : Table) (s : List ℕ) where
         rw (z, lt-ltb n (bag_end t) h, q, one_content, one_level)
         (same_content (bag_value t s n).content _ _ _ _ _ (λ x. refl)
         (same_level l _ _ _
-        (λ below. behind (bags_from t s (bag_end t - (n + 1)) below k (Bag n) (n + 1) m)
-        (bags_ahead (bag_end t - (n + 1)) below k (Bag n) (n + 1) m))))
+        (λ below. behind (bags_from t s (bag_end t - (n + 1)) below k (Some n) (n + 1) m)
+        (bags_ahead (bag_end t - (n + 1)) below k (Some n) (n + 1) m))))
       where
         behind : (p : Picked) → n + 1 ≤ p.bag
             → before (nest p.bags (set_picked t s (bag_value t s n).has_set n p.attribute).set)
@@ -221,7 +220,7 @@ module _ (t : Table) (s : List ℕ) where
       (by_content (OfSome (λ (o : OnePicked). n < o.bag)) _ (bag_value t s n).content _ _
       (λ c. tt) (λ x c. omega arith)
       (λ c. by_level (OfSome (λ (o : OnePicked). n < o.bag)) _ l _ tt
-      (λ below. beyond _ (bags_ahead (bag_end t - (n + 1)) below k (Bag n) (n + 1) m))))
+      (λ below. beyond _ (bags_ahead (bag_end t - (n + 1)) below k (Some n) (n + 1) m))))
     where
       beyond : (a : ℕ) → n + 1 ≤ a → n < a
       beyond a h = omega arith
@@ -261,10 +260,10 @@ module _ (t : Table) (s : List ℕ) where
     pub bag_nest : (below : ℕ) → (bag_value t s n).content ≡ nested → l ≡ suc below
         → bag_picked t s l k n m
         ≡ some (record {
-          front = nest (bags_picked t s below k (Bag n) (n + 1) m).bags
-              (set_picked t s (bag_value t s n).has_set n (bags_picked t s below k (Bag n) (n + 1) m).attribute).set;
-          bag = (bags_picked t s below k (Bag n) (n + 1) m).bag;
-          attribute = (set_picked t s (bag_value t s n).has_set n (bags_picked t s below k (Bag n) (n + 1) m).attribute).next;
+          front = nest (bags_picked t s below k (Some n) (n + 1) m).bags
+              (set_picked t s (bag_value t s n).has_set n (bags_picked t s below k (Some n) (n + 1) m).attribute).set;
+          bag = (bags_picked t s below k (Some n) (n + 1) m).bag;
+          attribute = (set_picked t s (bag_value t s n).has_set n (bags_picked t s below k (Some n) (n + 1) m).attribute).next;
         })
     unfolding bag_picked
     bag_nest below c h = rw (c, h)

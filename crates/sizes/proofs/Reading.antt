@@ -21,8 +21,7 @@ use Rattle.pkcs12.specs.Values.{tree_of}
 use Rattle.pkcs12.specs.Values as values
 use Rattle.pkcs12.specs.Table.{no_safe, no_bag, no_attribute, safe_shown, bag_shown, attribute_shown}
 use Rattle.pkcs12.specs.Table.{mac_shown, rows_in, shown, values_of, reading_of}
-use Rattle.pkcs12.specs.declared.row.Enclosing.{Enclosing}
-use Rattle.pkcs12.specs.declared.row.Enclosing.TheVariants.{Bag}
+use Rattle.std.specs.Prelude.{None, Option as Maybe, Some}
 use Rattle.pkcs12.specs.declared.table.Table.{Table}
 use Rattle.sizes.specs.Picked.{attribute_end, bag_end, safe_end, attribute_value, bag_value, safe_value}
 use Rattle.sizes.specs.Picked.{OwnPicked}
@@ -95,7 +94,7 @@ module _ (t : Table) (s : List ℕ) where
   set_within true n m p = omega (arith, p, own_from_within (attribute_end t - m) n m)
   set_within false n m p = p
 
-  pub bags_within : (f l k : ℕ) (e : Enclosing) (n m : ℕ) → Within t n m
+  pub bags_within : (f l k : ℕ) (e : Maybe ℕ) (n m : ℕ) → Within t n m
       → Within t (bags_from t s f l k e n m).bag (bags_from t s f l k e n m).attribute
   unfolding bags_from
   bags_within zero l k e n m p = p
@@ -107,14 +106,14 @@ module _ (t : Table) (s : List ℕ) where
       (λ x d. bags_within f l k e (n + 1) _ (omega (arith, h), set_within (bag_value t s n).has_set n m p.1))
       (λ d. by_level (λ (u : Picked). Within t u.bag u.attribute) _ l _ p
       (λ below.
-      let i = bags_within f below k (Bag n) (n + 1) m (omega (arith, h), p.1) in
+      let i = bags_within f below k (Some n) (n + 1) m (omega (arith, h), p.1) in
       bags_within f l k e _ _ (i.0, set_within (bag_value t s n).has_set n _ i.1))))
       (λ c. p))
       (λ h. p)
 
   contents_within : (k n m : ℕ) → Within t n m → Within t (contents_picked t s k n m).bag (contents_picked t s k n m).attribute
   unfolding bags_picked
-  contents_within k n m p = bags_within (bag_end t - n) _ k Enclosing.None n m p
+  contents_within k n m p = bags_within (bag_end t - n) _ k None n m p
 
 -- ---- safes of which every row was taken
 
@@ -241,7 +240,7 @@ module _ (t : Table) (s : List ℕ) (fit : CountsFit t) where
 
   -- ---- bags
 
-  pub taken_is : (f l k : ℕ) (e : Enclosing) (n m : ℕ)
+  pub taken_is : (f l k : ℕ) (e : Maybe ℕ) (n m : ℕ)
       → values.bags_from f l k e n (drop n (values_of t s).bags) (drop m (values_of t s).attributes)
       ≡ taken_as t s (bags_from t s f l k e n m)
   unfolding values.bags_from bags_from
@@ -256,10 +255,10 @@ module _ (t : Table) (s : List ℕ) (fit : CountsFit t) where
       (λ x. let i = set_is (bag_value t s n).has_set n m in
       rw (i.0, i.1, taken_is f l k e (n + 1) (set_picked t s (bag_value t s n).has_set n m).next) refl)
       (λ below.
-      let p : Picked = bags_from t s f below k (Bag n) (n + 1) m in
+      let p : Picked = bags_from t s f below k (Some n) (n + 1) m in
       let i = set_is (bag_value t s n).has_set n p.attribute in
       rw (
-        taken_is f below k (Bag n) (n + 1) m,
+        taken_is f below k (Some n) (n + 1) m,
         i.0,
         i.1,
         taken_is f l k e p.bag (set_picked t s (bag_value t s n).has_set n p.attribute).next,
@@ -273,7 +272,7 @@ module _ (t : Table) (s : List ℕ) (fit : CountsFit t) where
   contents_is k n m =
       let z : length (drop n (values_of t s).bags) ≡ bag_end t - n =
       rw (length-drop n (values_of t s).bags, bags_length, bag_end_lem t fit) in
-      rw z (taken_is (bag_end t - n) _ k Enclosing.None n m)
+      rw z (taken_is (bag_end t - n) _ k None n m)
 
   -- ---- safes
 

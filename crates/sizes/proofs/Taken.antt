@@ -4,7 +4,7 @@ use mathlib.Core.Path.{◌≡◌, refl, sym, ap, ◌∙◌}
 use mathlib.Core.List.{List, append-nil}
 use mathlib.Core.Option.{Option, some}
 use mathlib.Core.Option as option
-use Prim.Native.Nat.{ℕ, ◌+◌, ◌-◌}
+use Prim.Native.Nat.{ℕ, ◌+◌}
 use native.Mathlib.Omega.{arith}
 use lib.ListN.{length, get_or}
 use Rattle.pkcs12.specs.Syntax.{Leaf, none, plain, encrypted, kind_of_leaf}
@@ -19,8 +19,7 @@ use Rattle.pkcs12.specs.declared.row.BagRow.{BagRow}
 use Rattle.pkcs12.specs.declared.kind.SafeKind.{SafeKind}
 use Rattle.pkcs12.specs.declared.kind.SafeKind.TheVariants.{Plain, Encrypted}
 use Rattle.pkcs12.specs.declared.row.SafeRow.{SafeRow}
-use Rattle.pkcs12.specs.declared.row.Enclosing.{Enclosing}
-use Rattle.pkcs12.specs.declared.row.Enclosing.TheVariants.{Bag}
+use Rattle.std.specs.Prelude.{None, Some}
 use Rattle.pkcs12.specs.declared.table.Table.{Table}
 use Rattle.sizes.specs.Bodies.{content_of}
 use Rattle.sizes.specs.Picked.{bag_value, form_of, SetPicked, set_picked, Picked, bags_picked, OnePicked, bag_picked}
@@ -30,8 +29,6 @@ use Rattle.encode.specs.Sizes.{capped}
 use Rattle.sizes.specs.declared.rows.Owned.{Owned}
 use Rattle.sizes.specs.declared.rows.Taken.{Taken}
 use Rattle.sizes.specs.declared.rows.Form.{Form}
-use Rattle.sizes.specs.declared.rows.One.{One}
-use Rattle.sizes.specs.declared.rows.One.TheVariants.{Found}
 use Rattle.encode.proofs.Capped.{Sized, sized_told}
 use Rattle.sizes.proofs.Picks.{bag_empty, bag_leaf, bag_too_deep, bag_nest}
 
@@ -66,40 +63,40 @@ module _ (p : Picked) (taken : Taken) (e : taken ≡ taken_sized p) where
   taken_attribute = ap (λ (x : Taken). x.attribute) e
 
 -- one bag, and one safe
-found_same : (a b : Taken) → Found a ≡ Found b → a ≡ b
+found_same : (a b : Taken) → Some a ≡ Some b → a ≡ b
 found_same a b e = cc
 
-pub found_one : (one : Taken) (o : Option OnePicked) → Found one ≡ one_sized o
+pub found_one : (one : Taken) (o : Option OnePicked) → Some one ≡ one_sized o
     → (p : OnePicked) × (o ≡ some p) × (one ≡ sized_as (length (bags_bytes (p.front none))) p.bag p.attribute)
 unfolding one_sized
 found_one one option.none e = (let z : ◌≡◌ {A = ℕ} 0 1 = cc in absurd (omega arith))
 found_one one (some p) e = (p, refl, found_same _ _ e)
 
-pub none_one : (o : Option OnePicked) → One.None ≡ one_sized o → o ≡ option.none
+pub none_one : (o : Option OnePicked) → None ≡ one_sized o → o ≡ option.none
 unfolding one_sized
 none_one option.none e = refl
 none_one (some p) e = cc
 
-pub found_safe : (one : Taken) (o : Option SafePicked) → Found one ≡ safe_sized o
+pub found_safe : (one : Taken) (o : Option SafePicked) → Some one ≡ safe_sized o
     → (p : SafePicked) × (o ≡ some p) × (one ≡ sized_as (length (safe_bytes p.safe)) p.bag p.attribute)
 unfolding safe_sized
 found_safe one option.none e = (let z : ◌≡◌ {A = ℕ} 0 1 = cc in absurd (omega arith))
 found_safe one (some p) e = (p, refl, found_same _ _ e)
 
-pub none_safe : (o : Option SafePicked) → One.None ≡ safe_sized o → o ≡ option.none
+pub none_safe : (o : Option SafePicked) → None ≡ safe_sized o → o ≡ option.none
 unfolding safe_sized
 none_safe option.none e = refl
 none_safe (some p) e = cc
 
 -- ---- what a bag's row shows, by its kind
 
-pub leaf_some : (k : BagKind) → form_of k ≡ Form.Leaf → form_of k ≡ Form.None → ⊥
+pub leaf_some : (k : BagKind) → form_of k ≡ Some Form.Leaf → form_of k ≡ None → ⊥
 leaf_some k h e = (let z : ◌≡◌ {A = ℕ} 0 1 = cc in omega arith)
 
-nested_some : (k : BagKind) → form_of k ≡ Form.Nested → form_of k ≡ Form.None → ⊥
+nested_some : (k : BagKind) → form_of k ≡ Some Form.Nested → form_of k ≡ None → ⊥
 nested_some k h e = (let z : ◌≡◌ {A = ℕ} 0 1 = cc in omega arith)
 
-form_none : (s : List ℕ) (k : BagKind) (p : Parts) → form_of k ≡ Form.None → content_in s k p ≡ empty_bag
+form_none : (s : List ℕ) (k : BagKind) (p : Parts) → form_of k ≡ None → content_in s k p ≡ empty_bag
 form_none s BagKind.None p e = refl
 form_none s Key p e = cc
 form_none s ShroudedKey p e = cc
@@ -108,7 +105,7 @@ form_none s Crl p e = cc
 form_none s Secret p e = cc
 form_none s Nested p e = cc
 
-form_nested : (s : List ℕ) (k : BagKind) (p : Parts) → form_of k ≡ Form.Nested
+form_nested : (s : List ℕ) (k : BagKind) (p : Parts) → form_of k ≡ Some Form.Nested
     → (content_in s k p ≡ nested) × (k ≡ Nested)
 form_nested s BagKind.None p e = (let z : ◌≡◌ {A = ℕ} 0 1 = cc in absurd (omega arith))
 form_nested s Key p e = (let z : ◌≡◌ {A = ℕ} 0 1 = cc in absurd (omega arith))
@@ -124,7 +121,7 @@ record LeafIs (s : List ℕ) (k : BagKind) (p : Parts) : Type 0 where
   kind : kind_of_leaf value ≡ k
   bytes : leaf_bytes value ≡ content_of s k p
 
-form_leaf : (s : List ℕ) (k : BagKind) (p : Parts) → form_of k ≡ Form.Leaf → LeafIs s k p
+form_leaf : (s : List ℕ) (k : BagKind) (p : Parts) → form_of k ≡ Some Form.Leaf → LeafIs s k p
 unfolding content_of
 form_leaf s BagKind.None p e = (let z : ◌≡◌ {A = ℕ} 0 1 = cc in absurd (omega arith))
 form_leaf s Key p e = record { value = _; shows = refl; kind = refl; bytes = refl }
@@ -140,7 +137,7 @@ form_leaf s Nested p e = (let z : ◌≡◌ {A = ℕ} 0 1 = cc in absurd (omega 
 pub record BagTaken (o : Option OnePicked) (k : BagKind) (content : List ℕ) (set : SetPicked) (next : ℕ) : Type 0 where
   pub picked : OnePicked
   pub found : o ≡ some picked
-  pub kind : form_of k ≡ Form.None → ⊥
+  pub kind : form_of k ≡ None → ⊥
   pub bytes : bags_bytes (picked.front none) ≡ bag_bytes k content set.set
   pub bag : picked.bag ≡ next
   pub attribute : picked.attribute ≡ set.next
@@ -152,10 +149,10 @@ module _ (t : Table) (s : List ℕ) (l k n from : ℕ) (row : BagRow) (e : row �
   set_is : (m : ℕ) → set_picked t s (bag_value t s n).has_set n m ≡ set_picked t s row.has_set n m
   set_is m = ap (λ (r : BagRow). set_picked t s r.has_set n m) (sym e)
 
-  pub bag_is_empty : form_of row.kind ≡ Form.None → bag_picked t s l k n from ≡ option.none
+  pub bag_is_empty : form_of row.kind ≡ None → bag_picked t s l k n from ≡ option.none
   bag_is_empty h = bag_empty t s l k n from (content_is ∙ form_none s row.kind row.parts h)
 
-  pub bag_is_leaf : form_of row.kind ≡ Form.Leaf
+  pub bag_is_leaf : form_of row.kind ≡ Some Form.Leaf
       → BagTaken (bag_picked t s l k n from) row.kind (content_of s row.kind row.parts)
       (set_picked t s row.has_set n from) (n + 1)
   unfolding bags_bytes
@@ -170,22 +167,22 @@ module _ (t : Table) (s : List ℕ) (l k n from : ℕ) (row : BagRow) (e : row �
         attribute = ap (λ (w : SetPicked). w.next) (set_is from);
       }
 
-  module _ (h : form_of row.kind ≡ Form.Nested) where
+  module _ (h : form_of row.kind ≡ Some Form.Nested) where
     pub bag_is_too_deep : l ≡ 0 → bag_picked t s l k n from ≡ option.none
     bag_is_too_deep z = bag_too_deep t s l k n from (content_is ∙ (form_nested s row.kind row.parts h).0) z
 
-    pub bag_is_nest : (l ≡ 0 → ⊥)
+    pub bag_is_nest : (below : ℕ) → l ≡ below + 1
         → BagTaken (bag_picked t s l k n from) row.kind
-        (sequence (bags_bytes (bags_picked t s (l - 1) k (Bag n) (n + 1) from).bags))
-        (set_picked t s row.has_set n (bags_picked t s (l - 1) k (Bag n) (n + 1) from).attribute)
-        (bags_picked t s (l - 1) k (Bag n) (n + 1) from).bag
+        (sequence (bags_bytes (bags_picked t s below k (Some n) (n + 1) from).bags))
+        (set_picked t s row.has_set n (bags_picked t s below k (Some n) (n + 1) from).attribute)
+        (bags_picked t s below k (Some n) (n + 1) from).bag
     unfolding bags_bytes
-    bag_is_nest z =
+    bag_is_nest below z =
         let q = form_nested s row.kind row.parts h in
-        let all : Picked = bags_picked t s (l - 1) k (Bag n) (n + 1) from in
+        let all : Picked = bags_picked t s below k (Some n) (n + 1) from in
         record {
           picked = _;
-          found = bag_nest t s l k n from (l - 1) (content_is ∙ q.0) (omega arith);
+          found = bag_nest t s l k n from below (content_is ∙ q.0) (omega arith);
           kind = nested_some row.kind h;
           bytes = rw (append-nil, set_is all.attribute, q.1) refl;
           bag = refl;
@@ -208,9 +205,9 @@ module _ (t : Table) (s : List ℕ) (k first from : ℕ) (row : SafeRow) (e : ro
 
   pub safe_is_plain : row.kind ≡ Plain → safe_picked t s k first from
       ≡ some (record {
-        safe = plain (bags_picked t s 7 k Enclosing.None first from).bags;
-        bag = (bags_picked t s 7 k Enclosing.None first from).bag;
-        attribute = (bags_picked t s 7 k Enclosing.None first from).attribute;
+        safe = plain (bags_picked t s 7 k None first from).bags;
+        bag = (bags_picked t s 7 k None first from).bag;
+        attribute = (bags_picked t s 7 k None first from).attribute;
       })
   safe_is_plain h = shown_is _ (by_kind Plain h)
 

@@ -12,8 +12,7 @@ use Rattle.pkcs12.specs.Values.{AttributeValue, same_enclosing, on_content, on_l
 use Rattle.pkcs12.specs.Table.{no_safe, no_bag, no_attribute, safe_shown, bag_shown, attribute_shown}
 use Rattle.pkcs12.specs.declared.kind.BagKind.{BagKind}
 use Rattle.pkcs12.specs.declared.kind.BagKind.TheVariants.{Key, ShroudedKey, Certificate, Crl, Secret, Nested}
-use Rattle.pkcs12.specs.declared.row.Enclosing.{Enclosing}
-use Rattle.pkcs12.specs.declared.row.Enclosing.TheVariants.{Bag}
+use Rattle.std.specs.Prelude.{None, Option as Maybe, Some}
 use Rattle.pkcs12.specs.declared.table.Table.{Table}
 use Rattle.sizes.specs.declared.rows.Form.{Form}
 
@@ -37,15 +36,15 @@ bag_value t s n = bag_shown s (get_or t.bags n no_bag)
 abbrev pub safe_value : Table → List ℕ → ℕ → SafeValue
 safe_value t s k = safe_shown s (get_or t.safes k no_safe)
 
--- whether a kind of bag holds bags
-abbrev pub form_of : BagKind → Form
-form_of BagKind.None = Form.None
-form_of Key = Form.Leaf
-form_of ShroudedKey = Form.Leaf
-form_of Certificate = Form.Leaf
-form_of Crl = Form.Leaf
-form_of Secret = Form.Leaf
-form_of Nested = Form.Nested
+-- whether a kind of bag holds bags; the kind of an empty row is of neither form
+abbrev pub form_of : BagKind → Maybe Form
+form_of BagKind.None = None
+form_of Key = Some Form.Leaf
+form_of ShroudedKey = Some Form.Leaf
+form_of Certificate = Some Form.Leaf
+form_of Crl = Some Form.Leaf
+form_of Secret = Some Form.Leaf
+form_of Nested = Some Form.Nested
 
 -- attributes of one bag, and the next attribute row
 pub record OwnPicked : Type 0 where
@@ -86,7 +85,7 @@ nothing n m = record { bags = none; bag = n; attribute = m }
 abbrev pub before : (Bags → Bags) → Picked → Picked
 before f p = record { bags = f p.bags; bag = p.bag; attribute = p.attribute }
 
-unfoldable pub bags_from : Table → List ℕ → ℕ → ℕ → ℕ → Enclosing → ℕ → ℕ → Picked
+unfoldable pub bags_from : Table → List ℕ → ℕ → ℕ → ℕ → Maybe ℕ → ℕ → ℕ → Picked
 bags_from t s zero l k e n m = nothing n m
 bags_from t s (suc f) l k e n m =
     let r = bag_value t s n in
@@ -100,14 +99,14 @@ bags_from t s (suc f) l k e n m =
     (on_level l
     (nothing n m)
     (λ below.
-    let p = bags_from t s f below k (Bag n) (n + 1) m in
+    let p = bags_from t s f below k (Some n) (n + 1) m in
     let set = set_picked t s r.has_set n p.attribute in
     before (nest p.bags set.set) (bags_from t s f l k e p.bag set.next))) else
     nothing n m) else
     nothing n m
 
 -- from row n on, those in safe k and enclosing bag e, with l levels left below them
-unfoldable pub bags_picked : Table → List ℕ → ℕ → ℕ → Enclosing → ℕ → ℕ → Picked
+unfoldable pub bags_picked : Table → List ℕ → ℕ → ℕ → Maybe ℕ → ℕ → ℕ → Picked
 bags_picked t s l k e n m = bags_from t s (bag_end t - n) l k e n m
 
 -- one bag, and the rows behind it and behind all that it encloses
@@ -132,7 +131,7 @@ bag_picked t s l k n m =
     (on_level l
     option.none
     (λ below.
-    let p = bags_picked t s below k (Bag n) (n + 1) m in
+    let p = bags_picked t s below k (Some n) (n + 1) m in
     let set = set_picked t s r.has_set n p.attribute in
     some (record { front = nest p.bags set.set; bag = p.bag; attribute = set.next })))
 
@@ -156,7 +155,7 @@ pub record SafePicked : Type 0 where
   pub attribute : ℕ
 
 abbrev pub contents_picked : Table → List ℕ → ℕ → ℕ → ℕ → Picked
-contents_picked t s k n m = on_level levels (nothing n m) (λ l. bags_picked t s l k Enclosing.None n m)
+contents_picked t s k n m = on_level levels (nothing n m) (λ l. bags_picked t s l k None n m)
 
 abbrev pub safe_of : Table → List ℕ → SafeValue → ℕ → ℕ → ℕ → Option SafePicked
 safe_of t s empty_safe k n m = option.none

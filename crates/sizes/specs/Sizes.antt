@@ -8,11 +8,10 @@ use Rattle.encode.specs.Sizes.{capped, element_size}
 use Rattle.sizes.specs.Picked.{SetPicked, Picked, OnePicked, SafePicked, SafesPicked}
 use Rattle.sizes.specs.declared.rows.Owned.{Owned}
 use Rattle.sizes.specs.declared.rows.Taken.{Taken}
-use Rattle.sizes.specs.declared.rows.One.{One}
-use Rattle.sizes.specs.declared.rows.One.TheVariants.{Found}
+use Rattle.std.specs.Prelude.{None, Option as Maybe, Some}
 use Rattle.sizes.specs.declared.rows.Safes.{Safes}
 
--- the body of a bag: bag_id, [0] with its content, and the set
+-- the body of a bag: bagId, [0] with its content, and the set
 unfoldable pub bag_size : ℕ → ℕ → ℕ
 bag_size content set = 13 + (element_size content + set)
 
@@ -32,8 +31,8 @@ pfx_size safes mac = 3 + (element_size (data_size safes) + element_size mac)
 abbrev pub sized_as : ℕ → ℕ → ℕ → Taken
 sized_as size bag attribute = record { size = capped size; bag = bag; attribute = attribute }
 
-abbrev pub one_of : ℕ → ℕ → ℕ → One
-one_of size bag attribute = Found (sized_as size bag attribute)
+abbrev pub one_of : ℕ → ℕ → ℕ → Maybe Taken
+one_of size bag attribute = Some (sized_as size bag attribute)
 
 abbrev pub with_safe : Taken → ℕ → Safes
 with_safe taken safe = record { size = taken.size; safe = safe; bag = taken.bag; attribute = taken.attribute }
@@ -52,12 +51,12 @@ set_sized p =
 unfoldable pub taken_sized : Picked → Taken
 taken_sized p = sized_as (length (bags_bytes p.bags)) p.bag p.attribute
 
-unfoldable pub one_sized : Option OnePicked → One
-one_sized option.none = One.None
+unfoldable pub one_sized : Option OnePicked → Maybe Taken
+one_sized option.none = None
 one_sized (some p) = one_of (length (bags_bytes (p.front none))) p.bag p.attribute
 
-unfoldable pub safe_sized : Option SafePicked → One
-safe_sized option.none = One.None
+unfoldable pub safe_sized : Option SafePicked → Maybe Taken
+safe_sized option.none = None
 safe_sized (some p) = one_of (length (safe_bytes p.safe)) p.bag p.attribute
 
 unfoldable pub safes_sized : SafesPicked → Safes

@@ -13,14 +13,14 @@ ghost use Rattle.sizes.specs.Sizes.{taken_sized, safe_sized, safes_sized};
 ghost use Rattle.encode.specs.Sizes.{element_size};
 
 use encode::size;
-use pkcs12::{BagKind, BagRow, Enclosing, SafeKind, SafeRow, Table};
+use pkcs12::{BagKind, BagRow, SafeKind, SafeRow, Table};
 
 // The levels below the safe contents of a plain safe.
 pub const BELOW: u8 = pkcs12::LEVELS - 1;
 
 // The attributes that one bag has: the size of them all, that of their set, and the next attribute
 // row.
-#[derive(Clone, Copy)]
+#[derive(Clone, Copy, Debug, PartialEq, Eq)]
 pub struct Owned {
     pub body: usize,
     pub size: usize,
@@ -28,30 +28,22 @@ pub struct Owned {
 }
 
 // Bags that follow one another: their size, and the next bag and attribute rows.
-#[derive(Clone, Copy)]
+#[derive(Clone, Copy, Debug, PartialEq, Eq)]
 pub struct Taken {
     pub size: usize,
     pub bag: usize,
     pub attribute: usize,
 }
 
-// One bag or one safe, if the row is one.
-#[derive(Clone, Copy)]
-pub enum One {
-    None,
-    Found(Taken),
-}
-
 // Whether a kind of bag holds bags.
-#[derive(Clone, Copy)]
+#[derive(Clone, Copy, Debug, PartialEq, Eq)]
 pub enum Form {
-    None,
     Leaf,
     Nested,
 }
 
 // The safes: their size, and the next safe, bag and attribute rows.
-#[derive(Clone, Copy)]
+#[derive(Clone, Copy, Debug, PartialEq, Eq)]
 pub struct Safes {
     pub size: usize,
     pub safe: usize,
@@ -78,85 +70,55 @@ pub fn set(table: Table, bytes: &[u8], has_set: bool, bag: usize, from: usize) -
             next: from,
         };
     }
-    let end = range::fewer(table.attribute_count, pkcs12::ATTRIBUTE_ROWS);
+    let end = table.attribute_count.min(pkcs12::ATTRIBUTE_ROWS);
     let mut body: usize = 0;
-    let mut next = from;
-    while next < end {
+    for next in from..end {
         let row = table.attributes[next];
-        let owner = row.bag as usize;
-        if owner != bag {
+        if usize::from(row.bag) != bag {
             return present(body, next);
         }
-        let inner = crate::attribute(bytes, row);
-        let one = size::element(inner);
+        let one = size::element(crate::attribute(bytes, row));
         body = size::sum(body, one);
-        next = next + 1;
     }
-    present(body, next)
-}
-
-fn same_enclosing(a: Enclosing, b: Enclosing) -> bool
-    ensures { result ≡ same_enclosing a b }
-{
-    match a {
-        Enclosing::None => match b {
-            Enclosing::None => true,
-            Enclosing::Bag(_) => false,
-        },
-        Enclosing::Bag(n) => match b {
-            Enclosing::None => false,
-            Enclosing::Bag(m) => n == m,
-        },
-    }
+    present(body, from.max(end))
 }
 
 // Whether a row names this safe and this enclosing bag.
-pub fn belongs(row: BagRow, safe: usize, enclosing: Enclosing) -> bool
+pub fn belongs(row: BagRow, safe: usize, enclosing: Option<u16>) -> bool
     ensures { result ≡ both (eqb row.safe safe) (same_enclosing row.enclosing enclosing) }
 {
-    let named = row.safe as usize;
-    if named != safe {
-        return false;
-    }
-    let around = row.enclosing;
-    same_enclosing(around, enclosing)
+    usize::from(row.safe) == safe && row.enclosing == enclosing
 }
 
-pub fn form_of(kind: BagKind) -> Form
+// `None` for the kind of an empty row.
+pub fn form_of(kind: BagKind) -> Option<Form>
     ensures value { result ≡ form_of kind }
     ensures report { form_report result ≡ form_report (form_of kind) }
 {
     match kind {
-        BagKind::None => Form::None,
-        BagKind::Key => Form::Leaf,
-        BagKind::ShroudedKey => Form::Leaf,
-        BagKind::Certificate => Form::Leaf,
-        BagKind::Crl => Form::Leaf,
-        BagKind::Secret => Form::Leaf,
-        BagKind::Nested => Form::Nested,
+        BagKind::None => None,
+        BagKind::Nested => Some(Form::Nested),
+        _ => Some(Form::Leaf),
     }
 }
 
 // One bag, by the size of what is in its [0] and by its set; the bag row behind it is `next`.
-fn one_bag(content: usize, owned: Owned, next: usize) -> One
-    ensures { result ≡ one_of (element_size (bag_size content owned.size)) next owned.next }
+fn one_bag(content: usize, owned: Owned, next: usize) -> Taken
+    ensures { result ≡ sized_as (element_size (bag_size content owned.size)) next owned.next }
 {
-    let body = crate::bag(content, owned.size);
-    let size = size::element(body);
-    One::Found(Taken {
-        size,
+    Taken {
+        size: size::element(crate::bag(content, owned.size)),
         bag: next,
         attribute: owned.next,
-    })
+    }
 }
 
 // What was taken, and one more behind it.
 fn joined(taken: Taken, one: Taken) -> Taken
     ensures { result ≡ sized_as (taken.size + one.size) one.bag one.attribute }
 {
-    let size = size::sum(taken.size, one.size);
     Taken {
-        size,
+        size: size::sum(taken.size, one.size),
         bag: one.bag,
         attribute: one.attribute,
     }
@@ -172,39 +134,23 @@ fn bag(
     n: usize,
     from: usize,
     level: u8,
-) -> One
+) -> Option<Taken>
     requires { (n < bag_rows) × (row ≡ get_or table.bags n no_bag) }
     ensures { result ≡ one_sized (bag_picked table bytes.now level safe n from) }
 {
-    let kind = row.kind;
-    let has_set = row.has_set;
     let next = n + 1;
-    match form_of(kind) {
-        Form::None => One::None,
+    match form_of(row.kind)? {
         Form::Leaf => {
-            let parts = row.parts;
-            let content = crate::content(bytes, kind, parts);
-            let owned = set(table, bytes, has_set, n, from);
-            one_bag(content, owned, next)
+            let content = crate::content(bytes, row.kind, row.parts);
+            let owned = set(table, bytes, row.has_set, n, from);
+            Some(one_bag(content, owned, next))
         }
         Form::Nested => {
-            if level == 0 {
-                return One::None;
-            }
-            let below = level - 1;
-            let number = n as u16;
-            let inner = bags(
-                table,
-                bytes,
-                safe,
-                Enclosing::Bag(number),
-                next,
-                from,
-                below,
-            );
+            let below = level.checked_sub(1)?;
+            let inner = bags(table, bytes, safe, Some(n as u16), next, from, below);
             let content = size::element(inner.size);
-            let owned = set(table, bytes, has_set, n, inner.attribute);
-            one_bag(content, owned, inner.bag)
+            let owned = set(table, bytes, row.has_set, n, inner.attribute);
+            Some(one_bag(content, owned, inner.bag))
         }
     }
 }
@@ -215,14 +161,14 @@ pub fn bags(
     table: Table,
     bytes: &[u8],
     safe: usize,
-    enclosing: Enclosing,
+    enclosing: Option<u16>,
     first: usize,
     from: usize,
     level: u8,
 ) -> Taken
     ensures { result ≡ taken_sized (bags_picked table bytes.now level safe enclosing first from) }
 {
-    let end = range::fewer(table.bag_count, pkcs12::BAG_ROWS);
+    let end = table.bag_count.min(pkcs12::BAG_ROWS);
     let mut taken = Taken {
         size: 0,
         bag: first,
@@ -234,43 +180,41 @@ pub fn bags(
         if !belongs(row, safe, enclosing) {
             return taken;
         }
-        match bag(table, bytes, row, safe, n, taken.attribute, level) {
-            One::None => {
-                return taken;
-            }
-            One::Found(one) => {
-                taken = joined(taken, one);
-            }
-        }
+        let Some(one) = bag(table, bytes, row, safe, n, taken.attribute, level) else {
+            return taken;
+        };
+        taken = joined(taken, one);
     }
     taken
 }
 
 // Safe k, if its row is a safe; its bags from a bag row and an attribute row on.
-fn safe(table: Table, bytes: &[u8], row: SafeRow, k: usize, first: usize, from: usize) -> One
+fn safe(
+    table: Table,
+    bytes: &[u8],
+    row: SafeRow,
+    k: usize,
+    first: usize,
+    from: usize,
+) -> Option<Taken>
     requires { row ≡ get_or table.safes k no_safe }
     ensures { result ≡ safe_sized (safe_picked table bytes.now k first from) }
 {
-    let kind = row.kind;
-    match kind {
-        SafeKind::None => One::None,
+    match row.kind {
+        SafeKind::None => None,
         SafeKind::Plain => {
-            let taken = bags(table, bytes, k, Enclosing::None, first, from, BELOW);
+            let taken = bags(table, bytes, k, None, first, from, BELOW);
             let body = crate::data(taken.size);
-            let size = size::element(body);
-            One::Found(Taken {
-                size,
-                bag: taken.bag,
-                attribute: taken.attribute,
+            Some(Taken {
+                size: size::element(body),
+                ..taken
             })
         }
         SafeKind::Encrypted => {
-            let parts = row.parts;
-            let content = crate::encrypted_data(bytes, parts);
+            let content = crate::encrypted_data(bytes, row.parts);
             let info = crate::content_info(size::element(content));
-            let size = size::element(info);
-            One::Found(Taken {
-                size,
+            Some(Taken {
+                size: size::element(info),
                 bag: first,
                 attribute: from,
             })
@@ -282,26 +226,20 @@ fn safe(table: Table, bytes: &[u8], row: SafeRow, k: usize, first: usize, from: 
 pub fn all_safes(table: Table, bytes: &[u8]) -> Safes
     ensures { result ≡ safes_sized (safes_picked table bytes.now 0 0 0) }
 {
-    let end = range::fewer(table.safe_count, pkcs12::SAFE_ROWS);
+    let end = table.safe_count.min(pkcs12::SAFE_ROWS);
     let mut taken = Taken {
         size: 0,
         bag: 0,
         attribute: 0,
     };
-    let mut k: usize = 0;
-    while k < end {
+    for k in 0..end {
         let row = table.safes[k];
-        match safe(table, bytes, row, k, taken.bag, taken.attribute) {
-            One::None => {
-                return all(taken, k);
-            }
-            One::Found(one) => {
-                taken = joined(taken, one);
-                k = k + 1;
-            }
-        }
+        let Some(one) = safe(table, bytes, row, k, taken.bag, taken.attribute) else {
+            return all(taken, k);
+        };
+        taken = joined(taken, one);
     }
-    all(taken, k)
+    all(taken, end)
 }
 
 fn all(taken: Taken, safe: usize) -> Safes

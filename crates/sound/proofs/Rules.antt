@@ -1,26 +1,29 @@
 -- Rules by which `search` follows the tests of a sound table as the code's own tests decided them
 -- (see der's Choices), and the loop over rows.
-use mathlib.Core.Path.{◌≡◌, refl, sym, ◌∙◌}
-use mathlib.Core.Bool.{Bool, true, false, not}
-use mathlib.Core.List.{List}
-use Prim.Native.Nat.{ℕ, zero, suc, ◌+◌, ◌≤◌, ◌<◌}
-use native.Mathlib.Numerals.{add-one}
+use mathlib.Core.Path.{◌≡◌, refl, sym, ap, ◌∙◌}
+use mathlib.Core.Bool.{Bool, true, false, not, cond, ◌&&◌}
+use mathlib.Core.List.{List, [], ◌∷◌}
+use mathlib.Core.Logic.{◌⊎◌, inl, inr}
+use Prim.Native.Nat.{ℕ, zero, suc, ◌≤◌, ◌<◌}
 use native.Mathlib.Omega.{arith}
-use lib.Dec.{leb, eqb, eqb-zero-suc, eqb-suc-zero}
-use lib.ListN.{length, get_or, take, drop, drop_of_length-le, get_or-eq_default}
-use lib.Seq.{drop-cons, length-take-le, get_or-take}
-use borrow.Author.Tests.{not-true, not-false, eq-eqb, ne_eqb, leb-true}
+use lib.Dec.{leb, ltb, eqb}
+use lib.ListN.{length, get_or}
+use borrow.Author.Tests.{not-false, lt-ltb, le-ltb, le-leb, lt-leb, eq-eqb, ne_eqb, leb-true}
 use Rattle.std.specs.Prelude.{if◌then◌else◌}
 use Rattle.der.specs.Numbers.{opaque_levels, sequence_tag}
 use Rattle.der.specs.Element.{whole_of}
 use Rattle.der.specs.Content.{identifier_body}
-use Rattle.der.specs.Opaque.{opaque_at, elements_at}
+use Rattle.der.specs.Opaque.{on_checked, opaque_at, elements_at}
 use Rattle.der.specs.declared.Fault.{Fault}
 use Rattle.der.specs.declared.Cursor.{Cursor}
 use Rattle.der.specs.declared.Checked.{Checked}
-use Rattle.der.specs.declared.Checked.TheVariants.{Passed}
-use Rattle.der.proofs.Choices.{never, by_le}
+use Rattle.std.specs.Prelude.{Err, Ok, Option, Result, is_ok, unwrap_or, slice_get, IsTrue, All, ◌↔◌}
+use Rattle.std.proofs.Common.{is_le, is_lt, nat_cmp, Less, Equal, Greater}
+use Rattle.std.proofs.lemmas.Bool.{cases_order}
+use Rattle.std.proofs.lemmas.Option.{unwrap_or-slice_get}
+use Rattle.der.proofs.Choices.{told_true, told_false, never, by_le}
 use Rattle.range.specs.Bytes.{same_bytes}
+use Rattle.der.specs.Choice.{both}
 use Rattle.pkcs12.specs.Numbers.{safe_rows, bag_rows, attribute_rows}
 use Rattle.pkcs12.specs.Checks.{all, counts_fit, one_opaque, all_opaque, holds_tagged, is_sealed}
 use Rattle.pkcs12.specs.Checks.{is_typed, is_certificate, safe_holds, bag_holds}
@@ -31,10 +34,13 @@ use Rattle.pkcs12.specs.declared.kind.BagKind.{BagKind}
 use Rattle.pkcs12.specs.declared.kind.BagKind.TheVariants.{Key, ShroudedKey, Certificate, Crl, Secret, Nested}
 use Rattle.pkcs12.specs.declared.table.Table.{Table}
 
--- 0 on either side of a test
-zero_either : (t : ℕ) → eqb t 0 ≡ eqb 0 t
-zero_either zero = refl
-zero_either (suc t) = eqb-suc-zero t ∙ sym (eqb-zero-suc t)
+-- tests one behind another: v is what the first two came to, w the first three
+pub third : (a b c v r : Bool) → v ≡ both a b → r ≡ both v c → r ≡ both a (both b c)
+third true b c v r e f = rw e at f
+third false b c v r e f = rw e at f
+
+pub fourth : (a b c d v w r : Bool) → v ≡ both a b → w ≡ both v c → r ≡ both w d → r ≡ both a (both b (both c d))
+fourth a b c d v w r e f g = third a b (both c d) v r e (third v c d w r f g)
 
 -- what a callee returned for the part x holds for the bytes y that the part is
 module _ (x y : List ℕ) where
@@ -47,11 +53,13 @@ module _ (x y : List ℕ) where
   pub all_of : (r : Bool) → x ≡ y → r ≡ all_opaque x → r ≡ all_opaque y
   all_of r p e = rw (sym p) e
 
-  pub none_of : (r a b : Bool) → x ≡ y → length x ≡ 0 → r ≡ a → r ≡ (if eqb (length y) 0 then a else b)
-  none_of r a b p h e = rw (eq-eqb (length y) 0 (rw p at h)) e
+  pub none_of : (u r a b : Bool) → x ≡ y → u ≡ eqb (length x) 0 → u ≡ true → r ≡ a
+      → r ≡ (if eqb (length y) 0 then a else b)
+  none_of u r a b p h q e = told_true _ u r a b (rw p at h) q e
 
-  pub some_of : (r a b : Bool) → x ≡ y → (length x ≡ 0 → ⊥) → r ≡ b → r ≡ (if eqb (length y) 0 then a else b)
-  some_of r a b p h e = rw (ne_eqb (length y) 0 (rw p at h)) e
+  pub some_of : (u r a b : Bool) → x ≡ y → u ≡ eqb (length x) 0 → u ≡ false → r ≡ b
+      → r ≡ (if eqb (length y) 0 then a else b)
+  some_of u r a b p h q e = told_false _ u r a b (rw p at h) q e
 
   pub same_of : (z : List ℕ) (u r a b : Bool) → x ≡ y → u ≡ same_bytes x z → u ≡ true → r ≡ a
       → r ≡ (if same_bytes y z then a else b)
@@ -61,33 +69,50 @@ module _ (x y : List ℕ) where
       → r ≡ (if same_bytes y z then a else b)
   other_of z u r a b p h q e = rw (← p, ← h, q) e
 
-  pub tag_of : (t : ℕ) → x ≡ y → eqb (get_or x 0 0) t ≡ eqb (get_or y 0 0) t
-  tag_of t p = rw p
-
-  pub no_tag_of : (t : ℕ) → x ≡ y → length x ≡ 0 → eqb t 0 ≡ eqb (get_or y 0 0) t
-  no_tag_of t p h = rw (get_or-eq_default y 0 {n = 0} (omega (arith, rw p at h))) (zero_either t)
+  pub tag_of : (t b : ℕ) (o : Option ℕ) → x ≡ y → o ≡ slice_get x 0 → b ≡ unwrap_or o 0
+      → eqb b t ≡ eqb (get_or y 0 0) t
+  tag_of t b o p e f = ap (λ n. eqb n t) (f ∙ rw (e, p) (unwrap_or-slice_get y 0 0))
 
 -- one opaque element and nothing more; zero or more: c is the cursor that the code made
-module _ (x : List ℕ) (c : Cursor) (w : Checked) where
+module _ (x : List ℕ) (c : Cursor) (w : Result Checked Fault) where
   pub one_refused : (f : Fault) → c ≡ whole_of x → w ≡ opaque_at opaque_levels x c
-      → w ≡ Checked.Refused f → false ≡ one_opaque x
+      → w ≡ Err f → false ≡ one_opaque x
   unfolding one_opaque
   one_refused f p e q = rw (← p, ← e, q)
 
-  pub one_passed : (m : ℕ) (n : Cursor) → c ≡ whole_of x → w ≡ opaque_at opaque_levels x c → w ≡ Passed m n
-      → leb n.end n.at ≡ one_opaque x
+  pub one_passed : (m : Checked) → c ≡ whole_of x → w ≡ opaque_at opaque_levels x c → w ≡ Ok m
+      → leb m.next.end m.next.at ≡ one_opaque x
   unfolding one_opaque
-  one_passed m n p e q = rw (← p, ← e, q)
+  one_passed m p e q = rw (← p, ← e, q)
 
-  pub all_refused : (f : Fault) → c ≡ whole_of x → w ≡ elements_at opaque_levels x c
-      → w ≡ Checked.Refused f → false ≡ all_opaque x
+  pub all_checked : (r : Bool) → c ≡ whole_of x → w ≡ elements_at opaque_levels x c → r ≡ is_ok w → r ≡ all_opaque x
   unfolding all_opaque
-  all_refused f p e q = rw (← p, ← e, q)
+  all_checked r p e q = q ∙ rw (e, p) (by_answer (elements_at opaque_levels x (whole_of x)))
+    where
+      by_answer : (v : Result Checked Fault) → is_ok v ≡ on_checked v (λ f. false) (λ m n. true)
+      by_answer (Ok m) = refl
+      by_answer (Err f) = refl
 
-  pub all_passed : (m : ℕ) (n : Cursor) → c ≡ whole_of x → w ≡ elements_at opaque_levels x c
-      → w ≡ Passed m n → true ≡ all_opaque x
-  unfolding all_opaque
-  all_passed m n p e q = rw (← p, ← e, q)
+-- a number from 1 up to an end, as the library tests it
+less_is : (t u : Bool) → is_lt (cond t Less (cond u Equal Greater)) ≡ t
+less_is true u = refl
+less_is false true = refl
+less_is false false = refl
+
+from_is : (a b : ℕ) → is_le (nat_cmp a b) ≡ leb a b
+from_is a b = go (cases_order a b)
+  where
+    go : (a ≡ b) ⊎ ((a < b) ⊎ (b < a)) → is_le (nat_cmp a b) ≡ leb a b
+    go (inl e) = rw (le-ltb a b (omega arith), eq-eqb a b e, le-leb a b (omega arith)) refl
+    go (inr (inl h)) = rw (lt-ltb a b h, le-leb a b (omega arith)) refl
+    go (inr (inr h)) = rw (le-ltb a b (omega arith), ne_eqb a b (omega arith), lt-leb a b h) refl
+
+and_is : (t u : Bool) → (t && u) ≡ both t u
+and_is true u = refl
+and_is false u = refl
+
+pub counted_from : (r : Bool) (n end : ℕ) → r ≡ (is_le (nat_cmp 1 n) && is_lt (nat_cmp n end)) → r ≡ both (leb 1 n) (ltb n end)
+counted_from r n end e = e ∙ rw (from_is 1 n, less_is (ltb n end) (eqb n end)) (and_is (leb 1 n) (ltb n end))
 
 -- what a row's kind requires, by the kind that the code met
 module _ (s : List ℕ) (p : Parts) where
@@ -121,13 +146,10 @@ module _ (s : List ℕ) (p : Parts) where
     unfolding bag_holds
     bag_certificate r e q = rw e q
 
-    pub bag_crl : (r : Bool) → k ≡ Crl → r ≡ is_typed s p → r ≡ bag_holds s k p
+    pub bag_typed : (r : Bool) → (k ≡ Crl) ⊎ (k ≡ Secret) → r ≡ is_typed s p → r ≡ bag_holds s k p
     unfolding bag_holds
-    bag_crl r e q = rw e q
-
-    pub bag_secret : (r : Bool) → k ≡ Secret → r ≡ is_typed s p → r ≡ bag_holds s k p
-    unfolding bag_holds
-    bag_secret r e q = rw e q
+    bag_typed r (inl e) q = rw e q
+    bag_typed r (inr e) q = rw e q
 
     pub bag_nested : k ≡ Nested → true ≡ bag_holds s k p
     unfolding bag_holds
@@ -141,39 +163,34 @@ pub ruleset by_kind = (
   bag_key,
   bag_sealed,
   bag_certificate,
-  bag_crl,
-  bag_secret,
+  bag_typed,
   bag_nested,
 )
 
--- The loops over rows: the answer that is due is that of the rows from i on.
-module _ {A : Type 0} (test : A → Bool) (xs : List A) (n : ℕ) where
-  pub record Testing (i : ℕ) : Type 0 where
-    pub enough : n ≤ length xs
-    pub rest : all test (take n xs) ≡ all test (drop i (take n xs))
+-- The rows: r is whether the code's test held of each of them.
+both_parts : (t u : Bool) → both t u ≡ true → (t ≡ true) × (u ≡ true)
+both_parts true u e = (refl, e)
+both_parts false u e = never e
 
-  pub starts : n ≤ length xs → Testing 0
-  starts h = record { enough = h; rest = refl }
-
-  turn : (i : ℕ) (d : A) → Testing i → i < n
-      → all test (take n xs) ≡ (if test (get_or xs i d) then all test (drop (suc i) (take n xs)) else false)
+module _ {A : Type 0} (test : A → Bool) where
+  each_true : (xs : List A) → All (λ x. IsTrue (test x)) xs → all test xs ≡ true
   unfolding all
-  turn i d g h =
-      let l : length (take n xs) ≡ n = length-take-le n xs g.enough in
-      g.rest ∙ rw (drop-cons (take n xs) i d (omega (arith, l, h)), get_or-take n xs i d h)
+  each_true [] h = refl
+  each_true (x ∷ xs) h = rw (h 0 x (omega arith)) (each_true xs (λ k d p. h (suc k) d (omega arith)))
 
-  module _ (i : ℕ) (d : A) (r : Bool) (g : Testing i) (h : i < n) (e : r ≡ test (get_or xs i d)) where
-    pub stops : not r ≡ true → false ≡ all test (take n xs)
-    stops q = sym (turn i d g h ∙ rw (sym e ∙ not-true r q))
-
-    pub goes_on : not r ≡ false → Testing (i + 1)
-    goes_on q = record { enough = g.enough; rest = rw add-one (turn i d g h ∙ rw (sym e ∙ not-false r q)) }
-
-  pub ends : (i : ℕ) → Testing i → n ≤ i → true ≡ all test (take n xs)
+  true_each : (xs : List A) → all test xs ≡ true → All (λ x. IsTrue (test x)) xs
   unfolding all
-  ends i g h =
-      let l : length (take n xs) ≡ n = length-take-le n xs g.enough in
-      sym (g.rest ∙ rw (drop_of_length-le (take n xs) {i = i} (omega (arith, l, h))))
+  true_each [] h k d p = absurd (omega arith)
+  true_each (x ∷ xs) h zero d p = (both_parts (test x) (all test xs) h).0
+  true_each (x ∷ xs) h (suc k) d p = true_each xs (both_parts (test x) (all test xs) h).1 k d (omega arith)
+
+  pub each : (r : Bool) (xs : List A) → IsTrue r ↔ All (λ x. IsTrue (test x)) xs → r ≡ all test xs
+  each true xs e = sym (each_true xs (e.0 refl))
+  each false xs e = go (all test xs) refl
+    where
+      go : (t : Bool) → all test xs ≡ t → false ≡ all test xs
+      go true p = never (e.1 (true_each xs p))
+      go false p = sym p
 
 -- The counts fit: u is what the code's test of them returned.
 abbrev Fit : Table → Type 0

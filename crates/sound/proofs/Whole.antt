@@ -27,7 +27,7 @@ use Rattle.sizes.proofs.Nears.{near_pfx}
 use Rattle.sizes.proofs.Lengths.{length_encode}
 use Rattle.sizes.proofs.Reading.{CountsFit, reading_law}
 use Rattle.sound.specs.Measured.{measured}
-use Rattle.sound.specs.declared.Measured.TheVariants.{Unsound, Size}
+use Rattle.std.specs.Prelude.{None, Some}
 
 -- the arrays of a table have the lengths that their types say
 pub record Arrays (t : Table) : Type 0 where
@@ -66,7 +66,7 @@ fits t s a k =
 
 -- u is what testing the rules returned
 module _ (t : Table) (s : List ℕ) (u : Bool) (p : u ≡ keeps_rules t s) where
-  pub breaks_rules : u ≡ false → Unsound ≡ measured t s
+  pub breaks_rules : u ≡ false → None ≡ measured t s
   unfolding measured file_of
   breaks_rules q = rw (sym p ∙ q) refl
 
@@ -90,16 +90,16 @@ module _ (t : Table) (s : List ℕ) (u : Bool) (p : u ≡ keeps_rules t s) where
     unfolding safes_sized
     size_is = ap (λ (x : Safes). x.size) e
 
-    unread : reading_of t s ≡ option.none → Unsound ≡ measured t s
+    unread : reading_of t s ≡ option.none → None ≡ measured t s
     unfolding measured file_of
     unread h = rw (keeps, h) refl
 
-    pub safe_left : (all.safe ≡ t.safe_count → ⊥) → Unsound ≡ measured t s
+    pub safe_left : (all.safe ≡ t.safe_count → ⊥) → None ≡ measured t s
     safe_left h = unread (reading_law t s (fits t s a keeps)
         ∙ rw (ne_eqb (safes_picked t s 0 0 0).safe t.safe_count (λ z. h (safe_is ∙ z))) refl)
 
     module _ (x : all.safe ≡ t.safe_count) where
-      pub bag_left : (all.bag ≡ t.bag_count → ⊥) → Unsound ≡ measured t s
+      pub bag_left : (all.bag ≡ t.bag_count → ⊥) → None ≡ measured t s
       bag_left h =
           unread (reading_law t s (fits t s a keeps) ∙ rw (
             eq-eqb (safes_picked t s 0 0 0).safe t.safe_count (sym safe_is ∙ x),
@@ -107,7 +107,7 @@ module _ (t : Table) (s : List ℕ) (u : Bool) (p : u ≡ keeps_rules t s) where
           ) refl)
 
       module _ (y : all.bag ≡ t.bag_count) where
-        pub attribute_left : (all.attribute ≡ t.attribute_count → ⊥) → Unsound ≡ measured t s
+        pub attribute_left : (all.attribute ≡ t.attribute_count → ⊥) → None ≡ measured t s
         attribute_left h =
             unread (reading_law t s (fits t s a keeps) ∙ rw (
               eq-eqb (safes_picked t s 0 0 0).safe t.safe_count (sym safe_is ∙ x),
@@ -125,17 +125,17 @@ module _ (t : Table) (s : List ℕ) (u : Bool) (p : u ≡ keeps_rules t s) where
               ) refl
 
           file_is : measured t s
-              ≡ Size (capped (length (encode (record { safes = (safes_picked t s 0 0 0).safes; mac = mac_shown s t.mac }))))
+              ≡ Some (capped (length (encode (record { safes = (safes_picked t s 0 0 0).safes; mac = mac_shown s t.mac }))))
           unfolding measured file_of
           file_is = rw (keeps, read_as) refl
 
           pub all_measured : (mac body size : ℕ) → mac ≡ capped (length (mac_body (mac_shown s t.mac)))
               → body ≡ capped (pfx_size all.size mac) → size ≡ capped (element_size body)
-              → Size size ≡ measured t s
+              → Some size ≡ measured t s
           all_measured mac body size m b c =
               let reading : Pfx = record { safes = (safes_picked t s 0 0 0).safes; mac = mac_shown s t.mac } in
               let near = near_then _ _ _ (near_told body _ b)
               (near_pfx all.size mac (length (safes_bytes reading.safes)) (length (mac_body reading.mac))
               (sized_told all.size (safes_bytes reading.safes) size_is)
               (sized_told mac (mac_body reading.mac) m)) in
-              ap Size (element_told size body _ c near ∙ ap capped (sym (length_encode reading))) ∙ sym file_is
+              ap Some (element_told size body _ c near ∙ ap capped (sym (length_encode reading))) ∙ sym file_is

@@ -8,7 +8,7 @@ ghost use Rattle.pkcs12.specs.Checks.{safe_test, bag_test, attribute_test, mac_t
 ghost use Rattle.range.specs.Range.{lies};
 ghost use Rattle.pkcs12.specs.Table.{rows_in};
 
-use der::{Checked, Cursor};
+use der::Cursor;
 use pkcs12::{AttributeRow, BagKind, BagRow, Mac, Parts, SafeKind, SafeRow, Table};
 use range::Range;
 
@@ -18,38 +18,25 @@ const ITERATIONS_END: u32 = 2147483648;
 fn counts_fit(table: Table) -> bool
     ensures { result ≡ counts_fit table }
 {
-    if pkcs12::SAFE_ROWS < table.safe_count {
-        return false;
-    }
-    if pkcs12::BAG_ROWS < table.bag_count {
-        return false;
-    }
-    table.attribute_count <= pkcs12::ATTRIBUTE_ROWS
+    table.safe_count <= pkcs12::SAFE_ROWS
+        && table.bag_count <= pkcs12::BAG_ROWS
+        && table.attribute_count <= pkcs12::ATTRIBUTE_ROWS
 }
 
 // Whether it holds an identifier's body.
 fn names_type(bytes: &[u8], range: Range) -> bool
     ensures { result ≡ names_type bytes.now range }
 {
-    if !range.lies(bytes) {
-        return false;
-    }
-    let body = range.part(bytes);
-    der::names_type(body)
+    range.lies(bytes) && der::names_type(range.part(bytes))
 }
 
 // Whether bytes are one opaque element and nothing more.
 fn one_opaque(x: &[u8]) -> bool
     ensures { result ≡ one_opaque x.now }
 {
-    let whole = Cursor::over(x);
-    match whole.opaque(x, der::OPAQUE_LEVELS) {
-        Checked::Refused(_) => false,
-        Checked::Passed { count: _, next } => {
-            let at = next.at;
-            let end = next.end;
-            end <= at
-        }
+    match Cursor::over(x).opaque(x, der::OPAQUE_LEVELS) {
+        Ok(found) => found.next.end <= found.next.at,
+        Err(_) => false,
     }
 }
 
@@ -57,29 +44,19 @@ fn one_opaque(x: &[u8]) -> bool
 fn all_opaque(x: &[u8]) -> bool
     ensures { result ≡ all_opaque x.now }
 {
-    let whole = Cursor::over(x);
-    match whole.elements(x, der::OPAQUE_LEVELS) {
-        Checked::Refused(_) => false,
-        Checked::Passed { count: _, next: _ } => true,
-    }
+    Cursor::over(x).elements(x, der::OPAQUE_LEVELS).is_ok()
 }
 
 fn holds_opaque(bytes: &[u8], range: Range) -> bool
     ensures { result ≡ holds_opaque bytes.now range }
 {
-    if !range.lies(bytes) {
-        return false;
-    }
-    one_opaque(range.part(bytes))
+    range.lies(bytes) && one_opaque(range.part(bytes))
 }
 
 fn holds_all(bytes: &[u8], range: Range) -> bool
     ensures { result ≡ holds_all bytes.now range }
 {
-    if !range.lies(bytes) {
-        return false;
-    }
-    all_opaque(range.part(bytes))
+    range.lies(bytes) && all_opaque(range.part(bytes))
 }
 
 fn holds_at_most_one(bytes: &[u8], range: Range) -> bool
@@ -89,53 +66,36 @@ fn holds_at_most_one(bytes: &[u8], range: Range) -> bool
         return false;
     }
     let x = range.part(bytes);
-    if x.len() == 0 {
-        return true;
-    }
-    one_opaque(x)
+    x.is_empty() || one_opaque(x)
 }
 
 // Whether the first byte that it holds is this tag; a range that holds none has the tag 0.
 fn has_tag(bytes: &[u8], range: Range, tag: u8) -> bool
     ensures { result ≡ has_tag bytes.now range tag }
 {
-    let x = range.part(bytes);
-    if x.len() == 0 {
-        return tag == 0;
-    }
-    x[0] == tag
+    range.part(bytes).first().copied().unwrap_or(0) == tag
 }
 
 fn holds_tagged(bytes: &[u8], range: Range, tag: u8) -> bool
     ensures { result ≡ holds_tagged bytes.now range tag }
 {
-    if !holds_opaque(bytes, range) {
-        return false;
-    }
-    has_tag(bytes, range, tag)
+    holds_opaque(bytes, range) && has_tag(bytes, range, tag)
 }
 
 // An algorithm and the bytes that it made.
 fn is_sealed(bytes: &[u8], parts: Parts) -> bool
     ensures { result ≡ is_sealed bytes.now parts }
 {
-    if !names_type(bytes, parts.identifier) {
-        return false;
-    }
-    if !holds_at_most_one(bytes, parts.parameters) {
-        return false;
-    }
-    parts.value.lies(bytes)
+    names_type(bytes, parts.identifier)
+        && holds_at_most_one(bytes, parts.parameters)
+        && parts.value.lies(bytes)
 }
 
 // A type and the element that it names.
 fn is_typed(bytes: &[u8], parts: Parts) -> bool
     ensures { result ≡ is_typed bytes.now parts }
 {
-    if !names_type(bytes, parts.identifier) {
-        return false;
-    }
-    holds_opaque(bytes, parts.value)
+    names_type(bytes, parts.identifier) && holds_opaque(bytes, parts.value)
 }
 
 // An X.509 certificate is in an OCTET STRING (Rule 3.19).
@@ -145,9 +105,7 @@ fn is_certificate(bytes: &[u8], parts: Parts) -> bool
     if !is_typed(bytes, parts) {
         return false;
     }
-    let range = parts.identifier;
-    let name = range.part(bytes);
-    if range::same(name, &pkcs12::X509_CERTIFICATE) {
+    if range::same(parts.identifier.part(bytes), &pkcs12::X509_CERTIFICATE) {
         return has_tag(bytes, parts.value, der::OCTET_STRING);
     }
     true
@@ -156,27 +114,23 @@ fn is_certificate(bytes: &[u8], parts: Parts) -> bool
 fn safe_test(bytes: &[u8], row: SafeRow) -> bool
     ensures { result ≡ safe_test bytes.now row }
 {
-    let kind = row.kind;
-    let parts = row.parts;
-    match kind {
+    match row.kind {
         SafeKind::None => false,
         SafeKind::Plain => true,
-        SafeKind::Encrypted => is_sealed(bytes, parts),
+        SafeKind::Encrypted => is_sealed(bytes, row.parts),
     }
 }
 
 fn bag_test(bytes: &[u8], row: BagRow) -> bool
     ensures { result ≡ bag_test bytes.now row }
 {
-    let kind = row.kind;
     let parts = row.parts;
-    match kind {
+    match row.kind {
         BagKind::None => false,
         BagKind::Key => holds_tagged(bytes, parts.value, der::SEQUENCE),
         BagKind::ShroudedKey => is_sealed(bytes, parts),
         BagKind::Certificate => is_certificate(bytes, parts),
-        BagKind::Crl => is_typed(bytes, parts),
-        BagKind::Secret => is_typed(bytes, parts),
+        BagKind::Crl | BagKind::Secret => is_typed(bytes, parts),
         BagKind::Nested => true,
     }
 }
@@ -184,73 +138,42 @@ fn bag_test(bytes: &[u8], row: BagRow) -> bool
 fn attribute_test(bytes: &[u8], row: AttributeRow) -> bool
     ensures { result ≡ attribute_test bytes.now row }
 {
-    if !names_type(bytes, row.identifier) {
-        return false;
-    }
-    holds_all(bytes, row.values)
+    names_type(bytes, row.identifier) && holds_all(bytes, row.values)
 }
 
 fn mac_test(bytes: &[u8], mac: Mac) -> bool
     ensures { result ≡ mac_test bytes.now mac }
 {
-    if !is_sealed(bytes, mac.parts) {
-        return false;
-    }
-    if !mac.salt.lies(bytes) {
-        return false;
-    }
-    if mac.iterations < 1 {
-        return false;
-    }
-    mac.iterations < ITERATIONS_END
+    is_sealed(bytes, mac.parts)
+        && mac.salt.lies(bytes)
+        && (1..ITERATIONS_END).contains(&mac.iterations)
 }
 
 fn safes_test(bytes: &[u8], table: Table) -> bool
     requires { table.safe_count ≤ safe_rows }
     ensures { result ≡ all (safe_test bytes.now) (rows_in table).safes }
 {
-    let end = table.safe_count;
-    let mut i: usize = 0;
-    while i < end {
-        let row = table.safes[i];
-        if !safe_test(bytes, row) {
-            return false;
-        }
-        i = i + 1;
-    }
-    true
+    table.safes[..table.safe_count]
+        .iter()
+        .all(|row| safe_test(bytes, *row))
 }
 
 fn bags_test(bytes: &[u8], table: Table) -> bool
     requires { table.bag_count ≤ bag_rows }
     ensures { result ≡ all (bag_test bytes.now) (rows_in table).bags }
 {
-    let end = table.bag_count;
-    let mut i: usize = 0;
-    while i < end {
-        let row = table.bags[i];
-        if !bag_test(bytes, row) {
-            return false;
-        }
-        i = i + 1;
-    }
-    true
+    table.bags[..table.bag_count]
+        .iter()
+        .all(|row| bag_test(bytes, *row))
 }
 
 fn attributes_test(bytes: &[u8], table: Table) -> bool
     requires { table.attribute_count ≤ attribute_rows }
     ensures { result ≡ all (attribute_test bytes.now) (rows_in table).attributes }
 {
-    let end = table.attribute_count;
-    let mut i: usize = 0;
-    while i < end {
-        let row = table.attributes[i];
-        if !attribute_test(bytes, row) {
-            return false;
-        }
-        i = i + 1;
-    }
-    true
+    table.attributes[..table.attribute_count]
+        .iter()
+        .all(|row| attribute_test(bytes, *row))
 }
 
 // All the rules but for the order of the rows.
@@ -260,14 +183,8 @@ pub(crate) fn rules(table: Table, bytes: &[u8]) -> bool
     if !counts_fit(table) {
         return false;
     }
-    if !safes_test(bytes, table) {
-        return false;
-    }
-    if !bags_test(bytes, table) {
-        return false;
-    }
-    if !attributes_test(bytes, table) {
-        return false;
-    }
-    mac_test(bytes, table.mac)
+    safes_test(bytes, table)
+        && bags_test(bytes, table)
+        && attributes_test(bytes, table)
+        && mac_test(bytes, table.mac)
 }

@@ -11,35 +11,27 @@ mod checks;
 
 use pkcs12::Table;
 
-// `Unsound`: the table is not sound, and makes no file. A size past that of the longest file is
-// returned as `encode::size::PAST`.
-#[derive(Clone, Copy)]
-pub enum Measured {
-    Unsound,
-    Size(usize),
-}
-
-// What a table makes of bytes.
-pub fn measure(table: Table, bytes: &[u8]) -> Measured
+// The size of the file that a table makes of bytes, `None` if the table is not sound and makes no
+// file. A size past that of the longest file is returned as `encode::size::PAST`.
+pub fn measure(table: Table, bytes: &[u8]) -> Option<usize>
     ensures value { result ≡ measured table bytes.now }
     ensures report { measured_report result ≡ measured_report (measured table bytes.now) }
     ensures bytes { Bytes bytes.now }
 {
     if !checks::rules(table, bytes) {
-        return Measured::Unsound;
+        return None;
     }
     let all = sizes::rows::all_safes(table, bytes);
     if all.safe != table.safe_count {
-        return Measured::Unsound;
+        return None;
     }
     if all.bag != table.bag_count {
-        return Measured::Unsound;
+        return None;
     }
     if all.attribute != table.attribute_count {
-        return Measured::Unsound;
+        return None;
     }
-    let fields = table.mac;
-    let mac = sizes::mac(bytes, fields);
+    let mac = sizes::mac(bytes, table.mac);
     let body = sizes::pfx(all.size, mac);
-    Measured::Size(encode::size::element(body))
+    Some(encode::size::element(body))
 }

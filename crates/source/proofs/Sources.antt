@@ -8,31 +8,29 @@ use lib.Seq.{slice}
 use Rattle.der.specs.declared.Fault.{Fault}
 use Rattle.buffer.specs.Placed.{behind}
 use Rattle.buffer.specs.Text.{ascii}
-use Rattle.buffer.specs.declared.Written.{Written}
-use Rattle.buffer.specs.declared.Written.TheVariants.{Length}
+use Rattle.std.specs.Prelude.{Err, Ok, Result, MatchResult, IsErrAnd}
 use Rattle.text.proofs.Short.{Short, word, number, ◌and◌}
 use Rattle.pem.specs.Calls.{imported}
 use Rattle.source.specs.Source.{file_as, file_in, unwrapped_line, so_far, answered_as}
 
 -- t was read, and import into the buffer b answered w
-module _ (t b : List ℕ) (w : Written) (p : w ≡ (imported t b).answer) where
-  pub file_text : (n : ℕ) (after r : List ℕ) → w ≡ Length n → after ≡ (imported t b).buffer
+module _ (t b : List ℕ) (w : Result ℕ Fault) (p : w ≡ (imported t b).answer) where
+  pub file_text : (n : ℕ) (after r : List ℕ) → w ≡ Ok n → after ≡ (imported t b).buffer
       → r ≡ slice 0 n after → r ≡ file_in t b
   unfolding file_as
   file_text n after r e q s = rw (sym p ∙ e, sym q) s
 
-  pub file_bytes_lem : (f : Fault) → w ≡ Written.Refused f → t ≡ file_in t b
+  pub file_bytes_lem : (f : Fault) → w ≡ Err f → t ≡ file_in t b
   unfolding file_as
   file_bytes_lem f e = rw (sym p ∙ e) refl
 
-  pub answered_text : (n : ℕ) → w ≡ Length n → w ≡ answered_as (imported t b).answer
-  unfolding answered_as
-  answered_text n e = rw (sym p ∙ e) e
-
-  pub answered_refusal : (f g : Fault) → w ≡ Written.Refused f → g ≡ so_far f
-      → Written.Refused g ≡ answered_as (imported t b).answer
-  unfolding answered_as
-  answered_refusal f g e q = rw (sym p ∙ e) (ap {B = Written} Written.Refused q)
+-- what `map_err` made of the refusals of w
+pub answered_lem : (v w r : Result ℕ Fault) → w ≡ v
+    → MatchResult w (λ n. r ≡ Ok n) (λ f. IsErrAnd r (λ g. g ≡ so_far f)) → r ≡ answered_as v
+unfolding answered_as
+answered_lem v (Ok n) r p h = rw (sym p) h
+answered_lem v (Err f) (Ok n) p h = absurd h
+answered_lem v (Err f) (Err g) p h = rw (sym p) (ap Err h)
 
 line_short : (n : ℕ) → Short 72 (unwrapped_line n)
 unfolding unwrapped_line ascii

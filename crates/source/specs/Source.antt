@@ -6,8 +6,7 @@ use Rattle.der.specs.declared.Fault.{Fault}
 use Rattle.buffer.specs.Numbers.{too_long}
 use Rattle.buffer.specs.Text.{ascii}
 use Rattle.buffer.specs.Written.{Outcome}
-use Rattle.buffer.specs.declared.Written.{Written}
-use Rattle.buffer.specs.declared.Written.TheVariants.{Length}
+use Rattle.std.specs.Prelude.{Err, Ok, Result}
 use Rattle.text.specs.Text.{number_text}
 use Rattle.pem.specs.Numbers.{not_text}
 use Rattle.pem.specs.Calls.{imported}
@@ -17,9 +16,9 @@ abbrev pub read_bytes : ℕ
 read_bytes = 88_791
 
 -- what import left at the front of the buffer; if it was refused, the bytes that were read
-unfoldable pub file_as : Written → List ℕ → List ℕ → List ℕ
-file_as (Length n) t buffer = take n buffer
-file_as (Written.Refused f) t buffer = t
+unfoldable pub file_as : Result ℕ Fault → List ℕ → List ℕ → List ℕ
+file_as (Ok n) t buffer = take n buffer
+file_as (Err f) t buffer = t
 
 -- the bytes of the file: those that a text wraps, or all that were read
 abbrev pub file_in : List ℕ → List ℕ → List ℕ
@@ -33,9 +32,9 @@ unwrapped_line n = number_text (ascii "unwrapped ") n ++ ascii " bytes of text: 
 unfoldable pub so_far : Fault → Fault
 so_far f = if eqb f.number not_text then (if ltb f.offset read_bytes then f else fault too_long 0) else f
 
-unfoldable pub answered_as : Written → Written
-answered_as (Length n) = Length n
-answered_as (Written.Refused f) = Written.Refused (so_far f)
+unfoldable pub answered_as : Result ℕ Fault → Result ℕ Fault
+answered_as (Ok n) = Ok n
+answered_as (Err f) = Err (so_far f)
 
 -- import of a text of which no more was read
 abbrev pub imported_so_far : List ℕ → List ℕ → Outcome

@@ -7,7 +7,7 @@ ghost use Rattle.buffer.specs.Placed.{Placed};
 ghost use Rattle.buffer.specs.Report.{written_report};
 ghost use Rattle.source.specs.Source.{file_in, unwrapped_line, so_far, imported_so_far};
 
-use buffer::{Written, write};
+use buffer::write;
 use der::Fault;
 use std::io;
 use std::io::Stderr;
@@ -32,27 +32,18 @@ fn say_unwrapped(errors: &mut Stderr, n: usize) -> io::Result<usize>
     stdio::write_error(errors, range::part(&line, 0, end))
 }
 
-// Writes the line if standard error takes it.
-fn try_to_say(errors: &mut Stderr, n: usize) {
-    match say_unwrapped(errors, n) {
-        Ok(_) => {}
-        Err(_) => {}
-    }
-}
-
 // The bytes of the file: those that a text wraps, at the front of the buffer, and standard error
 // says so; or all that were read, if these aren't a text that is imported. If standard error takes
 // no line, the file is the same.
 pub fn file<'a>(errors: &mut Stderr, read: &'a [u8], out: &'a mut [u8]) -> &'a [u8]
     ensures { result.now ≡ file_in read.now out.old }
 {
-    let written = pem::import(read, out);
-    match written {
-        Written::Length(n) => {
-            try_to_say(errors, n);
+    match pem::import(read, out) {
+        Ok(n) => {
+            let _ = say_unwrapped(errors, n);
             range::part(out, 0, n)
         }
-        Written::Refused(_) => read,
+        Err(_) => read,
     }
 }
 
@@ -61,10 +52,7 @@ pub fn file<'a>(errors: &mut Stderr, read: &'a [u8], out: &'a mut [u8]) -> &'a [
 fn so_far(fault: Fault) -> Fault
     ensures { result ≡ so_far fault }
 {
-    if fault.number != pem::NOT_TEXT {
-        return fault;
-    }
-    if fault.offset < READ_BYTES {
+    if fault.number != pem::NOT_TEXT || fault.offset < READ_BYTES {
         return fault;
     }
     Fault {
@@ -74,14 +62,10 @@ fn so_far(fault: Fault) -> Fault
 }
 
 // Imports a text of which no more was read.
-pub fn import(read: &[u8], out: &mut [u8]) -> Written
+pub fn import(read: &[u8], out: &mut [u8]) -> Result<usize, Fault>
     ensures value { result ≡ (imported_so_far read.now out.old).answer }
     ensures report { written_report result ≡ written_report (imported_so_far read.now out.old).answer }
     ensures out_after { out.new ≡ (imported_so_far read.now out.old).buffer }
 {
-    let written = pem::import(read, out);
-    match written {
-        Written::Length(_) => written,
-        Written::Refused(fault) => Written::Refused(so_far(fault)),
-    }
+    pem::import(read, out).map_err(so_far)
 }

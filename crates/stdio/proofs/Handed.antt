@@ -12,8 +12,6 @@ use Rattle.std.specs.Prelude.{if◌then◌else◌}
 use Rattle.der.specs.declared.Fault.{Fault}
 use Rattle.der.proofs.Choices.{either}
 use Rattle.buffer.specs.Placed.{behind}
-use Rattle.buffer.specs.declared.Written.{Written}
-use Rattle.buffer.specs.declared.Written.TheVariants.{Length}
 use Rattle.text.specs.Text.{refused_line}
 use Rattle.text.proofs.Short.{refused_line_lem}
 use Rattle.std.specs.Prelude.{Result, Ok, Err, IfOk}
@@ -31,20 +29,20 @@ pub at_ok : {T E : Type 0} (r : Result T E) (P Q : T → Type 0) → ((x : T) �
 at_ok (Ok x) P Q f h = f x h
 at_ok (Err e) P Q f h = h
 
-module _ (buffer : List ℕ) (result : Written) where
-  pub of_length : (n r : ℕ) → result ≡ Length n → r ≡ front buffer n → r ≡ handed buffer result
+module _ (buffer : List ℕ) (result : Result ℕ Fault) where
+  pub of_length : (n r : ℕ) → result ≡ Ok n → r ≡ front buffer n → r ≡ handed buffer result
   unfolding handed
   of_length n r e p = rw e p
 
-  pub bytes_of_length : (n : ℕ) → result ≡ Length n → take (front buffer n) buffer ≡ handed_bytes buffer result
+  pub bytes_of_length : (n : ℕ) → result ≡ Ok n → take (front buffer n) buffer ≡ handed_bytes buffer result
   unfolding handed_bytes
   bytes_of_length n e = rw e refl
 
-  pub bytes_of_refusal : (f : Fault) → result ≡ Written.Refused f → refused_line f ≡ handed_bytes buffer result
+  pub bytes_of_refusal : (f : Fault) → result ≡ Err f → refused_line f ≡ handed_bytes buffer result
   unfolding handed_bytes
   bytes_of_refusal f e = rw e refl
 
-  pub of_refusal : (f : Fault) (r : ℕ) → result ≡ Written.Refused f → r ≡ length (refused_line f)
+  pub of_refusal : (f : Fault) (r : ℕ) → result ≡ Err f → r ≡ length (refused_line f)
       → r ≡ handed buffer result
   unfolding handed
   of_refusal f r e p = rw e p

@@ -1,7 +1,8 @@
 // What programs do with standard input, output and error. A function that reads promises to stay
-// within the buffer, and one that writes how many bytes it handed on, if it returns `Ok`. The only
-// error is one of the input or the output, returned as it came. Of what was to be written some
-// bytes may have been handed on before it: the first ones, and no others.
+// within the buffer, and one that writes how many bytes it handed on, if it returns `Ok`. An error
+// is one of the input or the output, returned as it came, or `WriteZero`, where the output takes no
+// byte. Of what was to be written some bytes may have been handed on before it: the first ones, and
+// no others.
 #![tactic(auto)]
 
 ghost use Rattle.std.specs.Prelude.{◌≡◌, ℕ, ◌<◌, length, take, codes, IfOk, IsOk, OnOk, OnErr};
@@ -13,7 +14,6 @@ ghost use Rattle.stdio.specs.Handed.{Begun, front, handed, handed_bytes};
 ghost use Rattle.stdio.specs.Taken.{AtFront, TakenFrame};
 ghost use Rattle.text.specs.Text.{refused_line};
 
-use buffer::{Written, read};
 use der::Fault;
 use std::io::{Error, ErrorKind, Read, Result, Stderr, Write};
 
@@ -25,7 +25,7 @@ pub const LARGE: usize = 65536;
 const LENGTH: usize = 4;
 
 // What reading a frame comes to. A frame is its length in four bytes, high first, then its bytes.
-#[derive(Clone, Copy)]
+#[derive(Clone, Copy, Debug, PartialEq, Eq)]
 pub enum Frame {
     // The input ends in front of the frame.
     End,
@@ -63,7 +63,7 @@ fn read_body<R: Read>(input: &mut R, buffer: &mut [u8], size: usize) -> Result<F
     if buffer.len() < size {
         return Ok(Frame::Cut);
     }
-    let got = read_all(input, &mut buffer[0..size])?;
+    let got = read_all(input, &mut buffer[..size])?;
     if got < size {
         return Ok(Frame::Cut);
     }
@@ -84,14 +84,15 @@ pub fn read_frame<R: Read>(input: &mut R, buffer: &mut [u8]) -> Result<Frame>
     if got < LENGTH {
         return Ok(Frame::Cut);
     }
-    read_body(input, buffer, read::u32_be(&header, 0) as usize)
+    read_body(input, buffer, u32::from_be_bytes(header) as usize)
 }
 
 // Writes the first n bytes of a buffer, none if it has fewer. Returns the number of bytes handed
 // on.
 pub fn write_front<W: Write>(output: &mut W, buffer: &[u8], n: usize) -> Result<usize>
     ensures count { IfOk result (λ k. k ≡ front buffer.now n) }
-    ensures bytes { OnOk result (Appends (W.contents output.old) (W.contents output.new) (take (front buffer.now n) buffer.now)) }
+    ensures bytes { OnOk result
+        (Appends (W.contents output.old) (W.contents output.new) (take (front buffer.now n) buffer.now)) }
     ensures err { OnErr result
         (Begun (W.contents output.old) (W.contents output.new) (take (front buffer.now n) buffer.now)) }
     ensures short { length buffer.now < n → IsOk result }
@@ -99,7 +100,7 @@ pub fn write_front<W: Write>(output: &mut W, buffer: &[u8], n: usize) -> Result<
     if buffer.len() < n {
         return Ok(0);
     }
-    write_to(output, &buffer[0..n])
+    write_text(output, &buffer[..n])
 }
 
 // Writes the line of a refusal. Returns the number of bytes handed on.
@@ -115,20 +116,25 @@ pub fn write_refused<W: Write>(output: &mut W, fault: Fault) -> Result<usize>
 
 // Writes what a call left at the front of a buffer, or the line of its refusal. Returns the number
 // of bytes handed on.
-pub fn write_result<W: Write>(output: &mut W, buffer: &[u8], res: Written) -> Result<usize>
+pub fn write_result<W: Write>(
+    output: &mut W,
+    buffer: &[u8],
+    res: std::result::Result<usize, Fault>,
+) -> Result<usize>
     ensures count { IfOk result (λ k. k ≡ handed buffer.now res) }
-    ensures bytes { OnOk result (Appends (W.contents output.old) (W.contents output.new) (handed_bytes buffer.now res)) }
+    ensures bytes { OnOk result
+        (Appends (W.contents output.old) (W.contents output.new) (handed_bytes buffer.now res)) }
     ensures err { OnErr result (Begun (W.contents output.old) (W.contents output.new) (handed_bytes buffer.now res)) }
 {
     match res {
-        Written::Length(n) => write_front(output, buffer, n),
-        Written::Refused(fault) => write_refused(output, fault),
+        Ok(n) => write_front(output, buffer, n),
+        Err(fault) => write_refused(output, fault),
     }
 }
 
 // Writes a text to one of the outputs, by as many writes as it takes. Returns the number of bytes
 // handed on. A write that takes no byte is an error.
-fn write_to<W: Write>(output: &mut W, text: &[u8]) -> Result<usize>
+pub fn write_text<W: Write>(output: &mut W, text: &[u8]) -> Result<usize>
     ensures count { IfOk result (λ k. k ≡ length text.now) }
     ensures bytes { OnOk result (Appends (W.contents output.old) (W.contents output.new) text.now) }
     ensures err { OnErr result (Begun (W.contents output.old) (W.contents output.new) text.now) }
@@ -144,20 +150,11 @@ fn write_to<W: Write>(output: &mut W, text: &[u8]) -> Result<usize>
     Ok(text.len())
 }
 
-// Writes a text. Returns the number of bytes handed on.
-pub fn write_text<W: Write>(output: &mut W, text: &[u8]) -> Result<usize>
-    ensures count { IfOk result (λ k. k ≡ length text.now) }
-    ensures bytes { OnOk result (Appends (W.contents output.old) (W.contents output.new) text.now) }
-    ensures err { OnErr result (Begun (W.contents output.old) (W.contents output.new) text.now) }
-{
-    write_to(output, text)
-}
-
 // Writes a text to standard error. Returns the number of bytes handed on.
 pub fn write_error(errors: &mut Stderr, text: &[u8]) -> Result<usize>
     ensures { IfOk result (λ k. k ≡ length text.now) }
 {
-    write_to(errors, text)
+    write_text(errors, text)
 }
 
 // Writes a number in decimal, without leading zeros. Returns the number of digits handed on.

@@ -1,28 +1,29 @@
 -- Rules by which the code follows the definitions: w is what the code matched on.
-use mathlib.Core.Path.{◌≡◌, refl, sym, ◌∙◌}
+use mathlib.Core.Path.{◌≡◌, refl, sym, ap, ◌∙◌}
 use mathlib.Core.Bool.{Bool}
 use mathlib.Core.List.{List}
-use Prim.Native.Nat.{ℕ, zero, suc, ◌+◌, ◌-◌, ◌/◌, ◌%◌, ◌≤◌, ◌<◌}
+use Prim.Native.Nat.{ℕ, zero, suc, ◌+◌, ◌-◌, ◌/◌, ◌%◌, ◌≤◌, ◌<◌, min}
 use native.Mathlib.Omega.{arith}
 use lib.Dec.{ltb, leb}
-use lib.ListN.{set}
+use lib.ListN.{length, set}
 use borrow.Author.Tests.{lt-ltb, le-ltb, lt-leb, eq-eqb, ne_eqb}
+use Rattle.std.specs.Borrow.{Bor}
+use Rattle.std.specs.Slice.{IsItemAt}
 use Rattle.std.specs.Prelude.{if◌then◌else◌}
-use Rattle.der.specs.Element.{fault}
+use Rattle.std.specs.Prelude.{Option, None, Some, option_copied, unwrap_or}
+use Rattle.std.specs.Prelude.{Err, IsErr, IsErrAnd, Ok, Result, ⊤}
+use Rattle.der.proofs.Choices.{at_lt, at_not_lt, either, never}
 use Rattle.der.specs.declared.Fault.{Fault}
-use Rattle.header.specs.Numbers.{surplus, upload_levels}
+use Rattle.header.specs.Numbers.{upload_levels}
 use Rattle.header.specs.Header.{moved}
 use Rattle.header.specs.declared.Due.{Due}
-use Rattle.header.specs.declared.Due.TheVariants.{Body}
+use Rattle.header.specs.declared.Due.TheVariants.{Tag, Length, One, First, Second, Body, Nothing}
 use Rattle.header.specs.declared.Move.{Move}
-use Rattle.header.specs.declared.Move.TheVariants.{Refuse, Await, Enter, Pass, Surplus}
 use Rattle.stream.specs.declared.Upload.{Upload}
-use Rattle.stream.specs.declared.Status.{Status}
-use Rattle.stream.specs.declared.Status.TheVariants.{NoFault}
-use Rattle.stream.specs.Upload.{end_at, parent_end, still_open, with_due, closed_to, closed_at, body_before}
-use Rattle.stream.specs.Upload.{body_from, counted, entered, passed, applied, stepped}
-use Rattle.stream.specs.Upload.{status_at, on_status}
-use Rattle.stream.specs.Bulk.{bulk_of, skipped}
+use Rattle.stream.specs.declared.Refusal.{Refusal}
+use Rattle.stream.specs.Upload.{end_at, parent_end, still_open, closed_to, closed_at, body_before}
+use Rattle.stream.specs.Upload.{body_from, one_more, counted, entered, applied, stepped, on_status}
+use Rattle.stream.specs.Bulk.{bulk_of}
 
 -- the end of the parent
 module _ (total : ℕ) (ends : List ℕ) (k r : ℕ) where
@@ -37,6 +38,13 @@ module _ (total : ℕ) (ends : List ℕ) (k r : ℕ) where
       go : (j : ℕ) → (j ≡ 0 → ⊥) → r ≡ end_at ends (j - 1) → r ≡ parent_end total ends j
       go zero i q = absurd (i refl)
       go (suc j) i q = let z : suc j - 1 ≡ j = omega arith in rw z at q
+
+-- where an open element ends: what is at its index, if anything is
+pub end_read : (ends : List ℕ) (i : ℕ) (o : Option (Bor ℕ)) → length ends ≡ 20 → IsItemAt ends i o
+    → unwrap_or (option_copied o) 0 ≡ end_at ends i
+unfolding end_at
+end_read ends i None l h = at_not_lt i 20 _ _ _ (omega (arith, l, h.3)) refl
+end_read ends i (Some x) l h = at_lt i 20 _ _ _ (omega (arith, l, h.3.0)) (h.3.1 0)
 
 -- the loop over the open elements, from the innermost on
 module _ (ends : List ℕ) (p : ℕ) where
@@ -59,26 +67,52 @@ module _ (ends : List ℕ) (p : ℕ) where
 
 -- by cases of what is due
 module _ (w : Due) where
-  pub bulk_body : (r left at e : ℕ) → w ≡ Body at e
-      → r ≡ (if ltb at e then (if ltb left (e - at) then left else e - at) else 0) → r ≡ bulk_of w left
+  pub bulk_body : (r left k at e : ℕ) → w ≡ Body at e → k ≡ e - at → r ≡ min left k → r ≡ bulk_of w left
   unfolding bulk_of
-  bulk_body r left at e p q = rw p q
+  bulk_body r left k at e p o q = rw p (q ∙ (ap (min left) o ∙ few))
+    where
+      few : min left (e - at) ≡ (if ltb at e then (if ltb left (e - at) then left else e - at) else 0)
+      few =
+          either at e
+          (λ h. at_lt at e _ _ _ h
+          (either left (e - at)
+          (λ i. at_lt left (e - at) _ _ _ i (omega arith))
+          (λ i. at_not_lt left (e - at) _ _ _ i (omega arith))))
+          (λ h. at_not_lt at e _ _ _ h (omega arith))
 
-  pub skipped_body : (u r : Upload) (at e k : ℕ) → w ≡ Body at e → r ≡ passed u at e k → r ≡ skipped u w k
-  skipped_body u r at e k p q = rw p q
+-- what is neither a body nor a fault
+pub bulk_none : (w : Due) (left : ℕ) → ((at e : ℕ) → w ≡ Body at e → ⊥)
+    → ((n o after : ℕ) → w ≡ Due.Refused n o after → ⊥) → 0 ≡ bulk_of w left
+unfolding bulk_of
+bulk_none (Tag at) left f g = refl
+bulk_none (Length at t) left f g = refl
+bulk_none (One at t) left f g = refl
+bulk_none (First at t) left f g = refl
+bulk_none (Second at t h) left f g = refl
+bulk_none (Body at e) left f g = absurd (f at e refl)
+bulk_none Nothing left f g = refl
+bulk_none (Due.Refused n o after) left f g = absurd (g n o after refl)
 
-  pub status_refused : (r : Status) (n o after : ℕ) → w ≡ Due.Refused n o after
-      → r ≡ Status.Refused (fault n o) after → r ≡ status_at w
-  status_refused r n o after p q = rw p q
+-- one element more, up to the greatest number
+pub one_more_least : (n : ℕ) → n ≤ 65_535 → min (n + 1) 65_535 ≡ one_more n
+unfolding one_more
+one_more_least n h =
+    either n 65_535
+    (λ i. at_lt n 65_535 _ _ _ i (omega arith))
+    (λ i. at_not_lt n 65_535 _ _ _ i (omega arith))
 
 -- by cases of a status
-module _ {A : Type 0} (v w : Status) (r none : A) (refused : Fault → ℕ → A) where
-  pub on_none : w ≡ v → w ≡ NoFault → r ≡ none → r ≡ on_status v none refused
+module _ {A : Type 0} (v w : Result ⊤ Refusal) (r none : A) (refused : Fault → ℕ → A) where
+  pub on_none : w ≡ v → w ≡ Ok tt → r ≡ none → r ≡ on_status v none refused
   on_none p q e = rw (sym p ∙ q) e
 
-  pub on_refused : (f : Fault) (after : ℕ) → w ≡ v → w ≡ Status.Refused f after → r ≡ refused f after
-      → r ≡ on_status v none refused
-  on_refused f after p q e = rw (sym p ∙ q) e
+  pub on_refused : (x : Refusal) → w ≡ v → w ≡ Err x → r ≡ refused x.fault x.after → r ≡ on_status v none refused
+  on_refused x p q e = rw (sym p ∙ q) e
+
+-- what `?` returns for a fault: the same one
+pub kept : {A : Type 0} (r : Result A Refusal) (x : Refusal) → IsErr r × IsErrAnd r (λ y. y ≡ x) → r ≡ Err x
+kept (Ok y) x h = never h.0
+kept (Err y) x h = ap Err h.1
 
 -- what a callee returned, for what the definition has
 module _ (u r : Upload) where
@@ -115,26 +149,8 @@ module _ (u r : Upload) where
   entered_open at t start stop v d k q e =
       rw (lt-leb upload_levels u.depth d, ne_eqb (t / 0x20 % 2) 0 k) (rw q at e)
 
--- by cases of a move
+-- one byte
 module _ (u r : Upload) (m : Move) where
-  pub applied_refuse : (n at after : ℕ) → m ≡ Refuse n at after
-      → r ≡ with_due u (Due.Refused n at after) u.depth → r ≡ applied u m
-  applied_refuse n at after p e = rw p e
-
-  pub applied_await : (x : Due) → m ≡ Await x → r ≡ with_due u x u.depth → r ≡ applied u m
-  applied_await x p e = rw p e
-
-  pub applied_enter : (at t start stop : ℕ) → m ≡ Enter at t start stop → r ≡ entered u at t start stop
-      → r ≡ applied u m
-  applied_enter at t start stop p e = rw p e
-
-  pub applied_pass : (at e : ℕ) → m ≡ Pass at e → r ≡ passed u at e 1 → r ≡ applied u m
-  applied_pass at e p q = rw p q
-
-  pub applied_surplus : m ≡ Surplus → r ≡ with_due u (Due.Refused surplus 0 (u.total + 1)) u.depth
-      → r ≡ applied u m
-  applied_surplus p e = rw p e
-
   pub stepped_by : (b end : ℕ) (deep : Bool) → end ≡ parent_end u.total u.ends u.depth
       → deep ≡ leb upload_levels u.depth → m ≡ moved u.due b end deep → r ≡ applied u m → r ≡ stepped u b
   unfolding stepped

@@ -2,6 +2,7 @@
 -- first, and `depth` of them count.
 use Rattle.std.specs.Prelude.{Bool, true, false, List, [], ◌∷◌, ℕ, zero, suc, ◌+◌, ◌/◌, ◌%◌, max, leb, ltb, eqb, get_or, set}
 use Rattle.std.specs.Prelude.{if◌then◌else◌}
+use Rattle.std.specs.Prelude.{Err, Ok, Result, ⊤}
 use Rattle.der.specs.Element.{fault}
 use Rattle.der.specs.Numbers.{missing, left_over, too_many}
 use Rattle.der.specs.declared.Fault.{Fault}
@@ -13,10 +14,16 @@ use Rattle.header.specs.declared.Due.TheVariants.{Tag, Length, One, First, Secon
 use Rattle.header.specs.declared.Move.{Move}
 use Rattle.header.specs.declared.Move.TheVariants.{Refuse, Await, Enter, Pass, Surplus, Stay}
 use Rattle.stream.specs.declared.Upload.{Upload}
-use Rattle.stream.specs.declared.Status.{Status}
-use Rattle.stream.specs.declared.Status.TheVariants.{NoFault}
-use Rattle.stream.specs.declared.End.{End}
-use Rattle.stream.specs.declared.End.TheVariants.{Passed}
+use Rattle.stream.specs.declared.Counts.{Counts}
+use Rattle.stream.specs.declared.Refusal.{Refusal}
+
+-- a fault and the number of bytes after which it was certain
+abbrev pub refusal : Fault → ℕ → Refusal
+refusal f k = record { fault = f; after = k }
+
+-- the number of elements and the greatest level
+abbrev pub counts : ℕ → ℕ → Counts
+counts m v = record { elements = m; level = v }
 
 -- where open element i ends
 unfoldable pub end_at : List ℕ → ℕ → ℕ
@@ -147,17 +154,17 @@ begun n =
     first n (Tag 0)
 
 -- the fault that is certain
-abbrev pub status_at : Due → Status
-status_at (Tag at) = NoFault
-status_at (Length at t) = NoFault
-status_at (One at t) = NoFault
-status_at (First at t) = NoFault
-status_at (Second at t h) = NoFault
-status_at (Body at e) = NoFault
-status_at Nothing = NoFault
-status_at (Due.Refused n p after) = Status.Refused (fault n p) after
+abbrev pub status_at : Due → Result ⊤ Refusal
+status_at (Tag at) = Ok tt
+status_at (Length at t) = Ok tt
+status_at (One at t) = Ok tt
+status_at (First at t) = Ok tt
+status_at (Second at t h) = Ok tt
+status_at (Body at e) = Ok tt
+status_at Nothing = Ok tt
+status_at (Due.Refused n p after) = Err (refusal (fault n p) after)
 
-abbrev pub status_of : Upload → Status
+abbrev pub status_of : Upload → Result ⊤ Refusal
 status_of u = status_at u.due
 
 -- whether every byte that was announced is here
@@ -171,14 +178,15 @@ is_whole (Body at e) = false
 is_whole Nothing = true
 is_whole (Due.Refused n p after) = false
 
-abbrev pub on_status : {A : Type 0} → Status → A → (Fault → ℕ → A) → A
-on_status NoFault none refused = none
-on_status (Status.Refused f after) none refused = refused f after
+-- what is made of no fault, and of one
+abbrev pub on_status : {A : Type 0} → Result ⊤ Refusal → A → (Fault → ℕ → A) → A
+on_status (Ok x) none refused = none
+on_status (Err x) none refused = refused x.fault x.after
 
 -- the answer at the end: Rule 5.20, 20 at 0 for an early end without a fault
-unfoldable pub ended : Upload → End
+unfoldable pub ended : Upload → Result Counts Refusal
 ended u =
     on_status (status_of u)
-    (if is_whole u.due then Passed u.elements u.level else
-    End.Refused (fault early 0) (arrived_at u.due u.total))
-    End.Refused
+    (if is_whole u.due then Ok (counts u.elements u.level) else
+    Err (refusal (fault early 0) (arrived_at u.due u.total)))
+    (λ f k. Err (refusal f k))

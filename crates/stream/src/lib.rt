@@ -5,7 +5,8 @@
 
 ghost use Rattle.std.specs.Prelude.{◌≡◌, ◌^◌, ◌<◌};
 ghost use Rattle.der.specs.Span.{Bytes};
-ghost use Rattle.stream.specs.Upload.{begun, stepped, taken, is_whole};
+ghost use Rattle.header.specs.declared.Due.TheVariants.{Refused};
+ghost use Rattle.stream.specs.Upload.{first, begun, stepped, taken, is_whole};
 ghost use Rattle.stream.specs.Bulk.{bulk_of, skipped};
 ghost use Rattle.stream.specs.Upload.{status_of, ended};
 ghost use Rattle.stream.specs.Report.{status_report, end_report};
@@ -17,7 +18,7 @@ use header::Due;
 
 // An upload: the announced length, what the next byte is, where the open elements end (the
 // outermost first) and how many are open, the number of elements and the greatest level so far.
-#[derive(Clone, Copy)]
+#[derive(Clone, Copy, Debug, PartialEq, Eq)]
 pub struct Upload {
     pub total: u16,
     pub due: Due,
@@ -27,19 +28,18 @@ pub struct Upload {
     pub level: u8,
 }
 
-// What is certain of an upload: no fault, or one, and the number of bytes after which it was.
+// A fault that is certain, and the number of bytes after which it was.
 #[derive(Clone, Copy)]
-pub enum Status {
-    NoFault,
-    Refused { fault: Fault, after: usize },
+pub struct Refusal {
+    pub fault: Fault,
+    pub after: usize,
 }
 
-// The answer at the end: the number of elements and the greatest level, or the fault and the
-// number of bytes after which it was certain.
-#[derive(Clone, Copy)]
-pub enum End {
-    Passed { elements: usize, level: usize },
-    Refused { fault: Fault, after: usize },
+// An upload that passes: the number of elements and the greatest level.
+#[derive(Clone, Copy, Debug, PartialEq, Eq)]
+pub struct Counts {
+    pub elements: usize,
+    pub level: usize,
 }
 
 // How many of the next `left` bytes don't matter: those of a body that isn't examined, and all
@@ -48,33 +48,9 @@ fn bulk(due: Due, left: usize) -> usize
     ensures { result ≡ bulk_of due left }
 {
     match due {
-        Due::Tag { at: _ } => 0,
-        Due::Length { at: _, tag: _ } => 0,
-        Due::One { at: _, tag: _ } => 0,
-        Due::First { at: _, tag: _ } => 0,
-        Due::Second {
-            at: _,
-            tag: _,
-            first: _,
-        } => 0,
-        Due::Body { at, end } => {
-            let offset = at as usize;
-            let stop = end as usize;
-            if offset < stop {
-                let rest = stop - offset;
-                if left < rest {
-                    return left;
-                }
-                return rest;
-            }
-            0
-        }
-        Due::Nothing => 0,
-        Due::Refused {
-            number: _,
-            offset: _,
-            after: _,
-        } => left,
+        Due::Body { at, end } => left.min(end.saturating_sub(at) as usize),
+        Due::Refused { .. } => left,
+        _ => 0,
     }
 }
 
@@ -83,24 +59,9 @@ fn skip(u: Upload, k: usize) -> Upload
     requires { k < 2 ^ 63 }
     ensures { result ≡ skipped u u.due k }
 {
-    let due = u.due;
-    match due {
-        Due::Tag { at: _ } => u,
-        Due::Length { at: _, tag: _ } => u,
-        Due::One { at: _, tag: _ } => u,
-        Due::First { at: _, tag: _ } => u,
-        Due::Second {
-            at: _,
-            tag: _,
-            first: _,
-        } => u,
+    match u.due {
         Due::Body { at, end } => nest::passed(u, at, end, k),
-        Due::Nothing => u,
-        Due::Refused {
-            number: _,
-            offset: _,
-            after: _,
-        } => u,
+        _ => u,
     }
 }
 
@@ -108,38 +69,42 @@ fn skip(u: Upload, k: usize) -> Upload
 fn is_whole(due: Due) -> bool
     ensures { result ≡ is_whole due }
 {
-    match due {
-        Due::Tag { at: _ } => false,
-        Due::Length { at: _, tag: _ } => false,
-        Due::One { at: _, tag: _ } => false,
-        Due::First { at: _, tag: _ } => false,
-        Due::Second {
-            at: _,
-            tag: _,
-            first: _,
-        } => false,
-        Due::Body { at: _, end: _ } => false,
-        Due::Nothing => true,
-        Due::Refused {
-            number: _,
-            offset: _,
-            after: _,
-        } => false,
-    }
+    matches!(due, Due::Nothing)
 }
 
 // One byte.
 fn step(u: Upload, b: u8) -> Upload
     ensures { result ≡ stepped u b }
 {
-    let due = u.due;
-    let total = u.total;
-    let ends = u.ends;
-    let depth = u.depth;
-    let end = nest::parent_end(total, ends, depth);
-    let deep = header::UPLOAD_LEVELS <= depth;
-    let m = header::moved(due, b, end, deep);
-    nest::applied(u, m)
+    let end = nest::parent_end(u.total, u.ends, u.depth);
+    let deep = header::UPLOAD_LEVELS <= u.depth;
+    nest::applied(u, header::moved(u.due, b, end, deep))
+}
+
+// An upload of no element.
+fn first(total: u16, due: Due) -> Upload
+    ensures { result ≡ first total due }
+{
+    Upload {
+        total,
+        due,
+        ends: [0; 20],
+        depth: 0,
+        elements: 0,
+        level: 0,
+    }
+}
+
+// An upload that is refused as it is announced.
+fn refused(number: u8) -> Upload
+    ensures { result ≡ first 0 (Refused number 0 0) }
+{
+    let due = Due::Refused {
+        number,
+        offset: 0,
+        after: 0,
+    };
+    first(0, due)
 }
 
 impl Upload {
@@ -147,47 +112,13 @@ impl Upload {
     pub fn begin(length: usize) -> Upload
         ensures { result ≡ begun length }
     {
-        let ends = [0u16; 20];
         if buffer::FILE_BYTES < length {
-            let due = Due::Refused {
-                number: buffer::TOO_LONG,
-                offset: 0,
-                after: 0,
-            };
-            return Upload {
-                total: 0,
-                due,
-                ends,
-                depth: 0,
-                elements: 0,
-                level: 0,
-            };
+            return refused(buffer::TOO_LONG);
         }
         if length == 0 {
-            let due = Due::Refused {
-                number: der::MISSING,
-                offset: 0,
-                after: 0,
-            };
-            return Upload {
-                total: 0,
-                due,
-                ends,
-                depth: 0,
-                elements: 0,
-                level: 0,
-            };
+            return refused(der::MISSING);
         }
-        let total = length as u16;
-        let due = Due::Tag { at: 0 };
-        Upload {
-            total,
-            due,
-            ends,
-            depth: 0,
-            elements: 0,
-            level: 0,
-        }
+        first(length as u16, Due::Tag { at: 0 })
     }
 
     // A portion arrives; it may be empty.
@@ -198,12 +129,9 @@ impl Upload {
         let mut u = self;
         let mut i = 0;
         while i < portion.len() {
-            let left = portion.len() - i;
-            let due = u.due;
-            let k = bulk(due, left);
+            let k = bulk(u.due, portion.len() - i);
             if k == 0 {
-                let b = portion[i];
-                u = step(u, b);
+                u = step(u, portion[i]);
                 i += 1;
             } else {
                 u = skip(u, k);
@@ -213,60 +141,49 @@ impl Upload {
         u
     }
 
-    // What is certain so far.
-    pub fn status(self) -> Status
+    // What is certain so far: no fault, or one.
+    pub fn status(self) -> Result<(), Refusal>
         ensures value { result ≡ status_of self }
         ensures report { status_report result ≡ status_report (status_of self) }
     {
-        let due = self.due;
-        match due {
-            Due::Tag { at: _ } => Status::NoFault,
-            Due::Length { at: _, tag: _ } => Status::NoFault,
-            Due::One { at: _, tag: _ } => Status::NoFault,
-            Due::First { at: _, tag: _ } => Status::NoFault,
-            Due::Second {
-                at: _,
-                tag: _,
-                first: _,
-            } => Status::NoFault,
-            Due::Body { at: _, end: _ } => Status::NoFault,
-            Due::Nothing => Status::NoFault,
+        match self.due {
             Due::Refused {
                 number,
                 offset,
                 after,
             } => {
-                let at = offset as usize;
-                let fault = Fault { number, offset: at };
-                let wide = after as usize;
-                Status::Refused { fault, after: wide }
+                let fault = Fault {
+                    number,
+                    offset: offset as usize,
+                };
+                Err(Refusal {
+                    fault,
+                    after: after as usize,
+                })
             }
+            _ => Ok(()),
         }
     }
 
     // The answer if the upload ends here. It changes nothing: the same upload can take more.
-    pub fn end(self) -> End
+    pub fn end(self) -> Result<Counts, Refusal>
         ensures value { result ≡ ended self }
         ensures report { end_report result ≡ end_report (ended self) }
     {
-        let status = self.status();
-        match status {
-            Status::Refused { fault, after } => End::Refused { fault, after },
-            Status::NoFault => {
-                let due = self.due;
-                let total = self.total;
-                if is_whole(due) {
-                    let elements = self.elements as usize;
-                    let level = self.level as usize;
-                    return End::Passed { elements, level };
-                }
-                let after = header::arrived(due, total) as usize;
-                let fault = Fault {
-                    number: header::EARLY,
-                    offset: 0,
-                };
-                End::Refused { fault, after }
-            }
+        self.status()?;
+        if is_whole(self.due) {
+            return Ok(Counts {
+                elements: self.elements as usize,
+                level: self.level as usize,
+            });
         }
+        let fault = Fault {
+            number: header::EARLY,
+            offset: 0,
+        };
+        Err(Refusal {
+            fault,
+            after: header::arrived(self.due, self.total) as usize,
+        })
     }
 }

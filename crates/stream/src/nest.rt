@@ -1,7 +1,7 @@
 // The elements of an upload that are open: where they end, and what a move makes of them.
-ghost use Rattle.std.specs.Prelude.{◌≡◌, ◌^◌, ◌<◌, max};
+ghost use Rattle.std.specs.Prelude.{◌≡◌, ◌^◌, ◌<◌};
 ghost use Rattle.stream.specs.Upload.{end_at, parent_end, still_open, with_due, closed_at, is_refused};
-ghost use Rattle.stream.specs.Upload.{body_from, one_more, counted, entered, passed, applied};
+ghost use Rattle.stream.specs.Upload.{body_from, counted, entered, passed, applied};
 
 use crate::Upload;
 use header::{Due, Move};
@@ -10,10 +10,7 @@ use header::{Due, Move};
 fn end_at(ends: [u16; 20], i: usize) -> u16
     ensures { result ≡ end_at ends i }
 {
-    if i < 20 {
-        return ends[i];
-    }
-    0
+    ends.get(i).copied().unwrap_or(0)
 }
 
 // Where the innermost open element ends, or the upload if none is open.
@@ -23,9 +20,7 @@ pub(crate) fn parent_end(total: u16, ends: [u16; 20], depth: u8) -> u16
     if depth == 0 {
         return total;
     }
-    let i = depth - 1;
-    let wide = i as usize;
-    end_at(ends, wide)
+    end_at(ends, depth as usize - 1)
 }
 
 // How many elements are still open at p, of the first `depth`: those inside the innermost one that
@@ -33,32 +28,19 @@ pub(crate) fn parent_end(total: u16, ends: [u16; 20], depth: u8) -> u16
 fn still_open(ends: [u16; 20], depth: u8, p: u16) -> u8
     ensures { result ≡ still_open ends depth p }
 {
-    let mut k = depth;
-    while 0 < k {
-        let i = k - 1;
-        let wide = i as usize;
-        let end = end_at(ends, wide);
-        if p < end {
-            return k;
+    for i in (0..depth).rev() {
+        if p < end_at(ends, i as usize) {
+            return i + 1;
         }
-        k = i;
     }
-    k
+    0
 }
 
 // The same upload with something else due, and so many elements open.
 fn with(u: Upload, due: Due, depth: u8) -> Upload
     ensures { result ≡ with_due u due depth }
 {
-    let ends = u.ends;
-    Upload {
-        total: u.total,
-        due,
-        ends,
-        depth,
-        elements: u.elements,
-        level: u.level,
-    }
+    Upload { due, depth, ..u }
 }
 
 // At p, where an element ends or a body begins, every element that ends there is closed. Where none
@@ -66,15 +48,11 @@ fn with(u: Upload, due: Due, depth: u8) -> Upload
 fn closed(u: Upload, p: u16, after: u32) -> Upload
     ensures { result ≡ closed_at u p after }
 {
-    let ends = u.ends;
-    let before = u.depth;
-    let total = u.total;
-    let depth = still_open(ends, before, p);
+    let depth = still_open(u.ends, u.depth, p);
     if 0 < depth {
-        let due = Due::Tag { at: p };
-        return with(u, due, depth);
+        return with(u, Due::Tag { at: p }, depth);
     }
-    if p < total {
+    if p < u.total {
         let due = Due::Refused {
             number: der::LEFT_OVER,
             offset: p,
@@ -82,31 +60,14 @@ fn closed(u: Upload, p: u16, after: u32) -> Upload
         };
         return with(u, due, depth);
     }
-    let due = Due::Nothing;
-    with(u, due, depth)
+    with(u, Due::Nothing, depth)
 }
 
+// Whether a fault is certain.
 fn is_refused(due: Due) -> bool
     ensures { result ≡ is_refused due }
 {
-    match due {
-        Due::Tag { at: _ } => false,
-        Due::Length { at: _, tag: _ } => false,
-        Due::One { at: _, tag: _ } => false,
-        Due::First { at: _, tag: _ } => false,
-        Due::Second {
-            at: _,
-            tag: _,
-            first: _,
-        } => false,
-        Due::Body { at: _, end: _ } => false,
-        Due::Nothing => false,
-        Due::Refused {
-            number: _,
-            offset: _,
-            after: _,
-        } => true,
-    }
+    matches!(due, Due::Refused { .. })
 }
 
 // A body that isn't examined. What follows it is known with its header: if that is a fault, it is
@@ -114,8 +75,7 @@ fn is_refused(due: Due) -> bool
 fn body_from(u: Upload, start: u16, stop: u16) -> Upload
     ensures { result ≡ body_from u start stop }
 {
-    let after = start as u32;
-    let next = closed(u, stop, after);
+    let next = closed(u, stop, start as u32);
     let due = next.due;
     if is_refused(due) {
         return next;
@@ -125,47 +85,19 @@ fn body_from(u: Upload, start: u16, stop: u16) -> Upload
             at: start,
             end: stop,
         };
-        let depth = u.depth;
-        return with(u, body, depth);
+        return with(u, body, u.depth);
     }
     next
-}
-
-fn one_more(n: u16) -> u16
-    ensures { result ≡ one_more n }
-{
-    if n < 65535 {
-        return n + 1;
-    }
-    n
-}
-
-fn greater(a: u8, b: u8) -> u8
-    ensures { result ≡ max a b }
-{
-    if a < b {
-        return b;
-    }
-    a
 }
 
 // One element more, on this level.
 fn counted(u: Upload, level: u8) -> Upload
     ensures { result ≡ counted u level }
 {
-    let due = u.due;
-    let ends = u.ends;
-    let before = u.elements;
-    let reached = u.level;
-    let elements = one_more(before);
-    let deepest = greater(reached, level);
     Upload {
-        total: u.total,
-        due,
-        ends,
-        depth: u.depth,
-        elements,
-        level: deepest,
+        elements: u.elements.saturating_add(1),
+        level: u.level.max(level),
+        ..u
     }
 }
 
@@ -189,16 +121,11 @@ fn entered(u: Upload, at: u16, tag: u8, start: u16, stop: u16) -> Upload
         return body_from(v, start, stop);
     }
     let mut ends = v.ends;
-    let i = depth as usize;
-    ends[i] = stop;
-    let due = v.due;
+    ends[depth as usize] = stop;
     let w = Upload {
-        total: v.total,
-        due,
         ends,
         depth: level,
-        elements: v.elements,
-        level: v.level,
+        ..v
     };
     closed(w, start, after)
 }
@@ -210,22 +137,20 @@ pub(crate) fn passed(u: Upload, at: u16, end: u16, k: usize) -> Upload
 {
     let offset = at as usize;
     let next = offset + k;
-    let wide = end as usize;
-    if next < wide {
-        let at16 = next as u16;
-        let due = Due::Body { at: at16, end };
-        let depth = u.depth;
-        return with(u, due, depth);
+    if next < end as usize {
+        let due = Due::Body {
+            at: next as u16,
+            end,
+        };
+        return with(u, due, u.depth);
     }
-    let after = end as u32;
-    closed(u, end, after)
+    closed(u, end, end as u32)
 }
 
 // What a move makes of an upload.
 pub(crate) fn applied(u: Upload, m: Move) -> Upload
     ensures { result ≡ applied u m }
 {
-    let depth = u.depth;
     match m {
         Move::Refuse { number, at, after } => {
             let due = Due::Refused {
@@ -233,9 +158,9 @@ pub(crate) fn applied(u: Upload, m: Move) -> Upload
                 offset: at,
                 after,
             };
-            with(u, due, depth)
+            with(u, due, u.depth)
         }
-        Move::Await(due) => with(u, due, depth),
+        Move::Await(due) => with(u, due, u.depth),
         Move::Enter {
             at,
             tag,
@@ -244,13 +169,12 @@ pub(crate) fn applied(u: Upload, m: Move) -> Upload
         } => entered(u, at, tag, start, stop),
         Move::Pass { at, end } => passed(u, at, end, 1),
         Move::Surplus => {
-            let total = u.total;
             let due = Due::Refused {
                 number: header::SURPLUS,
                 offset: 0,
-                after: total as u32 + 1,
+                after: u.total as u32 + 1,
             };
-            with(u, due, depth)
+            with(u, due, u.depth)
         }
         Move::Stay => u,
     }

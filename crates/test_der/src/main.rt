@@ -21,11 +21,7 @@ fn range(output: &mut impl Write, c: Cursor) -> io::Result<()> {
 }
 
 fn refused(output: &mut impl Write, f: Fault) -> io::Result<()> {
-    write_text(output, b"refused ")?;
-    write_decimal(output, f.number as usize)?;
-    write_text(output, b" at ")?;
-    write_decimal(output, f.offset)?;
-    write_text(output, b"\n")?;
+    stdio::write_refused(output, f)?;
     Ok(())
 }
 
@@ -36,37 +32,37 @@ fn next(output: &mut impl Write, c: Cursor) -> io::Result<()> {
     Ok(())
 }
 
-fn show_element(output: &mut impl Write, e: Element) -> io::Result<()> {
-    match e {
-        Element::Refused(f) => refused(output, f),
-        Element::Found { tag, body, next: n } => {
+fn show_element(output: &mut impl Write, answer: Result<Element, Fault>) -> io::Result<()> {
+    match answer {
+        Err(f) => refused(output, f),
+        Ok(found) => {
             write_text(output, b"found ")?;
-            write_hex(output, tag)?;
+            write_hex(output, found.tag)?;
             write_text(output, b", body ")?;
-            range(output, body)?;
-            next(output, n)
+            range(output, found.body)?;
+            next(output, found.next)
         }
     }
 }
 
-fn show_integer(output: &mut impl Write, i: Integer) -> io::Result<()> {
-    match i {
-        Integer::Refused(f) => refused(output, f),
-        Integer::Value { value, next: n } => {
+fn show_integer(output: &mut impl Write, answer: Result<Integer, Fault>) -> io::Result<()> {
+    match answer {
+        Err(f) => refused(output, f),
+        Ok(integer) => {
             write_text(output, b"value ")?;
-            write_decimal(output, value as usize)?;
-            next(output, n)
+            write_decimal(output, integer.value as usize)?;
+            next(output, integer.next)
         }
     }
 }
 
-fn show_checked(output: &mut impl Write, k: Checked) -> io::Result<()> {
-    match k {
-        Checked::Refused(f) => refused(output, f),
-        Checked::Passed { count, next: n } => {
+fn show_checked(output: &mut impl Write, answer: Result<Checked, Fault>) -> io::Result<()> {
+    match answer {
+        Err(f) => refused(output, f),
+        Ok(checked) => {
             write_text(output, b"passed ")?;
-            write_decimal(output, count)?;
-            next(output, n)
+            write_decimal(output, checked.count)?;
+            next(output, checked.next)
         }
     }
 }

@@ -6,18 +6,14 @@
 
 mod runs;
 
-use buffer::Written;
-use pkcs12::{Answer, Reading, Table};
+use pkcs12::{Reading, Table};
 use std::io;
 use std::io::{Read, Write};
 use stdio::Frame;
 
 // Whether the first n bytes of what was written are the file.
 fn same_front(out: &[u8], n: usize, file: &[u8]) -> bool {
-    if out.len() < n {
-        return false;
-    }
-    range::same(&out[0..n], file)
+    n <= out.len() && &out[..n] == file
 }
 
 // Writes the file of a table, and says whether it is this one.
@@ -28,17 +24,12 @@ fn write_back(
     out: &mut [u8],
 ) -> io::Result<()> {
     let written = writer::write(table, file, out);
-    let same = match written {
-        Written::Length(n) => same_front(out, n, file),
-        Written::Refused(_) => false,
-    };
-    if same {
+    if matches!(written, Ok(n) if same_front(out, n, file)) {
         stdio::write_text(output, b"written back, the same\n")?;
-        Ok(())
     } else {
         stdio::write_text(output, b"written back, another\n")?;
-        Ok(())
     }
+    Ok(())
 }
 
 // Writes the listing of a file: all of it, since the buffer holds any.
@@ -61,15 +52,12 @@ fn show_pairs(output: &mut impl Write, file: &[u8], reading: Reading) -> io::Res
 fn list(output: &mut impl Write, file: &[u8], out: &mut [u8]) -> io::Result<()> {
     let reading = reader::read(file);
     show_listing(output, file.len(), reading)?;
-    let answer = reading.answer;
-    match answer {
-        Answer::Accepted => {
-            show_pairs(output, file, reading)?;
-            runs::show(output, reading.table, file)?;
-            write_back(output, reading.table, file, out)
-        }
-        Answer::Refused(_) => Ok(()),
+    if reading.answer.is_ok() {
+        show_pairs(output, file, reading)?;
+        runs::show(output, reading.table, file)?;
+        write_back(output, reading.table, file, out)?;
     }
+    Ok(())
 }
 
 // One frame, and whether to go on.
@@ -93,17 +81,17 @@ fn frame(
     }
 }
 
-// Nothing says that the input ends, so the frames are counted down, from a number that no input
-// has.
+// Nothing says that the input ends, so the frames are counted, up to a number that no input has.
 fn frames(
     output: &mut impl Write,
     input: &mut impl Read,
     buffer: &mut [u8],
     out: &mut [u8],
 ) -> io::Result<()> {
-    let mut left = u64::MAX;
-    while left > 0 && frame(output, input, buffer, out)? {
-        left = left - 1;
+    for _ in 0..u64::MAX {
+        if !frame(output, input, buffer, out)? {
+            break;
+        }
     }
     Ok(())
 }

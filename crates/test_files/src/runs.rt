@@ -1,9 +1,7 @@
 // Runs calls on the table of an accepted file: an attribute reader of each bag, and identity rows,
 // each by itself and all stored in an array. docs/TESTS.md has the form of the lines.
 use attributes::Item;
-use buffer::Written;
 use der::Fault;
-use identities::Identity;
 use pairing::IdentityRow;
 use pkcs12::{AttributeRow, BagKind, Table};
 use range::Range;
@@ -24,9 +22,9 @@ const UNUSED: IdentityRow = IdentityRow {
 // What three calls of an attribute reader returned.
 #[derive(Clone, Copy)]
 struct Three {
-    first: Item,
-    second: Item,
-    third: Item,
+    first: Result<Item, Fault>,
+    second: Result<Item, Fault>,
+    third: Result<Item, Fault>,
 }
 
 // The number of some bytes, and the remainder of the number that they spell, first byte highest.
@@ -39,7 +37,7 @@ struct Summary {
 // The answer of storing identity rows in an array, and the array afterwards.
 #[derive(Clone, Copy)]
 struct Filled {
-    answer: Written,
+    answer: Result<usize, Fault>,
     rows: [IdentityRow; pkcs12::BAG_ROWS],
 }
 
@@ -71,14 +69,12 @@ fn fill_rows(table: Table, bytes: &[u8], before: [IdentityRow; pkcs12::BAG_ROWS]
 }
 
 fn summed(part: &[u8]) -> Summary {
-    let mut remainder: usize = 0;
-    let mut i: usize = 0;
-    while i < part.len() {
-        remainder = (remainder * 256 + part[i] as usize) % DIVISOR;
-        i = i + 1;
+    let mut remainder = 0;
+    for b in part {
+        remainder = (remainder * 256 + *b as usize) % DIVISOR;
     }
     Summary {
-        bytes: i,
+        bytes: part.len(),
         remainder,
     }
 }
@@ -97,37 +93,23 @@ fn kind_number(kind: BagKind) -> usize {
 }
 
 fn same_row(a: IdentityRow, b: IdentityRow) -> bool {
-    let kind = a.kind;
-    let other = b.kind;
-    if kind_number(kind) != kind_number(other) {
-        return false;
-    }
-    if a.has_id != b.has_id {
-        return false;
-    }
-    if a.id.start != b.id.start {
-        return false;
-    }
-    a.id.end == b.id.end
+    kind_number(a.kind) == kind_number(b.kind)
+        && a.has_id == b.has_id
+        && a.id.start == b.id.start
+        && a.id.end == b.id.end
 }
 
 fn row_at(filled: Filled, i: usize) -> IdentityRow {
-    if i < pkcs12::BAG_ROWS {
-        return filled.rows[i];
-    }
-    IdentityRow::EMPTY
+    filled.rows.get(i).copied().unwrap_or(IdentityRow::EMPTY)
 }
 
 // Whether the rows from `start` on are as before.
 fn rest_unused(filled: Filled, start: usize) -> bool {
-    let mut i = start;
-    while i < pkcs12::BAG_ROWS {
-        if !same_row(filled.rows[i], UNUSED) {
-            return false;
-        }
-        i = i + 1;
-    }
-    true
+    filled
+        .rows
+        .iter()
+        .skip(start)
+        .all(|row| same_row(*row, UNUSED))
 }
 
 fn span(output: &mut impl Write, r: Range) -> io::Result<()> {
@@ -150,31 +132,28 @@ fn attribute(output: &mut impl Write, row: AttributeRow) -> io::Result<()> {
     span(output, row.values)
 }
 
-fn outcome(output: &mut impl Write, item: Item) -> io::Result<()> {
+fn outcome(output: &mut impl Write, item: Result<Item, Fault>) -> io::Result<()> {
     match item {
-        Item::Ready => {
+        Ok(Item::Ready) => {
             write_text(output, b"nothing")?;
             Ok(())
         }
-        Item::Attribute(row) => attribute(output, row),
-        Item::Done => {
+        Ok(Item::Attribute(row)) => attribute(output, row),
+        Ok(Item::Done) => {
             write_text(output, b"done")?;
             Ok(())
         }
-        Item::Refused(fault) => refusal(output, fault),
+        Err(fault) => refusal(output, fault),
     }
 }
 
 fn calls_line(output: &mut impl Write, given: Three) -> io::Result<()> {
-    let first = given.first;
-    let second = given.second;
-    let third = given.third;
     write_text(output, b"calls: ")?;
-    outcome(output, first)?;
+    outcome(output, given.first)?;
     write_text(output, b", ")?;
-    outcome(output, second)?;
+    outcome(output, given.second)?;
     write_text(output, b", ")?;
-    outcome(output, third)?;
+    outcome(output, given.third)?;
     write_text(output, b"\n")?;
     Ok(())
 }
@@ -190,42 +169,44 @@ fn type_line(output: &mut impl Write, found: Summary) -> io::Result<()> {
 
 // An identity row, and whether that is the one that was stored.
 fn identity(output: &mut impl Write, row: IdentityRow, stored: IdentityRow) -> io::Result<()> {
-    let kind = row.kind;
     if row.has_id {
         span(output, row.id)?;
     } else {
         write_text(output, b"none")?;
     }
     write_text(output, b", kind ")?;
-    write_decimal(output, kind_number(kind))?;
+    write_decimal(output, kind_number(row.kind))?;
     if same_row(row, stored) {
         write_text(output, b", filled")?;
-        Ok(())
     } else {
         write_text(output, b", filled otherwise")?;
-        Ok(())
     }
+    Ok(())
 }
 
-fn id_line(output: &mut impl Write, answer: Identity, stored: IdentityRow) -> io::Result<()> {
+fn id_line(
+    output: &mut impl Write,
+    answer: Result<IdentityRow, Fault>,
+    stored: IdentityRow,
+) -> io::Result<()> {
     write_text(output, b"id: ")?;
     match answer {
-        Identity::Row(row) => identity(output, row, stored)?,
-        Identity::Refused(fault) => refusal(output, fault)?,
+        Ok(row) => identity(output, row, stored)?,
+        Err(fault) => refusal(output, fault)?,
     }
     write_text(output, b"\n")?;
     Ok(())
 }
 
 // The answer of filling, and how many rows are stored.
-fn stored_rows(output: &mut impl Write, answer: Written) -> io::Result<usize> {
+fn stored_rows(output: &mut impl Write, answer: Result<usize, Fault>) -> io::Result<usize> {
     match answer {
-        Written::Length(n) => {
+        Ok(n) => {
             write_text(output, b"rows ")?;
             write_decimal(output, n)?;
             Ok(n)
         }
-        Written::Refused(fault) => {
+        Err(fault) => {
             refusal(output, fault)?;
             Ok(0)
         }
@@ -233,16 +214,14 @@ fn stored_rows(output: &mut impl Write, answer: Written) -> io::Result<usize> {
 }
 
 fn fill_line(output: &mut impl Write, filled: Filled) -> io::Result<()> {
-    let answer = filled.answer;
     write_text(output, b"fill: ")?;
-    let n = stored_rows(output, answer)?;
+    let n = stored_rows(output, filled.answer)?;
     if rest_unused(filled, n) {
         write_text(output, b", rest as before\n")?;
-        Ok(())
     } else {
         write_text(output, b", rest changed\n")?;
-        Ok(())
     }
+    Ok(())
 }
 
 fn bag_name(output: &mut impl Write, bag: usize) -> io::Result<()> {
@@ -258,17 +237,13 @@ fn first_type(
     table: Table,
     file: &[u8],
     bag: usize,
-    first: Item,
+    first: Result<Item, Fault>,
 ) -> io::Result<()> {
-    match first {
-        Item::Ready => Ok(()),
-        Item::Attribute(row) => {
-            bag_name(output, bag)?;
-            type_line(output, part_of(table, file, bag, row.identifier))
-        }
-        Item::Done => Ok(()),
-        Item::Refused(_) => Ok(()),
+    if let Ok(Item::Attribute(row)) = first {
+        bag_name(output, bag)?;
+        type_line(output, part_of(table, file, bag, row.identifier))?;
     }
+    Ok(())
 }
 
 fn bag_lines(
@@ -279,21 +254,18 @@ fn bag_lines(
     stored: IdentityRow,
 ) -> io::Result<()> {
     let given = three_calls(table, file, bag);
-    let first = given.first;
     bag_name(output, bag)?;
     calls_line(output, given)?;
-    first_type(output, table, file, bag, first)?;
+    first_type(output, table, file, bag, given.first)?;
     bag_name(output, bag)?;
     id_line(output, identities::identity_of(table, file, bag), stored)
 }
 
 // A bag after another, and the first row that isn't there.
 fn all_bags(output: &mut impl Write, table: Table, file: &[u8], filled: Filled) -> io::Result<()> {
-    let end = range::fewer(table.bag_count, pkcs12::BAG_ROWS);
-    let mut i: usize = 0;
-    while i <= end {
+    let end = table.bag_count.min(pkcs12::BAG_ROWS);
+    for i in 0..=end {
         bag_lines(output, table, file, i, row_at(filled, i))?;
-        i = i + 1;
     }
     Ok(())
 }
@@ -320,20 +292,11 @@ fn over_lines(output: &mut impl Write, table: Table, lent: &[u8]) -> io::Result<
     fill_line(output, filled)
 }
 
-fn all_but_last(file: &[u8]) -> &[u8] {
-    let n = file.len();
-    if n == 0 {
-        return file;
-    }
-    let end = n - 1;
-    &file[0..end]
-}
-
 // All lines of a file.
 pub(crate) fn show(output: &mut impl Write, table: Table, file: &[u8]) -> io::Result<()> {
     let filled = fill_rows(table, file, [UNUSED; pkcs12::BAG_ROWS]);
     all_bags(output, table, file, filled)?;
     fill_line(output, filled)?;
-    over_lines(output, table, &file[0..0])?;
-    over_lines(output, table, all_but_last(file))
+    over_lines(output, table, &[])?;
+    over_lines(output, table, &file[..file.len().saturating_sub(1)])
 }

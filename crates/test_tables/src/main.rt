@@ -6,12 +6,11 @@
 
 ghost use Rattle.std.specs.Prelude.{◌<◌};
 
-use buffer::Written;
 use buffer::read::{byte, u16_be, u32_be};
 use der::Fault;
 use pkcs12::{
-    ATTRIBUTE_ROWS, AttributeRow, BAG_ROWS, BagKind, BagRow, Enclosing, Mac, Parts, SAFE_ROWS,
-    SafeKind, SafeRow, Table,
+    ATTRIBUTE_ROWS, AttributeRow, BAG_ROWS, BagKind, BagRow, Mac, Parts, SAFE_ROWS, SafeKind,
+    SafeRow, Table,
 };
 use range::Range;
 use std::io;
@@ -70,13 +69,14 @@ fn bag_kind(b: u8) -> BagKind {
 }
 
 // A byte that is 0 where no bag encloses this one, and the bag's number.
-fn enclosing(s: &[u8], at: usize) -> Enclosing
+fn enclosing(s: &[u8], at: usize) -> Option<u16>
     requires { at < 60000 }
 {
     if byte(s, at) == 0 {
-        return Enclosing::None;
+        None
+    } else {
+        Some(u16_be(s, at + 1))
     }
-    Enclosing::Bag(u16_be(s, at + 1))
 }
 
 fn safe_row(s: &[u8], at: usize) -> SafeRow
@@ -139,13 +139,9 @@ impl Rows {
 
     // Whether a table has so many.
     fn fit(self) -> bool {
-        if SAFE_ROWS < self.safes as usize {
-            return false;
-        }
-        if BAG_ROWS < self.bags as usize {
-            return false;
-        }
-        self.attributes as usize <= ATTRIBUTE_ROWS
+        self.safes as usize <= SAFE_ROWS
+            && self.bags as usize <= BAG_ROWS
+            && self.attributes as usize <= ATTRIBUTE_ROWS
     }
 
     // Where the bag rows begin, and so on.
@@ -176,11 +172,8 @@ impl Rows {
 fn with_safes(mut table: Table, s: &[u8], start: usize, n: usize) -> Table
     requires { (start < 10000) × (n < 256) }
 {
-    let end = range::fewer(n, pkcs12::SAFE_ROWS);
-    let mut i = 0;
-    while i < end {
+    for i in 0..n.min(SAFE_ROWS) {
         table.safes[i] = safe_row(s, start + i * SAFE);
-        i = i + 1;
     }
     table
 }
@@ -188,11 +181,8 @@ fn with_safes(mut table: Table, s: &[u8], start: usize, n: usize) -> Table
 fn with_bags(mut table: Table, s: &[u8], start: usize, n: usize) -> Table
     requires { (start < 10000) × (n < 256) }
 {
-    let end = range::fewer(n, pkcs12::BAG_ROWS);
-    let mut i = 0;
-    while i < end {
+    for i in 0..n.min(BAG_ROWS) {
         table.bags[i] = bag_row(s, start + i * BAG);
-        i = i + 1;
     }
     table
 }
@@ -200,11 +190,8 @@ fn with_bags(mut table: Table, s: &[u8], start: usize, n: usize) -> Table
 fn with_attributes(mut table: Table, s: &[u8], start: usize, n: usize) -> Table
     requires { (start < 10000) × (n < 256) }
 {
-    let end = range::fewer(n, pkcs12::ATTRIBUTE_ROWS);
-    let mut i = 0;
-    while i < end {
+    for i in 0..n.min(ATTRIBUTE_ROWS) {
         table.attributes[i] = attribute_row(s, start + i * ATTRIBUTE);
-        i = i + 1;
     }
     table
 }
@@ -217,54 +204,43 @@ fn table_of(s: &[u8], rows: Rows) -> Table {
     table.safe_count = u16_be(s, 4) as usize;
     table.bag_count = u16_be(s, 6) as usize;
     table.attribute_count = u16_be(s, 8) as usize;
-    let fields = mac(s, rows.mac_at());
-    table.mac = fields;
+    table.mac = mac(s, rows.mac_at());
     table
 }
 
 // The byte at an offset of the buffer before the writer is called.
 fn pattern(i: usize) -> u8 {
-    let low = i % 256;
-    ((low * 7 + 3) % 256) as u8
+    ((i % 256 * 7 + 3) % 256) as u8
 }
 
 fn fill(out: &mut [u8]) {
-    let mut i = 0;
-    while i < out.len() {
-        out[i] = pattern(i);
-        i = i + 1;
+    for (i, b) in out.iter_mut().enumerate() {
+        *b = pattern(i);
     }
 }
 
 // Whether the buffer is as it was filled, from an offset on.
 fn unchanged(out: &[u8], from: usize) -> bool {
-    let mut i = from;
-    while i < out.len() {
-        if out[i] != pattern(i) {
-            return false;
-        }
-        i = i + 1;
-    }
-    true
+    out.iter()
+        .enumerate()
+        .skip(from)
+        .all(|(i, b)| *b == pattern(i))
 }
 
 // Says whether the buffer is as it was filled, and ends the line.
 fn show_rest(output: &mut impl Write, out: &[u8], from: usize) -> io::Result<()> {
     if unchanged(out, from) {
         write_text(output, b" as before\n")?;
-        Ok(())
     } else {
         write_text(output, b" changed\n")?;
-        Ok(())
     }
+    Ok(())
 }
 
 // The bytes in hex, on one line.
 fn show_bytes(output: &mut impl Write, s: &[u8]) -> io::Result<()> {
-    let mut i = 0;
-    while i < s.len() {
-        write_hex(output, s[i])?;
-        i = i + 1;
+    for b in s {
+        write_hex(output, *b)?;
     }
     write_text(output, b"\n")?;
     Ok(())
@@ -276,7 +252,7 @@ fn show_file(output: &mut impl Write, out: &[u8], n: usize) -> io::Result<()> {
     write_text(output, b", rest")?;
     show_rest(output, out, n)?;
     if n <= out.len() {
-        show_bytes(output, &out[0..n])?;
+        show_bytes(output, &out[..n])?;
     }
     Ok(())
 }
@@ -295,8 +271,8 @@ fn run(output: &mut impl Write, table: Table, bytes: &[u8], out: &mut [u8]) -> i
     fill(out);
     let written = writer::write(table, bytes, out);
     match written {
-        Written::Length(n) => show_file(output, out, n),
-        Written::Refused(fault) => show_refusal(output, out, fault),
+        Ok(n) => show_file(output, out, n),
+        Err(fault) => show_refusal(output, out, fault),
     }
 }
 
@@ -311,16 +287,10 @@ fn table_frame(output: &mut impl Write, s: &[u8], out: &mut [u8]) -> io::Result<
     let rows = Rows::of(s);
     let start = rows.bytes_at();
     let size = u32_be(s, 0) as usize;
-    if s.len() < start {
+    if s.len() < start || out.len() < size || !rows.fit() {
         return cut(output);
     }
-    if out.len() < size {
-        return cut(output);
-    }
-    if !rows.fit() {
-        return cut(output);
-    }
-    run(output, table_of(s, rows), &s[start..], &mut out[0..size])?;
+    run(output, table_of(s, rows), &s[start..], &mut out[..size])?;
     Ok(true)
 }
 
@@ -339,17 +309,17 @@ fn frame(
     }
 }
 
-// Nothing says that the input ends, so the frames are counted down, from a number that no input
-// has.
+// Nothing says that the input ends, so the frames are counted, up to a number that no input has.
 fn frames(
     output: &mut impl Write,
     input: &mut impl Read,
     buffer: &mut [u8],
     out: &mut [u8],
 ) -> io::Result<()> {
-    let mut left = u64::MAX;
-    while left > 0 && frame(output, input, buffer, out)? {
-        left = left - 1;
+    for _ in 0..u64::MAX {
+        if !frame(output, input, buffer, out)? {
+            break;
+        }
     }
     Ok(())
 }

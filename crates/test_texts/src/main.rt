@@ -6,7 +6,7 @@
 // read.
 #![tactic(auto)]
 
-use buffer::{Written, read};
+use buffer::read;
 use der::Fault;
 use std::io;
 use std::io::{Read, Write};
@@ -25,42 +25,24 @@ const MEMORY: usize = 4096;
 // What the buffer is full of.
 const UNTOUCHED: u8 = 0xA5;
 
-fn fill(buffer: &mut [u8]) {
-    let mut i = 0;
-    while i < buffer.len() {
-        buffer[i] = UNTOUCHED;
-        i = i + 1;
-    }
-}
-
 // Whether every byte from an offset on is as before the call.
 fn is_kept(buffer: &[u8], from: usize) -> bool {
-    let mut i = from;
-    while i < buffer.len() {
-        if buffer[i] != UNTOUCHED {
-            return false;
-        }
-        i = i + 1;
-    }
-    true
+    buffer.iter().skip(from).all(|b| *b == UNTOUCHED)
 }
 
 // The end of a line: whether every byte from an offset on is as before the call.
 fn show_kept(output: &mut impl Write, buffer: &[u8], from: usize) -> io::Result<()> {
     if is_kept(buffer, from) {
         write_text(output, b"kept\n")?;
-        Ok(())
     } else {
         write_text(output, b"changed\n")?;
-        Ok(())
     }
+    Ok(())
 }
 
 fn show_hex(output: &mut impl Write, bytes: &[u8]) -> io::Result<()> {
-    let mut i = 0;
-    while i < bytes.len() {
-        stdio::write_hex(output, bytes[i])?;
-        i = i + 1;
+    for b in bytes {
+        stdio::write_hex(output, *b)?;
     }
     Ok(())
 }
@@ -83,20 +65,20 @@ fn show_refused(output: &mut impl Write, buffer: &[u8], fault: Fault) -> io::Res
     show_kept(output, buffer, 0)
 }
 
-fn call(kind: u8, bytes: &[u8], buffer: &mut [u8]) -> Written {
+fn call(kind: u8, bytes: &[u8], buffer: &mut [u8]) -> Result<usize, Fault> {
     if kind == IMPORT {
-        return pem::import(bytes, buffer);
+        pem::import(bytes, buffer)
+    } else {
+        pem::export(bytes, buffer)
     }
-    pem::export(bytes, buffer)
 }
 
 // One call, and its line.
 fn run(output: &mut impl Write, kind: u8, bytes: &[u8], buffer: &mut [u8]) -> io::Result<()> {
-    fill(buffer);
-    let written = call(kind, bytes, buffer);
-    match written {
-        Written::Length(n) => show_given(output, buffer, n),
-        Written::Refused(fault) => show_refused(output, buffer, fault),
+    buffer.fill(UNTOUCHED);
+    match call(kind, bytes, buffer) {
+        Ok(n) => show_given(output, buffer, n),
+        Err(fault) => show_refused(output, buffer, fault),
     }
 }
 
@@ -119,7 +101,7 @@ fn call_frame(output: &mut impl Write, s: &[u8], memory: &mut [u8]) -> io::Resul
     if memory.len() < n {
         return cut(output);
     }
-    run(output, kind, &s[HEAD..], &mut memory[0..n])?;
+    run(output, kind, &s[HEAD..], &mut memory[..n])?;
     Ok(true)
 }
 
@@ -130,25 +112,24 @@ fn frame(
     buffer: &mut [u8],
     memory: &mut [u8],
 ) -> io::Result<bool> {
-    let frame = stdio::read_frame(input, buffer)?;
-    match frame {
+    match stdio::read_frame(input, buffer)? {
         Frame::End => Ok(false),
         Frame::Cut => cut(output),
         Frame::Bytes(n) => call_frame(output, &buffer[..n], memory),
     }
 }
 
-// Nothing says that the input ends, so the frames are counted down, from a number that no input
-// has.
+// Nothing says that the input ends, so the frames are counted, up to a number that no input has.
 fn frames(
     output: &mut impl Write,
     input: &mut impl Read,
     buffer: &mut [u8],
     memory: &mut [u8],
 ) -> io::Result<()> {
-    let mut left = u64::MAX;
-    while left > 0 && frame(output, input, buffer, memory)? {
-        left = left - 1;
+    for _ in 0..u64::MAX {
+        if !frame(output, input, buffer, memory)? {
+            break;
+        }
     }
     Ok(())
 }

@@ -8,49 +8,48 @@
 ghost use Rattle.std.specs.Prelude.{◌<◌, length};
 
 use buffer::read;
-use der::Fault;
 use std::io;
 use std::io::{Read, Write};
 use stdio::{Frame, write_decimal, write_text};
-use stream::{End, Status, Upload};
+use stream::{Counts, Refusal, Upload};
 
 // Where the first portion begins, and the bytes of a portion's length.
 const PORTIONS: usize = 4;
 
 const LENGTH: usize = 2;
 
-fn show_refused(output: &mut impl Write, fault: Fault, after: usize) -> io::Result<()> {
+fn show_refused(output: &mut impl Write, refusal: Refusal) -> io::Result<()> {
     write_text(output, b"refused ")?;
-    write_decimal(output, fault.number as usize)?;
+    write_decimal(output, refusal.fault.number as usize)?;
     write_text(output, b" at ")?;
-    write_decimal(output, fault.offset)?;
+    write_decimal(output, refusal.fault.offset)?;
     write_text(output, b" after ")?;
-    write_decimal(output, after)?;
+    write_decimal(output, refusal.after)?;
     Ok(())
 }
 
-fn show_passed(output: &mut impl Write, elements: usize, level: usize) -> io::Result<()> {
+fn show_passed(output: &mut impl Write, counts: Counts) -> io::Result<()> {
     write_text(output, b"passed ")?;
-    write_decimal(output, elements)?;
+    write_decimal(output, counts.elements)?;
     write_text(output, b" elements, level ")?;
-    write_decimal(output, level)?;
+    write_decimal(output, counts.level)?;
     Ok(())
 }
 
-fn show_status(output: &mut impl Write, status: Status) -> io::Result<()> {
+fn show_status(output: &mut impl Write, status: Result<(), Refusal>) -> io::Result<()> {
     match status {
-        Status::NoFault => {
+        Ok(()) => {
             write_text(output, b"none")?;
             Ok(())
         }
-        Status::Refused { fault, after } => show_refused(output, fault, after),
+        Err(refusal) => show_refused(output, refusal),
     }
 }
 
-fn show_end(output: &mut impl Write, end: End) -> io::Result<()> {
+fn show_end(output: &mut impl Write, end: Result<Counts, Refusal>) -> io::Result<()> {
     match end {
-        End::Passed { elements, level } => show_passed(output, elements, level),
-        End::Refused { fault, after } => show_refused(output, fault, after),
+        Ok(counts) => show_passed(output, counts),
+        Err(refusal) => show_refused(output, refusal),
     }
 }
 
@@ -122,12 +121,12 @@ fn frame(output: &mut impl Write, input: &mut impl Read, buffer: &mut [u8]) -> i
     }
 }
 
-// Nothing says that the input ends, so the frames are counted down, from a number that no input
-// has.
+// Nothing says that the input ends, so the frames are counted, up to a number that no input has.
 fn frames(output: &mut impl Write, input: &mut impl Read, buffer: &mut [u8]) -> io::Result<()> {
-    let mut left = u64::MAX;
-    while left > 0 && frame(output, input, buffer)? {
-        left = left - 1;
+    for _ in 0..u64::MAX {
+        if !frame(output, input, buffer)? {
+            break;
+        }
     }
     Ok(())
 }

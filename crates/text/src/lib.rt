@@ -21,8 +21,7 @@ pub fn number(out: &mut [u8], at: usize, name: &[u8], n: usize) -> usize
 pub fn refused(out: &mut [u8], at: usize, f: Fault) -> usize
     ensures { Placed out.old at (refused_line f) out.new result }
 {
-    let code = f.number as usize;
-    let first = number(out, at, b"refused ", code);
+    let first = number(out, at, b"refused ", f.number as usize);
     let second = number(out, first, b" at ", f.offset);
     write::bytes(out, second, b"\n")
 }

@@ -9,6 +9,7 @@ use native.Mathlib.Nat.{zero-add}
 use lib.ListN.{length, take, drop, take-append-drop}
 use lib.Seq.{take_all}
 use Rattle.std.specs.Prelude.{if◌then◌else◌}
+use Rattle.std.specs.Prelude.{Err, Ok, Result, ⊤}
 use Rattle.der.specs.Element.{fault}
 use Rattle.der.specs.Span.{Bytes}
 use Rattle.der.specs.declared.Fault.{Fault}
@@ -18,10 +19,9 @@ use Rattle.header.specs.Header.{arrived_at}
 use Rattle.header.specs.declared.Due.{Due}
 use Rattle.header.specs.declared.Due.TheVariants.{Tag, Length, One, First, Second, Body, Nothing}
 use Rattle.stream.specs.declared.Upload.{Upload}
-use Rattle.stream.specs.declared.Status.{Status}
-use Rattle.stream.specs.declared.Status.TheVariants.{NoFault}
-use Rattle.stream.specs.declared.End.{End}
-use Rattle.stream.specs.Upload.{taken, begun, status_at, status_of, is_whole, on_status, ended}
+use Rattle.stream.specs.declared.Counts.{Counts}
+use Rattle.stream.specs.declared.Refusal.{Refusal}
+use Rattle.stream.specs.Upload.{counts, refusal, taken, begun, status_at, status_of, is_whole, on_status, ended}
 use Rattle.stream.proofs.Taken.{taken_refused}
 use Rattle.uploads.specs.Whole.{Tally, Answer, Refused, Passed, whole}
 use Rattle.uploads.specs.Certain.{Certain}
@@ -52,17 +52,18 @@ still n i Nothing u g c = all_here g.all refl refl
 still n i (Due.Refused m p after) u g c = let z : ◌≡◌ {A = ℕ} 0 1 = cc in absurd (omega arith)
 
 -- the answer by the status, and by whether every byte is here
-abbrev end_by : Upload → Status → Bool → End
+abbrev end_by : Upload → Result ⊤ Refusal → Bool → Result Counts Refusal
 end_by u s t =
     on_status s
-    (if t then End.Passed u.elements u.level else End.Refused (fault early 0) (arrived_at u.due u.total))
-    End.Refused
+    (if t then Ok (counts u.elements u.level) else Err (refusal (fault early 0) (arrived_at u.due u.total)))
+    (λ f k. Err (refusal f k))
 
-end_by_lem : (u : Upload) (s : Status) (t : Bool) → status_of u ≡ s → is_whole u.due ≡ t → ended u ≡ end_by u s t
+end_by_lem : (u : Upload) (s : Result ⊤ Refusal) (t : Bool) → status_of u ≡ s → is_whole u.due ≡ t
+    → ended u ≡ end_by u s t
 unfolding ended
 end_by_lem u s t e w = ap (λ x. end_by u x (is_whole u.due)) e ∙ ap (end_by u s) w
 
-end_to : (n : ℕ) (b : List ℕ) (s t : End) → s ≡ t → EndIs n b t → EndIs n b s
+end_to : (n : ℕ) (b : List ℕ) (s t : Result Counts Refusal) → s ≡ t → EndIs n b t → EndIs n b s
 end_to n b s t e i = rw e i
 
 -- all announced bytes without a fault are a whole that passes
@@ -76,14 +77,14 @@ passed_whole n b tl h l q = of_after (whole b) (sym (whole_fed b h) ∙ (rw (sym
     of_after (Passed tl') e = let z : tl' ≡ tl = cc in rw z
 
 -- without a fault
-refused_none : {A : Type 0} (s : Status) (f : Fault) (k : ℕ) → s ≡ Status.Refused f k → s ≡ NoFault → A
+refused_none : {A : Type 0} (s : Result ⊤ Refusal) (f : Fault) (k : ℕ) → s ≡ Err (refusal f k) → s ≡ Ok tt → A
 refused_none s f k p q = let z : ◌≡◌ {A = ℕ} 0 1 = cc in absurd (omega arith)
 
 pub record Without (n : ℕ) (b : List ℕ) (u : Upload) : Type 0 where
   pub still : Still n (length b) u.due u
   pub state : state_of u ≡ feed n (start n) b
 
-without : (n : ℕ) (b : List ℕ) → status_of (taken (begun n) b) ≡ NoFault → Without n b (taken (begun n) b)
+without : (n : ℕ) (b : List ℕ) → status_of (taken (begun n) b) ≡ Ok tt → Without n b (taken (begun n) b)
 without n b e =
     begin_by n
     (λ f a.
@@ -106,16 +107,16 @@ without n b e =
           state = q;
         }
 
-end_without : (n : ℕ) (b : List ℕ) → Bytes b → (u : Upload) → status_of u ≡ NoFault → NoneCertain n b → Without n b u
+end_without : (n : ℕ) (b : List ℕ) → Bytes b → (u : Upload) → status_of u ≡ Ok tt → NoneCertain n b → Without n b u
     → EndIs n b (ended u)
 end_without n b h u e c w = by_still w.still
   where
     by_still : Still n (length b) u.due u → EndIs n b (ended u)
     by_still (all_here l t d) =
-        end_to n b _ _ (end_by_lem u NoFault true e t)
+        end_to n b _ _ (end_by_lem u (Ok tt) true e t)
         (ends_whole (tally_of u) l (passed_whole n b (tally_of u) h l (sym w.state ∙ d)))
     by_still (some_left l t a) =
-        end_to n b _ _ (end_by_lem u NoFault false e t ∙ ap (End.Refused (fault early 0)) a) (ends_short l c)
+        end_to n b _ _ (end_by_lem u (Ok tt) false e t ∙ ap (λ k. Err (refusal (fault early 0) k)) a) (ends_short l c)
 
 pub end_is : (n : ℕ) (b : List ℕ) → Bytes b → EndIs n b (ended (taken (begun n) b))
 end_is n b h = by_status (status_of u) refl (status_is n b h)
@@ -123,10 +124,10 @@ end_is n b h = by_status (status_of u) refl (status_is n b h)
     u : Upload
     u = taken (begun n) b
 
-    by_status : (s : Status) → status_of u ≡ s → StatusIs n b s → EndIs n b (ended u)
-    by_status s e (faulty f k w) = end_to n b _ _ (end_by_lem u (Status.Refused f k) _ e refl) (ends_faulty f k w)
+    by_status : (s : Result ⊤ Refusal) → status_of u ≡ s → StatusIs n b s → EndIs n b (ended u)
+    by_status s e (faulty f k w) = end_to n b _ _ (end_by_lem u (Err (refusal f k)) _ e refl) (ends_faulty f k w)
     by_status s e (beyond k c) =
-        let r = Status.Refused (fault surplus 0) (n + 1) in
+        let r = Err (refusal (fault surplus 0) (n + 1)) in
         end_to n b _ _ (end_by_lem u r _ e refl) (ends_beyond k c)
     by_status s e (fine k c) = end_without n b h u e c (without n b e)
 
@@ -139,7 +140,8 @@ certain_whole n b f k h l c =
     let z = take-append-drop k b in
     rw z at (c (drop k b) (bytes_drop b k h) (ap length z ∙ l))
 
-pub end_whole_is : (n : ℕ) (b : List ℕ) (r : End) → Bytes b → length b ≡ n → EndIs n b r → answer_of r ≡ whole b
+pub end_whole_is : (n : ℕ) (b : List ℕ) (r : Result Counts Refusal) → Bytes b → length b ≡ n → EndIs n b r
+    → answer_of r ≡ whole b
 unfolding answer_of
 end_whole_is n b r h l (ends_faulty f k w) = sym (certain_whole n b f k h l w.certain)
 end_whole_is n b r h l (ends_beyond k c) = absurd (omega arith)

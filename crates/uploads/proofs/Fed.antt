@@ -9,12 +9,13 @@ use lib.ListN.{length, get_or, drop, length-drop}
 use lib.Seq.{drop-cons, drop-drop}
 use borrow.Author.Tests.{lt-ltb, le-ltb, le-leb, lt-leb, ltb-true, leb-true, leb-false}
 use Rattle.der.specs.Numbers.{too_many, overrun, tag_form, length_form}
-use Rattle.der.specs.Element.{cursor, fault, element_at, on_element, on_extent, extent_at, one_octet, two_octets, within}
+use Rattle.der.specs.Element.{cursor, fault, element_at, on_element, on_result, extent_at, one_octet, two_octets, within}
 use Rattle.der.specs.Span.{Bytes}
 use Rattle.der.specs.declared.Fault.{Fault}
 use Rattle.der.specs.declared.Cursor.{Cursor}
+use Rattle.der.specs.Element.{element}
 use Rattle.der.specs.declared.Element.{Element}
-use Rattle.der.specs.declared.Element.TheVariants.{Found}
+use Rattle.std.specs.Prelude.{Err, Ok, Result}
 use Rattle.der.proofs.Placed.{byte_at, left_is}
 use Rattle.header.specs.Numbers.{upload_levels}
 use Rattle.header.specs.Header.{entering, on_tag, on_length, on_one, on_first, on_second}
@@ -92,15 +93,15 @@ one_more_lem s i j h e =
 -- one header, of an element at `at` within the parent that ends at `top n ends`
 module _ (n : ℕ) (s : List ℕ) (ends : List ℕ) (tl : Tally) (at : ℕ) (inside : top n ends ≤ length s) where
   -- what an element leads to: a fault, or the bytes of its body are fed
-  abbrev pub leads : Element → State
+  abbrev pub leads : Result Element Fault → State
   leads x = on_element x Failed (λ t b m. feed n (enter n ends tl at t b.at b.end) (drop b.at s))
 
-  abbrev found : ℕ → Cursor → Element
-  found t b = Found t b (cursor b.end (top n ends))
+  abbrev found : ℕ → Cursor → Result Element Fault
+  found t b = Ok (element t b (cursor b.end (top n ends)))
 
   within_fed : (x : Due) (t start size : ℕ)
       → feed n (apply n x ends tl (entering at t start size (top n ends))) (drop start s)
-      ≡ leads (on_extent (within at start size (top n ends)) Element.Refused (found t))
+      ≡ leads (on_result (within at start size (top n ends)) Err (found t))
   unfolding within entering
   within_fed x t start size =
       cases (ltb (top n ends) (start + size))
@@ -109,7 +110,7 @@ module _ (n : ℕ) (s : List ℕ) (ends : List ℕ) (tl : Tally) (at : ℕ) (ins
 
   one_fed : (t : ℕ) → at + 2 < top n ends
       → feed n (Open (One at t) ends tl) (drop (at + 2) s)
-      ≡ leads (on_extent (one_octet s at (top n ends)) Element.Refused (found t))
+      ≡ leads (on_result (one_octet s at (top n ends)) Err (found t))
   unfolding one_octet on_one
   one_fed t h =
       rw (
@@ -123,7 +124,7 @@ module _ (n : ℕ) (s : List ℕ) (ends : List ℕ) (tl : Tally) (at : ℕ) (ins
 
   -- a length of the two octets h and b
   abbrev leads_second : (t h b : ℕ) → State
-  leads_second t h b = leads (on_extent (within at (at + 4) (h * 256 + b) (top n ends)) Element.Refused (found t))
+  leads_second t h b = leads (on_result (within at (at + 4) (h * 256 + b) (top n ends)) Err (found t))
 
   second_fed : (t h : ℕ) → at + 3 < top n ends
       → feed n (Open (Second at t h) ends tl) (drop (at + 3) s)
@@ -149,7 +150,7 @@ module _ (n : ℕ) (s : List ℕ) (ends : List ℕ) (tl : Tally) (at : ℕ) (ins
 
   first_fed : (t : ℕ) → Bytes s → at + 3 < top n ends
       → feed n (Open (First at t) ends tl) (drop (at + 2) s)
-      ≡ leads (on_extent (two_octets s at (top n ends)) Element.Refused (found t))
+      ≡ leads (on_result (two_octets s at (top n ends)) Err (found t))
   unfolding two_octets on_first
   first_fed t bytes i =
       rw (
@@ -177,7 +178,7 @@ module _ (n : ℕ) (s : List ℕ) (ends : List ℕ) (tl : Tally) (at : ℕ) (ins
 
   length_fed : (t : ℕ) → Bytes s → at + 1 < top n ends
       → feed n (Open (Length at t) ends tl) (drop (at + 1) s)
-      ≡ leads (on_extent (extent_at s at (top n ends)) Element.Refused (found t))
+      ≡ leads (on_result (extent_at s at (top n ends)) Err (found t))
   unfolding extent_at one_octet two_octets on_length
   length_fed t bytes i =
       rw (

@@ -17,8 +17,9 @@ use Rattle.der.specs.Tree as trees
 use Rattle.der.specs.Follows.{OpaqueIs}
 use Rattle.der.specs.declared.Fault.{Fault}
 use Rattle.der.specs.declared.Cursor.{Cursor}
-use Rattle.der.specs.declared.Element.TheVariants.{Found}
+use Rattle.der.specs.Element.{checked, element}
 use Rattle.der.specs.declared.Checked.{Checked}
+use Rattle.std.specs.Prelude.{Err, Ok, Result}
 use Rattle.der.proofs.Choices.{either}
 use Rattle.der.proofs.Many.{many_end, going_on}
 use Rattle.der.proofs.Spans.{span_whole, span_split, span_same, span_to}
@@ -73,13 +74,13 @@ grown x = grow_is 0 x no_element ∙ same_tally _ _ _ _ (omega arith) (omega ari
 
 -- what a tree is written as is checked
 module _ (s : List ℕ) where
-  plain_is : (l v e : ℕ) (tl : Tally) (at t : ℕ) (b n : Cursor) → element_at s (cursor at e) ≡ Found t b n
+  plain_is : (l v e : ℕ) (tl : Tally) (at t : ℕ) (b n : Cursor) → element_at s (cursor at e) ≡ Ok (element t b n)
       → t / 32 % 2 ≡ 0
       → walk_at (suc l) v s e tl at ≡ Reached (tallied v tl) b.end
   unfolding walk_at
   plain_is l v e tl at t b n f k = rw (f, eq-eqb (t / 32 % 2) 0 k)
 
-  nested_is : (l v e : ℕ) (tl : Tally) (at t : ℕ) (b n : Cursor) → element_at s (cursor at e) ≡ Found t b n
+  nested_is : (l v e : ℕ) (tl : Tally) (at t : ℕ) (b n : Cursor) → element_at s (cursor at e) ≡ Ok (element t b n)
       → t / 32 % 2 ≡ 1
       → walk_at (suc l) v s e tl at
       ≡ many go_on Reached (walk_at l (suc v) s b.end) (b.end - b.at) b.end (tallied v tl) b.at
@@ -136,7 +137,7 @@ tree_passes x f d h =
 not_passed : {A : Type 0} (f : Fault) (tl : Tally) → Refused f ≡ Passed tl → A
 not_passed f tl e = let z : ◌≡◌ {A = ℕ} 0 1 = cc in absurd (omega arith)
 
-not_checked : {A : Type 0} (f : Fault) (m : ℕ) (n : Cursor) → Checked.Refused f ≡ Checked.Passed m n → A
+not_checked : {A : Type 0} (f : Fault) (m : ℕ) (n : Cursor) → Err f ≡ Ok (checked m n) → A
 not_checked f m n e = let z : ◌≡◌ {A = ℕ} 0 1 = cc in absurd (omega arith)
 
 -- what passes isn't too long
@@ -148,23 +149,23 @@ short_enough s tl e =
     (λ h. h)
 
 -- the opaque check that passed, and its cursor at its end
-finished : {P : Type 0} (s : List ℕ) (m : ℕ) (e : Cursor) → opaque_then_finish s ≡ Checked.Passed m e
-    → ((n : Cursor) → opaque_at upload_levels s (whole_of s) ≡ Checked.Passed m n → n.end ≤ n.at → P) → P
+finished : {P : Type 0} (s : List ℕ) (m : ℕ) (e : Cursor) → opaque_then_finish s ≡ Ok (checked m e)
+    → ((n : Cursor) → opaque_at upload_levels s (whole_of s) ≡ Ok (checked m n) → n.end ≤ n.at → P) → P
 unfolding opaque_then_finish finish_at
 finished {P} s m e q k = go (opaque_at upload_levels s (whole_of s)) refl q
   where
-    go : (y : Checked) → opaque_at upload_levels s (whole_of s) ≡ y
-        → on_checked y Checked.Refused (λ i n. on_checked (finish_at n) Checked.Refused (λ z a. Checked.Passed i a))
-        ≡ Checked.Passed m e
+    go : (y : Result Checked Fault) → opaque_at upload_levels s (whole_of s) ≡ y
+        → on_checked y Err (λ i n. on_checked (finish_at n) Err (λ z a. Ok (checked i a)))
+        ≡ Ok (checked m e)
         → P
-    go (Checked.Refused f) i r = not_checked f m e r
-    go (Checked.Passed j n) i r =
-        cases (ltb n.at n.end)
+    go (Err f) i r = not_checked f m e r
+    go (Ok x) i r =
+        cases (ltb x.next.at x.next.end)
         (λ l. not_checked _ m e (rw l at r))
         (λ l.
-        let w : Checked.Passed j n ≡ Checked.Passed m e = rw l at r in
-        let z : j ≡ m = cc in
-        k n (rw z at i) (ltb-false n.at n.end l))
+        let w : Ok (checked x.count x.next) ≡ Ok (checked m e) = rw l at r in
+        let z : x.count ≡ m = cc in
+        k x.next (rw z at i) (ltb-false x.next.at x.next.end l))
 
 -- a tree that fills the bytes
 filled : (s : List ℕ) (tl : Tally) (n : Cursor) → whole s ≡ Passed tl → n.end ≤ n.at

@@ -10,6 +10,7 @@ use lib.Dec.{ltb, eqb}
 use lib.ListN.{length, take, get_or}
 use lib.Seq.{take_all, length-take-le, take-suc}
 use borrow.Author.Tests.{ltb-false}
+use Rattle.std.specs.Prelude.{Err, Ok, Result, ⊤}
 use Rattle.der.specs.Element.{fault}
 use Rattle.der.specs.Numbers.{missing}
 use Rattle.der.specs.Span.{Bytes}
@@ -21,9 +22,8 @@ use Rattle.header.specs.Numbers.{surplus}
 use Rattle.header.specs.declared.Due.{Due}
 use Rattle.header.specs.declared.Due.TheVariants.{Tag, Length, One, First, Second, Body, Nothing}
 use Rattle.stream.specs.declared.Upload.{Upload}
-use Rattle.stream.specs.declared.Status.{Status}
-use Rattle.stream.specs.declared.Status.TheVariants.{NoFault}
-use Rattle.stream.specs.Upload.{taken, no_ends, first, begun, status_at, status_of}
+use Rattle.stream.specs.declared.Refusal.{Refusal}
+use Rattle.stream.specs.Upload.{refusal, taken, no_ends, first, begun, status_at, status_of}
 use Rattle.stream.proofs.Taken.{taken_refused}
 use Rattle.uploads.specs.Whole.{Tally, no_element}
 use Rattle.uploads.specs.Certain.{Certain}
@@ -103,10 +103,10 @@ full_next n b h c =
     ∙ (fed_append n (start n) (take n b) (get_or b n 0 ∷ [])
     ∙ done_next n (feed n (start n) (take n b)) (get_or b n 0) g c)
 
-status_to : (n : ℕ) (b : List ℕ) (s t : Status) → s ≡ t → StatusIs n b t → StatusIs n b s
+status_to : (n : ℕ) (b : List ℕ) (s t : Result ⊤ Refusal) → s ≡ t → StatusIs n b t → StatusIs n b s
 status_to n b s t e i = rw e i
 
-status_none : (x : Due) (u : Upload) → certainly (state_at x u) ≡ option.none → status_at x ≡ NoFault
+status_none : (x : Due) (u : Upload) → certainly (state_at x u) ≡ option.none → status_at x ≡ Ok tt
 unfolding certainly
 status_none (Tag at) u c = refl
 status_none (Length at t) u c = refl
@@ -178,20 +178,20 @@ status_is n b h =
     begin_by n
     (λ f a.
     let e = taken_refused (begun n) f.number f.offset 0 b a.begins in
-    status_to n b _ (Status.Refused f 0) (ap status_of e ∙ ap status_at a.begins) (faulty f 0 (at_once n b f h a)))
+    status_to n b _ (Err (refusal f 0)) (ap status_of e ∙ ap status_at a.begins) (faulty f 0 (at_once n b f h a)))
     (λ g. by_run (run n 0 0 (start n) (begun n) b g.long g.follows (start_given n) g.none refl))
   where
     by_run : Ran n 0 (start n) (begun n) b → StatusIs n b (status_of (taken (begun n) b))
     by_run (found j m o pos l d q all) =
-        let e : status_of (taken (begun n) b) ≡ Status.Refused (fault m o) j = ap status_at (rw (zero-add j) at d) in
-        status_to n b _ (Status.Refused (fault m o) j) e (of_found (found_is n b j m o h l q all))
+        let e : status_of (taken (begun n) b) ≡ Err (refusal (fault m o) j) = ap status_at (rw (zero-add j) at d) in
+        status_to n b _ (Err (refusal (fault m o) j)) e (of_found (found_is n b j m o h l q all))
       where
-        of_found : Found n b m o j → StatusIs n b (Status.Refused (fault m o) j)
+        of_found : Found n b m o j → StatusIs n b (Err (refusal (fault m o) j))
         of_found (inside f) = faulty (fault m o) j f
         of_found (past k c e z) = rw (e, z) (beyond k c)
     by_run (ran f g all) =
         let c : certainly (feed n (start n) (take (length b) b)) ≡ option.none = all (length b) (omega arith) in
         let w : certainly (state_of (taken (begun n) b)) ≡ option.none =
         ap certainly f.state ∙ (rw (take_all (length b) b (omega arith)) at c) in
-        status_to n b _ NoFault (status_none (taken (begun n) b).due (taken (begun n) b) w)
+        status_to n b _ (Ok tt) (status_none (taken (begun n) b).due (taken (begun n) b) w)
         (fine (short_enough n b all) (λ j v s t. none_certain n b j v h s t (all j t)))

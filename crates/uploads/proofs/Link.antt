@@ -13,8 +13,9 @@ use Rattle.der.specs.Many.{many}
 use Rattle.der.specs.Span.{Bytes}
 use Rattle.der.specs.declared.Fault.{Fault}
 use Rattle.der.specs.declared.Cursor.{Cursor}
+use Rattle.der.specs.Element.{element}
 use Rattle.der.specs.declared.Element.{Element}
-use Rattle.der.specs.declared.Element.TheVariants.{Found}
+use Rattle.std.specs.Prelude.{Err, Ok, Result}
 use Rattle.der.proofs.Placed.{left_none, OfElement, element_of_lem}
 use Rattle.der.proofs.Many.{many_holds}
 use Rattle.buffer.specs.Numbers.{file_bytes, too_long}
@@ -26,12 +27,13 @@ use Rattle.uploads.proofs.Machine.{State, Failed, Open, Done, top, close, body, 
 use Rattle.uploads.proofs.Fed.{cases, fed_failed, leads, tag_fed, body_fed}
 
 -- what holds of a fault and of what is found, or reached, holds of what is made of them
-by_found : {A : Type 0} (P : A → Type 0) (Q : Element → Type 0) (bad : Fault → A) (good : ℕ → Cursor → Cursor → A)
-    → ((f : Fault) → Q (Element.Refused f) → P (bad f))
-    → ((t : ℕ) (b n : Cursor) → Q (Found t b n) → P (good t b n))
-    → (x : Element) → Q x → P (on_element x bad good)
-by_found P Q bad good f g (Element.Refused e) q = f e q
-by_found P Q bad good f g (Found t b n) q = g t b n q
+by_found : {A : Type 0} (P : A → Type 0) (Q : Result Element Fault → Type 0) (bad : Fault → A)
+    (good : ℕ → Cursor → Cursor → A)
+    → ((f : Fault) → Q (Err f) → P (bad f))
+    → ((t : ℕ) (b n : Cursor) → Q (Ok (element t b n)) → P (good t b n))
+    → (x : Result Element Fault) → Q x → P (on_element x bad good)
+by_found P Q bad good f g (Err e) q = f e q
+by_found P Q bad good f g (Ok x) q = g x.tag x.body x.next q
 
 by_walked : {A : Type 0} (P : A → Type 0) (Q : Walked → Type 0) (bad : Fault → A) (good : Tally → ℕ → A)
     → ((f : Fault) → Q (Stopped f) → P (bad f)) → ((tl : Tally) (q : ℕ) → Q (Reached tl q) → P (good tl q))

@@ -14,9 +14,11 @@ use Rattle.der.specs.Many.{many}
 use Rattle.der.specs.Opaque.{on_checked, counted, at_end, run, opaque_at, elements_at}
 use Rattle.der.specs.Opaque as opaque
 use Rattle.der.specs.declared.Cursor.{Cursor}
-use Rattle.der.specs.declared.Element.{Element}
-use Rattle.der.specs.declared.Element.TheVariants.{Found}
+use Rattle.der.specs.Element.{checked}
 use Rattle.der.specs.declared.Checked.{Checked}
+use Rattle.der.specs.declared.Element.{Element}
+use Rattle.der.specs.declared.Fault.{Fault}
+use Rattle.std.specs.Prelude.{Err, Ok, Result}
 use Rattle.der.proofs.Placed.{OfElement, element_of_lem}
 use Rattle.der.proofs.Opaque.{went, ran}
 use Rattle.buffer.specs.Numbers.{file_bytes}
@@ -27,25 +29,26 @@ use Rattle.uploads.specs.Same.{opaque_then_finish, forgotten}
 use Rattle.uploads.proofs.Fed.{cases}
 
 -- what was counted on from c elements, within a parent that ends at e, is what `der` returns
-abbrev Alike : (c e : ℕ) → Walked → Checked → Type 0
-Alike c e (Stopped f) (Checked.Refused g) = f ≡ g
-Alike c e (Stopped f) (Checked.Passed m n) = ⊥
-Alike c e (Reached tl q) (Checked.Refused g) = ⊥
-Alike c e (Reached tl q) (Checked.Passed m n) = (tl.elements ≡ c + m) × (n ≡ cursor q e)
+abbrev Alike : (c e : ℕ) → Walked → Result Checked Fault → Type 0
+Alike c e (Stopped f) (Err g) = f ≡ g
+Alike c e (Stopped f) (Ok x) = ⊥
+Alike c e (Reached tl q) (Err g) = ⊥
+Alike c e (Reached tl q) (Ok x) = (tl.elements ≡ c + x.count) × (x.next ≡ cursor q e)
 
 -- one turn of the loop over siblings
-turn_alike : (c e : ℕ) (tl : Tally) (m : ℕ) (k : Tally → ℕ → Walked) (j : ℕ → ℕ → Checked) → tl.elements ≡ c + m
+turn_alike : (c e : ℕ) (tl : Tally) (m : ℕ) (k : Tally → ℕ → Walked) (j : ℕ → ℕ → Result Checked Fault)
+    → tl.elements ≡ c + m
     → ((up : Tally) (i q : ℕ) → up.elements ≡ c + i → Alike c e (k up q) (j i q))
-    → (x : Walked) (y : Checked) → Alike tl.elements e x y
-    → Alike c e (go_on x k) (opaque.go_on (on_checked y Checked.Refused (λ i n. Checked.Passed (m + i) n)) j)
-turn_alike c e tl m k j h go (Stopped f) (Checked.Refused g) a = a
-turn_alike c e tl m k j h go (Stopped f) (Checked.Passed i n) a = absurd a
-turn_alike c e tl m k j h go (Reached up q) (Checked.Refused g) a = absurd a
-turn_alike c e tl m k j h go (Reached up q) (Checked.Passed i n) a =
-    let z : n.at ≡ q = ap (λ x. x.at) a.1 in
-    rw z (go up (m + i) q (omega (arith, a.0)))
+    → (x : Walked) (y : Result Checked Fault) → Alike tl.elements e x y
+    → Alike c e (go_on x k) (opaque.go_on (on_checked y Err (λ i n. Ok (checked (m + i) n))) j)
+turn_alike c e tl m k j h go (Stopped f) (Err g) a = a
+turn_alike c e tl m k j h go (Stopped f) (Ok x) a = absurd a
+turn_alike c e tl m k j h go (Reached up q) (Err g) a = absurd a
+turn_alike c e tl m k j h go (Reached up q) (Ok y) a =
+    let z : y.next.at ≡ q = ap (λ x. x.at) a.1 in
+    rw z (go up (m + y.count) q (omega (arith, a.0)))
 
-run_alike : (check : Tally → ℕ → Walked) (each : Cursor → Checked) (c e : ℕ)
+run_alike : (check : Tally → ℕ → Walked) (each : Cursor → Result Checked Fault) (c e : ℕ)
     → ((tl : Tally) (at : ℕ) → Alike tl.elements e (check tl at) (each (cursor at e)))
     → (fuel : ℕ) (tl : Tally) (m at : ℕ) → tl.elements ≡ c + m
     → Alike c e (many go_on Reached check fuel e tl at) (many opaque.go_on (at_end e) (counted each e) fuel e m at)
@@ -58,14 +61,14 @@ run_alike check each c e like (suc fuel) tl m at h =
     (λ l. rw l (h, refl))
 
 -- the element around a run
-around : (c e : ℕ) (b n : Cursor) → n ≡ cursor b.end e → (x : Walked) (y : Checked)
-    → ((m : ℕ) (p : Cursor) → y ≡ Checked.Passed m p → p.at ≡ b.end)
-    → Alike (c + 1) b.end x y → Alike c e x (on_checked y Checked.Refused (λ m p. Checked.Passed (m + 1) n))
-around c e b n h (Stopped f) (Checked.Refused g) r a = a
-around c e b n h (Stopped f) (Checked.Passed m p) r a = a
-around c e b n h (Reached tl q) (Checked.Refused g) r a = a
-around c e b n h (Reached tl q) (Checked.Passed m p) r a =
-    let z : b.end ≡ q = sym (r m p refl) ∙ ap (λ x. x.at) a.1 in
+around : (c e : ℕ) (b n : Cursor) → n ≡ cursor b.end e → (x : Walked) (y : Result Checked Fault)
+    → ((m : ℕ) (p : Cursor) → y ≡ Ok (checked m p) → p.at ≡ b.end)
+    → Alike (c + 1) b.end x y → Alike c e x (on_checked y Err (λ m p. Ok (checked (m + 1) n)))
+around c e b n h (Stopped f) (Err g) r a = a
+around c e b n h (Stopped f) (Ok x) r a = a
+around c e b n h (Reached tl q) (Err g) r a = a
+around c e b n h (Reached tl q) (Ok y) r a =
+    let z : b.end ≡ q = sym (r y.count y.next refl) ∙ ap (λ x. x.at) a.1 in
     (omega (arith, a.0), h ∙ rw z)
 
 walk_alike : (l v : ℕ) (s : List ℕ) (e : ℕ) (tl : Tally) (at : ℕ)
@@ -73,35 +76,35 @@ walk_alike : (l v : ℕ) (s : List ℕ) (e : ℕ) (tl : Tally) (at : ℕ)
 unfolding walk_at opaque_at elements_at run tallied
 walk_alike zero v s e tl at = go (element_at s (cursor at e))
   where
-    go : (x : Element)
+    go : (x : Result Element Fault)
         → Alike tl.elements e (on_element x Stopped (λ t b n. Stopped (fault too_many at)))
-        (on_element x Checked.Refused (λ t b n. Checked.Refused (fault too_many at)))
-    go (Element.Refused f) = refl
-    go (Found t b n) = refl
+        (on_element x Err (λ t b n. Err (fault too_many at)))
+    go (Err f) = refl
+    go (Ok x) = refl
 walk_alike (suc l) v s e tl at =
     go (element_at s (cursor at e)) (element_of_lem s (cursor at e)) (λ f. walk_alike l (suc v) s f)
   where
     inner : Cursor → Walked
     inner b = many go_on Reached (walk_at l (suc v) s b.end) (b.end - b.at) b.end (tallied v tl) b.at
 
-    go : (x : Element) → OfElement s (cursor at e) x
+    go : (x : Result Element Fault) → OfElement s (cursor at e) x
         → ((f : ℕ) (up : Tally) (p : ℕ)
         → Alike up.elements f (walk_at l (suc v) s f up p) (opaque_at l s (cursor p f)))
         → Alike tl.elements e
         (on_element x Stopped (λ t b n. if eqb (t / 32 % 2) 0 then Reached (tallied v tl) b.end else inner b))
-        (on_element x Checked.Refused
+        (on_element x Err
         (λ t b n.
-        if eqb (t / 32 % 2) 0 then Checked.Passed 1 n else
-        on_checked (run (opaque_at l s) b) Checked.Refused (λ m p. Checked.Passed (m + 1) n)))
-    go (Element.Refused f) o i = refl
-    go (Found t b n) o i =
-        cases (eqb (t / 32 % 2) 0)
+        if eqb (t / 32 % 2) 0 then Ok (checked 1 n) else
+        on_checked (run (opaque_at l s) b) Err (λ m p. Ok (checked (m + 1) n))))
+    go (Err f) o i = refl
+    go (Ok x) o i =
+        cases (eqb (x.tag / 32 % 2) 0)
         (λ k. rw k (refl, o.next))
         (λ k. rw k
-        (around tl.elements e b n o.next (inner b) (run (opaque_at l s) b)
-        (λ m p q. (ran l s b (run (opaque_at l s) b) m p refl q).stop o.body.size)
-        (run_alike (walk_at l (suc v) s b.end) (opaque_at l s) (tl.elements + 1) b.end (i b.end)
-        (b.end - b.at) (tallied v tl) 0 b.at (omega arith))))
+        (around tl.elements e x.body x.next o.next (inner x.body) (run (opaque_at l s) x.body)
+        (λ m p q. (ran l s x.body (run (opaque_at l s) x.body) m p refl q).stop o.body.size)
+        (run_alike (walk_at l (suc v) s x.body.end) (opaque_at l s) (tl.elements + 1) x.body.end (i x.body.end)
+        (x.body.end - x.body.at) (tallied v tl) 0 x.body.at (omega arith))))
 
 -- The check of the whole returns what the opaque check of `der` returns.
 pub whole_opaque : (s : List ℕ) → length s ≤ file_bytes → forgotten (length s) (whole s) ≡ opaque_then_finish s
@@ -111,20 +114,20 @@ whole_opaque s h =
     (go (walk_at upload_levels 1 s (length s) no_element 0) (opaque_at upload_levels s (whole_of s)) refl
     (walk_alike upload_levels 1 s (length s) no_element 0))
   where
-    go : (x : Walked) (y : Checked) → opaque_at upload_levels s (whole_of s) ≡ y → Alike 0 (length s) x y
+    go : (x : Walked) (y : Result Checked Fault) → opaque_at upload_levels s (whole_of s) ≡ y → Alike 0 (length s) x y
         → forgotten (length s)
         (on_walked x Refused (λ tl p. if ltb p (length s) then Refused (fault left_over p) else Passed tl))
-        ≡ on_checked y Checked.Refused (λ m n. on_checked (finish_at n) Checked.Refused (λ z e. Checked.Passed m e))
-    go (Stopped f) (Checked.Refused g) e a = rw a
-    go (Stopped f) (Checked.Passed m n) e a = absurd a
-    go (Reached tl q) (Checked.Refused g) e a = absurd a
-    go (Reached tl q) (Checked.Passed m n) e a =
+        ≡ on_checked y Err (λ m n. on_checked (finish_at n) Err (λ z e. Ok (checked m e)))
+    go (Stopped f) (Err g) e a = rw a
+    go (Stopped f) (Ok x) e a = absurd a
+    go (Reached tl q) (Err g) e a = absurd a
+    go (Reached tl q) (Ok v) e a =
         rw a.1
         (cases (ltb q (length s))
         (λ k. rw k)
         (λ k.
-        let w = went upload_levels s (whole_of s) (opaque_at upload_levels s (whole_of s)) m n refl e in
-        let y : n.at ≡ q = ap (λ x. x.at) a.1 in
+        let w = went upload_levels s (whole_of s) (opaque_at upload_levels s (whole_of s)) v.count v.next refl e in
+        let y : v.next.at ≡ q = ap (λ x. x.at) a.1 in
         let z : q ≡ length s = omega (arith, w.within, ltb-false q (length s) k) in
-        let c : tl.elements ≡ m = omega (arith, a.0) in
+        let c : tl.elements ≡ v.count = omega (arith, a.0) in
         rw (k, z, c)))

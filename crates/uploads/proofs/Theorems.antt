@@ -9,6 +9,7 @@ use native.Mathlib.Omega.{arith}
 use lib.ListN.{length, take, drop, take-append-drop}
 use lib.Seq.{take_all}
 use borrow.Author.Tests.{lt-ltb}
+use Rattle.std.specs.Prelude.{Err, Ok, Result, ⊤}
 use Rattle.der.specs.Element.{fault}
 use Rattle.der.specs.Span.{Bytes}
 use Rattle.der.specs.Tree.{Tree, encode, depth, Formed}
@@ -19,10 +20,9 @@ use Rattle.header.specs.Numbers.{upload_levels}
 use Rattle.header.specs.declared.Due.{Due}
 use Rattle.header.specs.declared.Due.TheVariants.{Tag, Length, One, First, Second, Body, Nothing}
 use Rattle.stream.specs.declared.Upload.{Upload}
-use Rattle.stream.specs.declared.Status.{Status}
-use Rattle.stream.specs.declared.Status.TheVariants.{NoFault}
-use Rattle.stream.specs.declared.End.{End}
-use Rattle.stream.specs.Upload.{taken, first, begun, status_at, status_of, ended}
+use Rattle.stream.specs.declared.Counts.{Counts}
+use Rattle.stream.specs.declared.Refusal.{Refusal}
+use Rattle.stream.specs.Upload.{refusal, taken, first, begun, status_at, status_of, ended}
 use Rattle.der.proofs.Spans.{bytes_drop}
 use Rattle.stream.proofs.Taken.{taken_append, taken_refused}
 use Rattle.uploads.specs.Whole.{Tally, Passed, whole}
@@ -92,12 +92,12 @@ reported_at_once n p f h l = (λ e. to _ (judged.status_is n p h) e, λ c. from 
         let z = take-append-drop k p in
         rw z at (still_certain n (take k p) (drop k p) g (bytes_drop p k h) v.certain)
 
-    to : (s : Status) → StatusIs n p s → fault_of s ≡ some f → Certain n p f
+    to : (s : Result ⊤ Refusal) → StatusIs n p s → fault_of s ≡ some f → Certain n p f
     to s (faulty g k v) e = let z : g ≡ f = cc in rw z at (certain_all g k v)
     to s (beyond k c) e = absurd (omega arith)
     to s (fine k c) e = let z : ◌≡◌ {A = ℕ} 0 1 = cc in absurd (omega arith)
 
-    from : (s : Status) → StatusIs n p s → Certain n p f → fault_of s ≡ some f
+    from : (s : Result ⊤ Refusal) → StatusIs n p s → Certain n p f → fault_of s ≡ some f
     from s (faulty g k v) c = ap some (one_certain n p g f h l (certain_all g k v) c)
     from s (beyond k d) c = absurd (omega arith)
     from s (fine k d) c =
@@ -110,25 +110,25 @@ reported_at_once n p f h l = (λ e. to _ (judged.status_is n p h) e, λ c. from 
 pub status_is : (n : ℕ) (b : List ℕ) → Bytes b → StatusIs n b (status_of (taken (begun n) b))
 status_is = judged.status_is
 
-pub status_one : (n : ℕ) (b : List ℕ) (s t : Status) → Bytes b → StatusIs n b s → StatusIs n b t → s ≡ t
+pub status_one : (n : ℕ) (b : List ℕ) (s t : Result ⊤ Refusal) → Bytes b → StatusIs n b s → StatusIs n b t → s ≡ t
 status_one = unique.status_one
 
 -- The answer at the end is that of `EndIs`, and no other one is.
 pub end_is : (n : ℕ) (b : List ℕ) → Bytes b → EndIs n b (ended (taken (begun n) b))
 end_is = ends.end_is
 
-pub end_one : (n : ℕ) (b : List ℕ) (s t : End) → Bytes b → EndIs n b s → EndIs n b t → s ≡ t
+pub end_one : (n : ℕ) (b : List ℕ) (s t : Result Counts Refusal) → Bytes b → EndIs n b s → EndIs n b t → s ≡ t
 end_one = unique.end_one
 
 -- A fault, 19 too, is kept by every further portion, whatever the upload is.
-pub fault_kept : (u : Upload) (f : Fault) (after : ℕ) (q : List ℕ) → status_of u ≡ Status.Refused f after
+pub fault_kept : (u : Upload) (f : Fault) (after : ℕ) (q : List ℕ) → status_of u ≡ Err (refusal f after)
     → taken u q ≡ u
 fault_kept u f after q e = by_due u.due refl e
   where
-    other : {A : Type 0} → NoFault ≡ Status.Refused f after → A
+    other : {A : Type 0} → ◌≡◌ {A = Result ⊤ Refusal} (Ok tt) (Err (refusal f after)) → A
     other p = let z : ◌≡◌ {A = ℕ} 0 1 = cc in absurd (omega arith)
 
-    by_due : (x : Due) → u.due ≡ x → status_at x ≡ Status.Refused f after → taken u q ≡ u
+    by_due : (x : Due) → u.due ≡ x → status_at x ≡ Err (refusal f after) → taken u q ≡ u
     by_due (Tag at) d p = other p
     by_due (Length at t) d p = other p
     by_due (One at t) d p = other p
@@ -139,12 +139,12 @@ fault_kept u f after q e = by_due u.due refl e
     by_due (Due.Refused m o k) d p = taken_refused u m o k q d
 
 -- An announced length of 0 is 1 at 0, and one over 65,535 is 9 at 0, at once and whatever arrives.
-pub announced_nothing : (b : List ℕ) → status_of (taken (begun 0) b) ≡ Status.Refused (fault 1 0) 0
+pub announced_nothing : (b : List ℕ) → status_of (taken (begun 0) b) ≡ Err (refusal (fault 1 0) 0)
 unfolding begun first
 announced_nothing b = ap status_of (taken_refused (begun 0) 1 0 0 b refl)
 
 pub announced_too_long : (n : ℕ) (b : List ℕ) → 65_535 < n
-    → status_of (taken (begun n) b) ≡ Status.Refused (fault 9 0) 0
+    → status_of (taken (begun n) b) ≡ Err (refusal (fault 9 0) 0)
 unfolding begun first
 announced_too_long n b h =
     let d : (begun n).due ≡ Due.Refused 9 0 0 = rw (lt-ltb 65_535 n h) in

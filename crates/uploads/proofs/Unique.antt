@@ -6,12 +6,14 @@ use Prim.Native.Nat.{ℕ, ◌≤◌}
 use native.Mathlib.Omega.{arith}
 use lib.ListN.{length, take}
 use lib.Seq.{length-take-le}
+use Rattle.std.specs.Prelude.{Err, Result, ⊤}
 use Rattle.der.specs.Span.{Bytes}
 use Rattle.der.specs.declared.Fault.{Fault}
 use Rattle.der.proofs.Choices.{either}
 use Rattle.der.proofs.Spans.{bytes_take}
-use Rattle.stream.specs.declared.Status.{Status}
-use Rattle.stream.specs.declared.End.{End}
+use Rattle.stream.specs.Upload.{refusal}
+use Rattle.stream.specs.declared.Counts.{Counts}
+use Rattle.stream.specs.declared.Refusal.{Refusal}
 use Rattle.uploads.specs.Whole.{Tally, Refused, Passed, whole}
 use Rattle.uploads.specs.Certain.{Certain}
 use Rattle.uploads.specs.Judged.{FirstFault, NoneCertain, StatusIs, faulty, beyond, fine}
@@ -47,7 +49,7 @@ first_none : {A : Type 0} (n : ℕ) (b : List ℕ) (f : Fault) (k : ℕ) → Fir
 unfolding NoneCertain
 first_none n b f k v c = absurd (c k f v.within v.here v.certain)
 
-pub status_one : (n : ℕ) (b : List ℕ) (s t : Status) → Bytes b → StatusIs n b s → StatusIs n b t → s ≡ t
+pub status_one : (n : ℕ) (b : List ℕ) (s t : Result ⊤ Refusal) → Bytes b → StatusIs n b s → StatusIs n b t → s ≡ t
 status_one n b s t h (faulty f k v) (faulty g j w) =
     let e = same_first n b f g k j h v w in
     rw (e.fault, e.bytes)
@@ -65,11 +67,11 @@ passed_first : {A : Type 0} (n : ℕ) (b : List ℕ) (f : Fault) (k : ℕ) (tl :
     → FirstFault n b f k → whole b ≡ Passed tl → A
 unfolding answer_of
 passed_first n b f k tl h l v p =
-    let e : Refused f ≡ whole b = end_whole_is n b (End.Refused f k) h l (ends_faulty f k v) in
+    let e : Refused f ≡ whole b = end_whole_is n b (Err (refusal f k)) h l (ends_faulty f k v) in
     let z : ◌≡◌ {A = ℕ} 0 1 = cc in
     absurd (omega arith)
 
-pub end_one : (n : ℕ) (b : List ℕ) (s t : End) → Bytes b → EndIs n b s → EndIs n b t → s ≡ t
+pub end_one : (n : ℕ) (b : List ℕ) (s t : Result Counts Refusal) → Bytes b → EndIs n b s → EndIs n b t → s ≡ t
 end_one n b s t h (ends_faulty f k v) (ends_faulty g j w) =
     let e = same_first n b f g k j h v w in
     rw (e.fault, e.bytes)

@@ -2,22 +2,23 @@
 -- early and with a byte too many; and faults that are certain before the byte at which the check of
 -- the whole would meet them.
 use Rattle.std.specs.Prelude.{◌≡◌, List, [], ◌∷◌, ◌++◌, map, ℕ, zero, suc, ◌+◌, take}
+use Rattle.std.specs.Prelude.{Err, Ok, Result}
 use Rattle.der.specs.Element.{fault}
-use Rattle.stream.specs.declared.End.{End}
-use Rattle.stream.specs.declared.End.TheVariants.{Passed}
-use Rattle.stream.specs.Upload.{begun, taken, ended}
+use Rattle.stream.specs.declared.Counts.{Counts}
+use Rattle.stream.specs.declared.Refusal.{Refusal}
+use Rattle.stream.specs.Upload.{counts, refusal, begun, taken, ended}
 
 -- the announced length, the bytes that arrive, the answer at the end
 pub record Case : Type 0 where
   pub announced : ℕ
   pub bytes : List ℕ
-  pub answer : End
+  pub answer : Result Counts Refusal
 
 abbrev pub passes : (n : ℕ) → List ℕ → (elements level : ℕ) → Case
-passes n b m v = record { announced = n; bytes = b; answer = Passed m v }
+passes n b m v = record { announced = n; bytes = b; answer = Ok (counts m v) }
 
 abbrev pub refuses : (n : ℕ) → List ℕ → (number offset after : ℕ) → Case
-refuses n b m p k = record { announced = n; bytes = b; answer = End.Refused (fault m p) k }
+refuses n b m p k = record { announced = n; bytes = b; answer = Err (refusal (fault m p) k) }
 
 abbrev pub Holds : List Case → Type 0
 Holds cases =

@@ -3,14 +3,14 @@
 use Rattle.std.specs.Prelude.{◌≡◌, List, [], ◌∷◌, ◌++◌, ℕ, ◌+◌, ◌≤◌, ◌<◌, length, take}
 use Rattle.std.proofs.Math.Option.{Option, some}
 use Rattle.std.proofs.Math.Option as option
+use Rattle.std.specs.Prelude.{Err, Ok, Result, ⊤}
 use Rattle.der.specs.Element.{fault}
 use Rattle.der.specs.declared.Fault.{Fault}
 use Rattle.header.specs.Numbers.{surplus, early}
 use Rattle.stream.specs.declared.Upload.{Upload}
-use Rattle.stream.specs.declared.Status.{Status}
-use Rattle.stream.specs.declared.Status.TheVariants.{NoFault}
-use Rattle.stream.specs.declared.End.{End}
-use Rattle.stream.specs.Upload.{begun, taken}
+use Rattle.stream.specs.declared.Counts.{Counts}
+use Rattle.stream.specs.declared.Refusal.{Refusal}
+use Rattle.stream.specs.Upload.{counts, refusal, begun, taken}
 use Rattle.uploads.specs.Whole.{Tally, Answer, Refused, Passed, whole}
 use Rattle.uploads.specs.Certain.{Certain}
 
@@ -44,26 +44,26 @@ NoneCertain n b = (j : ℕ) (g : Fault) → j ≤ n → j ≤ length b → Certa
 
 -- the status: the fault of the shortest beginning that has one; else 19 at 0 if b is longer than
 -- announced, certain with the first byte too many; else none
-pub data StatusIs (n : ℕ) (b : List ℕ) : Status → Type 0 where
-  faulty : (f : Fault) (k : ℕ) → FirstFault n b f k → StatusIs n b (Status.Refused f k)
-  beyond : n < length b → NoneCertain n b → StatusIs n b (Status.Refused (fault surplus 0) (n + 1))
-  fine : length b ≤ n → NoneCertain n b → StatusIs n b NoFault
+pub data StatusIs (n : ℕ) (b : List ℕ) : Result ⊤ Refusal → Type 0 where
+  faulty : (f : Fault) (k : ℕ) → FirstFault n b f k → StatusIs n b (Err (refusal f k))
+  beyond : n < length b → NoneCertain n b → StatusIs n b (Err (refusal (fault surplus 0) (n + 1)))
+  fine : length b ≤ n → NoneCertain n b → StatusIs n b (Ok tt)
 
 -- the answer at the end: the same fault, or 19; else 20 at 0 if b is shorter than announced; else
 -- that of the whole check
-pub data EndIs (n : ℕ) (b : List ℕ) : End → Type 0 where
-  ends_faulty : (f : Fault) (k : ℕ) → FirstFault n b f k → EndIs n b (End.Refused f k)
-  ends_beyond : n < length b → NoneCertain n b → EndIs n b (End.Refused (fault surplus 0) (n + 1))
-  ends_short : length b < n → NoneCertain n b → EndIs n b (End.Refused (fault early 0) (length b))
-  ends_whole : (tl : Tally) → length b ≡ n → whole b ≡ Passed tl → EndIs n b (End.Passed tl.elements tl.level)
+pub data EndIs (n : ℕ) (b : List ℕ) : Result Counts Refusal → Type 0 where
+  ends_faulty : (f : Fault) (k : ℕ) → FirstFault n b f k → EndIs n b (Err (refusal f k))
+  ends_beyond : n < length b → NoneCertain n b → EndIs n b (Err (refusal (fault surplus 0) (n + 1)))
+  ends_short : length b < n → NoneCertain n b → EndIs n b (Err (refusal (fault early 0) (length b)))
+  ends_whole : (tl : Tally) → length b ≡ n → whole b ≡ Passed tl → EndIs n b (Ok (counts tl.elements tl.level))
 
 -- the fault that a status reports, if any
-unfoldable pub fault_of : Status → Option Fault
-fault_of NoFault = option.none
-fault_of (Status.Refused f after) = some f
+unfoldable pub fault_of : Result ⊤ Refusal → Option Fault
+fault_of (Ok x) = option.none
+fault_of (Err x) = some x.fault
 
 -- an answer at the end as one of the whole check: without the number of bytes after which a fault
 -- was certain
-unfoldable pub answer_of : End → Answer
-answer_of (End.Refused f after) = Refused f
-answer_of (End.Passed m v) = Passed (record { elements = m; level = v })
+unfoldable pub answer_of : Result Counts Refusal → Answer
+answer_of (Err x) = Refused x.fault
+answer_of (Ok x) = Passed (record { elements = x.elements; level = x.level })

@@ -4,22 +4,25 @@ use Rattle.der.specs.Element.{cursor, whole_of, finish_at}
 use Rattle.der.specs.Opaque.{on_checked, opaque_at}
 use Rattle.der.specs.Tree.{Tree, encode, depth, Formed}
 use Rattle.der.specs.Tree as trees
+use Rattle.der.specs.Element.{checked}
 use Rattle.der.specs.declared.Checked.{Checked}
+use Rattle.der.specs.declared.Fault.{Fault}
+use Rattle.std.specs.Prelude.{Err, Ok, Result}
 use Rattle.header.specs.Numbers.{upload_levels}
 use Rattle.uploads.specs.Whole.{Tally, Answer, Refused, Passed}
 
 -- one opaque element of 20 levels at most from offset 0 on, then no byte left; the number of
 -- elements
-unfoldable pub opaque_then_finish : List ℕ → Checked
+unfoldable pub opaque_then_finish : List ℕ → Result Checked Fault
 opaque_then_finish s =
     on_checked (opaque_at upload_levels s (whole_of s))
-    Checked.Refused
-    (λ m n. on_checked (finish_at n) Checked.Refused (λ z e. Checked.Passed m e))
+    Err
+    (λ m n. on_checked (finish_at n) Err (λ z e. Ok (checked m e)))
 
 -- the answer for e bytes without its greatest level
-unfoldable pub forgotten : ℕ → Answer → Checked
-forgotten e (Refused f) = Checked.Refused f
-forgotten e (Passed tl) = Checked.Passed tl.elements (cursor e e)
+unfoldable pub forgotten : ℕ → Answer → Result Checked Fault
+forgotten e (Refused f) = Err f
+forgotten e (Passed tl) = Ok (checked tl.elements (cursor e e))
 
 -- s is what a tree of 20 levels at most is written as, and the tally is the tree's
 pub record PassedTree (s : List ℕ) (tl : Tally) : Type 0 where

@@ -1,10 +1,11 @@
 -- Words stored one behind another, and zeros.
-use mathlib.Core.Path.{◌≡◌, refl, sym, ap, ◌∙◌}
-use mathlib.Core.List.{List, [], ◌∷◌, ◌++◌}
-use Prim.Native.Nat.{ℕ, ◌+◌, ◌-◌, ◌≤◌, ◌<◌}
+use mathlib.Core.Path.{◌≡◌, sym, ap, ◌∙◌}
+use mathlib.Core.List.{List, [], ◌∷◌, ◌++◌, append_assoc}
+use Prim.Native.Nat.{ℕ, ◌+◌, ◌-◌, ◌≤◌}
 use native.Mathlib.Omega.{arith}
-use lib.ListN.{length, set, replicate, length-replicate, length-set, replicate-append-replicate}
-use lib.Seq.{length-sets}
+use lib.ListN.{length, take, drop, replicate, length-take, length-drop, length-replicate}
+use lib.Seq.{drop-drop, length-sets, sets-eq}
+use borrow.Rule.Slice.PartMut.{put_mid}
 use Rattle.buffer.proofs.Placing.{sets_then}
 use Rattle.words.specs.Steps.{StoredAt}
 
@@ -25,35 +26,22 @@ word_last q f = rw q at f
 pub stored_length : {d : List ℕ} {at : ℕ} {x e : List ℕ} → StoredAt d at x e → length e ≡ length d
 stored_length {d} {at} {x} f = ap length f.words ∙ length-sets d at x
 
--- ---- zeros
-
--- the words from one offset up to another are 0 as far as i
-pub record Clearing (d : List ℕ) (from to : ℕ) (e : List ℕ) (i : ℕ) : Type 0 where
-  pub least : from ≤ i
-  pub most : i ≤ to
-  pub stored : StoredAt d from (replicate (i - from) 0) e
-  pub long : length e ≡ length d
-
-module _ (d : List ℕ) (from to : ℕ) where
-  pub clear_start : from ≤ to → Clearing d from to d from
-  clear_start h =
-      let z : from - from ≡ 0 = omega arith in
-      record { least = omega arith; most = h; stored = record { words = rw z refl }; long = refl }
-
-  module _ (e : List ℕ) (i : ℕ) (g : Clearing d from to e i) where
-    pub clear_on : i < to → Clearing d from to (set e i 0) (i + 1)
-    clear_on h =
-        let z : (i + 1) - from ≡ (i - from) + 1 = omega (arith, g.least) in
-        let l : i ≡ from + length (replicate {A = ℕ} (i - from) 0) =
-        rw (length-replicate {A = ℕ} (i - from) 0) (omega (arith, g.least)) in
-        record {
-          least = omega (arith, g.least);
-          most = omega (arith, h);
-          stored =
-              rw (z, ← (replicate-append-replicate {A = ℕ} (i - from) 1 0))
-              (stored_then g.stored (record { words = refl }) l);
-          long = length-set e i 0 ∙ g.long;
-        }
-
-    pub clear_end : to ≤ i → StoredAt d from (replicate (to - from) 0) e
-    clear_end h = let z : i ≡ to = omega (arith, h, g.most) in rw z at g.stored
+-- zeros z in place of the words from one offset up to another
+pub zeros_stored : (m z : List ℕ) (from to : ℕ) → from ≤ to → to ≤ length m
+    → z ≡ replicate (length (take (to - from) (drop from m))) 0
+    → StoredAt m from (replicate (to - from) 0) (put_mid from (to - from) m z)
+zeros_stored m z from to h k e =
+    let n : length (take (to - from) (drop from m)) ≡ to - from =
+    omega (arith, length-take (to - from) (drop from m), length-drop from m, h, k) in
+    let zeros : List ℕ = replicate (to - from) 0 in
+    let l : length zeros ≡ to - from = length-replicate {A = ℕ} (to - from) 0 in
+    let same : z ≡ zeros = rw n at e in
+    let rest : drop (to - from) (drop from m) ≡ drop (from + length zeros) m =
+    drop-drop (to - from) from m ∙ ap (λ (j : ℕ). drop (from + j) m) (sym l) in
+    record {
+      words =
+          ap (put_mid from (to - from) m) same
+          ∙ ap (λ (y : List ℕ). take from m ++ (zeros ++ y)) rest
+          ∙ sym (append_assoc (take from m) zeros (drop (from + length zeros) m))
+          ∙ sym (sets-eq zeros m from (omega (arith, l, h, k)));
+    }

@@ -16,8 +16,8 @@ use Rattle.pkcs12.specs.declared.row.SafeRow.{SafeRow}
 use Rattle.pkcs12.specs.declared.row.BagRow.{BagRow}
 use Rattle.pkcs12.specs.declared.row.AttributeRow.{AttributeRow}
 use Rattle.pkcs12.specs.declared.table.Table.{Table}
-use Rattle.buffer.specs.declared.Written.{Written}
-use Rattle.buffer.specs.declared.Written.TheVariants.{Length}
+use Rattle.der.specs.declared.Fault.{Fault}
+use Rattle.std.specs.Prelude.{Ok, Result}
 use Rattle.words.specs.Layout.{safe_width, bag_width, attribute_width, table_words}
 use Rattle.words.specs.Stored.{head_words, safe_words, bag_words, attribute_words, safes_words, bags_words}
 use Rattle.words.specs.Stored.{attributes_words, words_of, stored, stored_row}
@@ -66,8 +66,8 @@ module _ (x : List ℕ) (n : ℕ) (l : length x ≡ n) (memory : List ℕ) where
       enough : o ≡ success x memory
       enough = is ∙ rw (le-ltb (length memory) n h)
 
-      stored_answer : (k : ℕ) → k ≡ n → Length k ≡ o.answer
-      stored_answer k e = ap {B = Written} Length (e ∙ sym l) ∙ sym (ap (λ (y : Outcome). y.answer) enough)
+      stored_answer : (k : ℕ) → k ≡ n → Ok k ≡ o.answer
+      stored_answer k e = ap {B = (Result ℕ Fault)} Ok (e ∙ sym l) ∙ sym (ap (λ (y : Outcome). y.answer) enough)
 
       stored_memory : (e : List ℕ) → StoredAt memory 0 x e → e ≡ o.buffer
       stored_memory e s =
@@ -87,7 +87,7 @@ module _ (t : Table) (memory : List ℕ) where
   pub stored_whole : table_words ≤ length memory → stored t memory ≡ success (words_of t) memory
   stored_whole = enough (words_of t) table_words (words_length t) memory (stored t memory) is_table
 
-  pub table_answer : table_words ≤ length memory → (k : ℕ) → k ≡ table_words → Length k ≡ (stored t memory).answer
+  pub table_answer : table_words ≤ length memory → (k : ℕ) → k ≡ table_words → Ok k ≡ (stored t memory).answer
   table_answer = stored_answer (words_of t) table_words (words_length t) memory (stored t memory) is_table
 
   pub table_memory : table_words ≤ length memory → (e : List ℕ) → StoredAt memory 0 (words_of t) e
@@ -103,7 +103,7 @@ module _ (x : AttributeRow) (memory : List ℕ) where
   pub few_for_row : length memory < attribute_width → stored_row x memory ≡ refusal short_buffer memory
   few_for_row = too_few (attribute_words x) attribute_width refl memory (stored_row x memory) is_row
 
-  pub row_answer : attribute_width ≤ length memory → (k : ℕ) → k ≡ attribute_width → Length k ≡ (stored_row x memory).answer
+  pub row_answer : attribute_width ≤ length memory → (k : ℕ) → k ≡ attribute_width → Ok k ≡ (stored_row x memory).answer
   row_answer = stored_answer (attribute_words x) attribute_width refl memory (stored_row x memory) is_row
 
   pub row_memory : attribute_width ≤ length memory → (e : List ℕ) → StoredAt memory 0 (attribute_words x) e

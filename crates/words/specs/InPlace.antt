@@ -20,15 +20,18 @@ in_table m x = if ltb (length m) table_words then m else x
 
 -- ---- one row, by its number
 
+-- the words x of row n of a kind, of which there are so many, from an offset on
+abbrev pub row_stored : ℕ → ℕ → ℕ → List ℕ → ℕ → List ℕ → List ℕ
+row_stored rows from width m n x = in_table m (if leb rows n then m else sets m (from + n * width) x)
+
 unfoldable pub safe_stored : List ℕ → ℕ → SafeRow → List ℕ
-safe_stored m n r = in_table m (if leb safe_rows n then m else sets m (safes_at + n * safe_width) (safe_words r))
+safe_stored m n r = row_stored safe_rows safes_at safe_width m n (safe_words r)
 
 unfoldable pub bag_stored : List ℕ → ℕ → BagRow → List ℕ
-bag_stored m n r = in_table m (if leb bag_rows n then m else sets m (bags_at + n * bag_width) (bag_words r))
+bag_stored m n r = row_stored bag_rows bags_at bag_width m n (bag_words r)
 
 unfoldable pub attribute_stored : List ℕ → ℕ → AttributeRow → List ℕ
-attribute_stored m n r =
-    in_table m (if leb attribute_rows n then m else sets m (attributes_at + n * attribute_width) (attribute_words r))
+attribute_stored m n r = row_stored attribute_rows attributes_at attribute_width m n (attribute_words r)
 
 -- ---- what is before the rows
 

@@ -1,5 +1,6 @@
 -- How many words each part of a table takes, and its offset.
-use Rattle.std.specs.Prelude.{ℕ, ◌+◌, ◌*◌}
+use Rattle.std.specs.Prelude.{ℕ, ◌+◌, ◌*◌, ◌≤◌}
+use Rattle.std.proofs.Common.{arith}
 use Rattle.pkcs12.specs.Numbers.{safe_rows, bag_rows, attribute_rows}
 
 -- start, end
@@ -58,6 +59,16 @@ attributes_at = bags_at + bag_rows * bag_width
 -- all of them: 1,408
 abbrev pub table_words : ℕ
 table_words = attributes_at + attribute_rows * attribute_width
+
+-- the rows of each kind are within a table
+pub safes_within : safes_at + safe_rows * safe_width ≤ table_words
+safes_within = omega arith
+
+pub bags_within : bags_at + bag_rows * bag_width ≤ table_words
+bags_within = omega arith
+
+pub attributes_within : attributes_at + attribute_rows * attribute_width ≤ table_words
+attributes_within = omega arith
 
 -- the greatest word, and how many words there are
 abbrev pub greatest_word : ℕ

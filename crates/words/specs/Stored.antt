@@ -8,8 +8,7 @@ use Rattle.buffer.specs.Placed.{each}
 use Rattle.buffer.specs.Written.{Outcome, refusal, success}
 use Rattle.pkcs12.specs.declared.kind.SafeKind.{SafeKind}
 use Rattle.pkcs12.specs.declared.kind.SafeKind.TheVariants.{Plain, Encrypted}
-use Rattle.pkcs12.specs.declared.row.Enclosing.{Enclosing}
-use Rattle.pkcs12.specs.declared.row.Enclosing.TheVariants.{Bag}
+use Rattle.std.specs.Prelude.{None, Option, Some}
 use Rattle.pkcs12.specs.declared.row.SafeRow.{SafeRow}
 use Rattle.pkcs12.specs.declared.row.BagRow.{BagRow}
 use Rattle.pkcs12.specs.declared.row.AttributeRow.{AttributeRow}
@@ -30,9 +29,9 @@ safe_number Plain = 1
 safe_number Encrypted = 2
 
 -- one more than the row of the enclosing bag; a row whose number doesn't fit is none of a table
-abbrev pub enclosing_number : Enclosing → ℕ
-enclosing_number Enclosing.None = 0
-enclosing_number (Bag n) = min (n + 1) greatest_word
+abbrev pub enclosing_number : Option ℕ → ℕ
+enclosing_number None = 0
+enclosing_number (Some n) = min (n + 1) greatest_word
 
 abbrev pub set_number : Bool → ℕ
 set_number false = 0

@@ -6,7 +6,6 @@ ghost use Rattle.std.specs.Prelude.{◌≡◌, ◌≤◌, length};
 ghost use Rattle.der.specs.Element.{fault};
 ghost use Rattle.buffer.specs.Numbers.{short_buffer};
 ghost use Rattle.buffer.specs.Report.{written_report};
-ghost use Rattle.buffer.specs.declared.Written.{Written};
 ghost use Rattle.words.specs.Layout.{table_words};
 ghost use Rattle.words.specs.Stored.{words_of, stored, stored_row};
 ghost use Rattle.words.specs.Steps.{StoredAt};
@@ -15,10 +14,13 @@ mod field;
 mod fill;
 mod number;
 pub mod put;
+mod row;
+mod stored;
 
-use buffer::Written;
 use der::Fault;
 use pkcs12::{AttributeRow, Table};
+pub use row::Row;
+use stored::Stored;
 
 // How many words each part of a table takes.
 pub const RANGE_WIDTH: usize = 2;
@@ -62,7 +64,7 @@ pub const GREATEST_WORD: usize = 65535;
 pub const HALF_SIZE: u32 = 65536;
 
 // How many rows of each kind there are, and how many elements.
-#[derive(Clone, Copy)]
+#[derive(Clone, Copy, Debug, PartialEq, Eq)]
 pub struct Counts {
     pub safes: usize,
     pub bags: usize,
@@ -70,10 +72,10 @@ pub struct Counts {
     pub elements: usize,
 }
 
-fn too_few() -> Written
-    ensures { result ≡ Written.Refused (fault short_buffer 0) }
+fn too_few() -> Result<usize, Fault>
+    ensures { result ≡ Err (fault short_buffer 0) }
 {
-    Written::Refused(Fault {
+    Err(Fault {
         number: buffer::SHORT_BUFFER,
         offset: 0,
     })
@@ -91,18 +93,15 @@ fn all(memory: &mut [u16], table: Table)
         elements: table.elements,
     };
     put::input(memory, table.mac_input);
-    let safe_rows = table.safes;
-    fill::safes(memory, safe_rows, table.safe_count);
-    let bag_rows = table.bags;
-    fill::bags(memory, bag_rows, table.bag_count);
-    let attribute_rows = table.attributes;
-    fill::attributes(memory, attribute_rows, table.attribute_count);
+    fill::rows(memory, table.safes, table.safe_count);
+    fill::rows(memory, table.bags, table.bag_count);
+    fill::rows(memory, table.attributes, table.attribute_count);
     put::finish(memory, counts, table.mac);
 }
 
 // Stores a table as words at the front of the memory, and returns their number; 10 if the memory
 // has fewer.
-pub fn store(table: Table, out: &mut [u16]) -> Written
+pub fn store(table: Table, out: &mut [u16]) -> Result<usize, Fault>
     ensures value { result ≡ (stored table out.old).answer }
     ensures report { written_report result ≡ written_report (stored table out.old).answer }
     ensures out_after { out.new ≡ (stored table out.old).buffer }
@@ -111,11 +110,11 @@ pub fn store(table: Table, out: &mut [u16]) -> Written
         return too_few();
     }
     all(out, table);
-    Written::Length(TABLE_WORDS)
+    Ok(TABLE_WORDS)
 }
 
 // Stores one attribute row as words, as it is in a table; 10 if the memory has fewer.
-pub fn store_row(row: AttributeRow, out: &mut [u16]) -> Written
+pub fn store_row(row: AttributeRow, out: &mut [u16]) -> Result<usize, Fault>
     ensures value { result ≡ (stored_row row out.old).answer }
     ensures report { written_report result ≡ written_report (stored_row row out.old).answer }
     ensures out_after { out.new ≡ (stored_row row out.old).buffer }
@@ -123,6 +122,6 @@ pub fn store_row(row: AttributeRow, out: &mut [u16]) -> Written
     if out.len() < ATTRIBUTE_WIDTH {
         return too_few();
     }
-    field::attribute(out, 0, row);
-    Written::Length(ATTRIBUTE_WIDTH)
+    row.put(out, 0);
+    Ok(ATTRIBUTE_WIDTH)
 }

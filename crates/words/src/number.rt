@@ -1,58 +1,40 @@
-// The words for counts, kinds and enclosing bags.
+// The words for counts, kinds, enclosing bags and sets.
 ghost use Rattle.std.specs.Prelude.{◌≡◌};
 ghost use Rattle.words.specs.Stored.{count_word, safe_number, bag_number, enclosing_number, set_number};
 
-use pkcs12::{BagKind, Enclosing, SafeKind};
+use pkcs12::{BagKind, SafeKind};
 
 // A count as a word.
 pub(crate) fn count(n: usize) -> u16
     ensures { result ≡ count_word n }
 {
-    let fits = range::fewer(n, crate::GREATEST_WORD);
-    fits as u16
+    n.min(crate::GREATEST_WORD) as u16
 }
 
+// The number of a kind is its place among the kinds, from 0 on.
 pub(crate) fn safe(kind: SafeKind) -> u16
     ensures { result ≡ safe_number kind }
 {
-    match kind {
-        SafeKind::None => 0,
-        SafeKind::Plain => 1,
-        SafeKind::Encrypted => 2,
-    }
+    kind as u16
 }
 
 pub(crate) fn bag(kind: BagKind) -> u16
     ensures { result ≡ bag_number kind }
 {
-    match kind {
-        BagKind::None => 0,
-        BagKind::Key => 1,
-        BagKind::ShroudedKey => 2,
-        BagKind::Certificate => 3,
-        BagKind::Crl => 4,
-        BagKind::Secret => 5,
-        BagKind::Nested => 6,
-    }
+    kind as u16
 }
 
-pub(crate) fn enclosing(enclosing: Enclosing) -> u16
+pub(crate) fn enclosing(enclosing: Option<u16>) -> u16
     ensures { result ≡ enclosing_number enclosing }
 {
     match enclosing {
-        Enclosing::None => 0,
-        Enclosing::Bag(n) => {
-            let wide = n as usize;
-            count(wide + 1)
-        }
+        None => 0,
+        Some(n) => n.saturating_add(1),
     }
 }
 
 pub(crate) fn set(has_set: bool) -> u16
     ensures { result ≡ set_number has_set }
 {
-    if has_set {
-        return 1;
-    }
-    0
+    has_set as u16
 }

@@ -4,68 +4,45 @@
 ghost use Rattle.std.specs.Prelude.{◌≡◌, ◌≤◌, length};
 ghost use Rattle.words.specs.Layout.{elements_at, mac_fields_at, table_words};
 ghost use Rattle.words.specs.Stored.{count_words, mac_words};
-ghost use Rattle.words.specs.InPlace.{safe_stored, bag_stored, attribute_stored, input_stored, finished, cleared};
+ghost use Rattle.words.specs.InPlace.{row_stored, safe_stored, bag_stored, attribute_stored, input_stored};
+ghost use Rattle.words.specs.InPlace.{finished, cleared};
 ghost use Rattle.words.specs.Steps.{StoredAt};
 
+use crate::stored::Stored;
 use crate::{Counts, field, number};
 use pkcs12::{AttributeRow, BagRow, Mac, SafeRow};
 use range::Range;
+
+// Row n of a kind.
+pub(crate) fn row<R: Stored>(memory: &mut [u16], n: usize, row: R)
+    ensures { memory.new ≡ row_stored R.ROWS R.AT R.WIDTH memory.old n (R.words row) }
+{
+    if memory.len() < crate::TABLE_WORDS {
+        return;
+    }
+    if R::ROWS <= n {
+        return;
+    }
+    row.put(memory, R::AT + n * R::WIDTH);
+}
 
 // Row n of each kind.
 pub fn safe(memory: &mut [u16], n: usize, row: SafeRow)
     ensures { memory.new ≡ safe_stored memory.old n row }
 {
-    if memory.len() < crate::TABLE_WORDS {
-        return;
-    }
-    if pkcs12::SAFE_ROWS <= n {
-        return;
-    }
-    let at = crate::SAFES_AT + n * crate::SAFE_WIDTH;
-    let second = at + 1;
-    let kind = row.kind;
-    let number = number::safe(kind);
-    field::word(memory, at, number);
-    field::parts(memory, second, row.parts);
+    self::row(memory, n, row);
 }
 
 pub fn bag(memory: &mut [u16], n: usize, row: BagRow)
     ensures { memory.new ≡ bag_stored memory.old n row }
 {
-    if memory.len() < crate::TABLE_WORDS {
-        return;
-    }
-    if pkcs12::BAG_ROWS <= n {
-        return;
-    }
-    let at = crate::BAGS_AT + n * crate::BAG_WIDTH;
-    let second = at + 1;
-    let third = second + 1;
-    let fourth = third + 1;
-    let last = fourth + crate::PARTS_WIDTH;
-    let kind = row.kind;
-    let enclosing = row.enclosing;
-    let number = number::bag(kind);
-    let around = number::enclosing(enclosing);
-    let set = number::set(row.has_set);
-    field::word(memory, at, number);
-    field::word(memory, second, row.safe);
-    field::word(memory, third, around);
-    field::parts(memory, fourth, row.parts);
-    field::word(memory, last, set);
+    self::row(memory, n, row);
 }
 
 pub fn attribute(memory: &mut [u16], n: usize, row: AttributeRow)
     ensures { memory.new ≡ attribute_stored memory.old n row }
 {
-    if memory.len() < crate::TABLE_WORDS {
-        return;
-    }
-    if pkcs12::ATTRIBUTE_ROWS <= n {
-        return;
-    }
-    let at = crate::ATTRIBUTES_AT + n * crate::ATTRIBUTE_WIDTH;
-    field::attribute(memory, at, row);
+    self::row(memory, n, row);
 }
 
 // The range of the MAC input.
@@ -83,14 +60,14 @@ fn count_words(memory: &mut [u16], counts: Counts)
     ensures { StoredAt memory.old elements_at
         (count_words counts.elements counts.safes counts.bags counts.attributes) memory.new }
 {
-    let elements = number::count(counts.elements);
-    let safes = number::count(counts.safes);
-    let bags = number::count(counts.bags);
-    let attributes = number::count(counts.attributes);
-    field::word(memory, crate::ELEMENTS_AT, elements);
-    field::word(memory, crate::SAFE_COUNT_AT, safes);
-    field::word(memory, crate::BAG_COUNT_AT, bags);
-    field::word(memory, crate::ATTRIBUTE_COUNT_AT, attributes);
+    field::word(memory, crate::ELEMENTS_AT, number::count(counts.elements));
+    field::word(memory, crate::SAFE_COUNT_AT, number::count(counts.safes));
+    field::word(memory, crate::BAG_COUNT_AT, number::count(counts.bags));
+    field::word(
+        memory,
+        crate::ATTRIBUTE_COUNT_AT,
+        number::count(counts.attributes),
+    );
 }
 
 fn mac(memory: &mut [u16], mac: Mac)
@@ -99,13 +76,10 @@ fn mac(memory: &mut [u16], mac: Mac)
 {
     let salt = crate::MAC_FIELDS_AT + crate::PARTS_WIDTH;
     let low = salt + crate::RANGE_WIDTH;
-    let high = low + 1;
-    let low_half = (mac.iterations % crate::HALF_SIZE) as u16;
-    let high_half = (mac.iterations / crate::HALF_SIZE) as u16;
     field::parts(memory, crate::MAC_FIELDS_AT, mac.parts);
     field::range(memory, salt, mac.salt);
-    field::word(memory, low, low_half);
-    field::word(memory, high, high_half);
+    field::word(memory, low, (mac.iterations % crate::HALF_SIZE) as u16);
+    field::word(memory, low + 1, (mac.iterations / crate::HALF_SIZE) as u16);
 }
 
 // The rows are stored: stores the counts and the MAC, and 0 in place of the rows that aren't
@@ -116,9 +90,9 @@ pub fn finish(memory: &mut [u16], counts: Counts, mac: Mac)
     if memory.len() < crate::TABLE_WORDS {
         return;
     }
-    let safes = range::fewer(counts.safes, pkcs12::SAFE_ROWS);
-    let bags = range::fewer(counts.bags, pkcs12::BAG_ROWS);
-    let attributes = range::fewer(counts.attributes, pkcs12::ATTRIBUTE_ROWS);
+    let safes = counts.safes.min(pkcs12::SAFE_ROWS);
+    let bags = counts.bags.min(pkcs12::BAG_ROWS);
+    let attributes = counts.attributes.min(pkcs12::ATTRIBUTE_ROWS);
     count_words(memory, counts);
     self::mac(memory, mac);
     field::zeros(

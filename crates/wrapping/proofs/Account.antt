@@ -8,11 +8,10 @@ use lib.Dec.{ltb, leb-suc-suc}
 use lib.ListN.{length, take, drop, take-append-drop, drop_of_length-le}
 use lib.Seq.{drop-cons, take-take}
 use borrow.Author.Tests.{lt-ltb}
-use Rattle.std.specs.Prelude.{if◌then◌else◌}
+use Rattle.std.specs.Prelude.{if◌then◌else◌, Err, Ok, Result}
 use Rattle.der.proofs.Choices.{by_lt, by_eq, either}
-use Rattle.pem.specs.Judged.{agreeing, closed_by, bytes_of}
-use Rattle.pem.specs.declared.Judged.{Judged}
-use Rattle.pem.specs.declared.Judged.TheVariants.{Wraps, Breaks}
+use Rattle.pem.specs.Judged.{agreeing, closed_by, bytes_of, break_at}
+use Rattle.pem.specs.declared.Break.{Break}
 
 -- L m t: t is a word of the language L, and m is its number
 abbrev pub Language : Type 1
@@ -34,9 +33,9 @@ pub record Broken (L : Language) (t : List ℕ) (at p : ℕ) : Type 0 where
   pub bad : k < length t → BeginsIn L (take (suc k) t) → ⊥
   pub cut : k ≡ length t → (m : ℕ) → L m t → ⊥
 
-pub data Account (L : Language) (t : List ℕ) (at : ℕ) : Judged → Type 0 where
-  wraps : (m : ℕ) → L m t → Account L t at (Wraps m)
-  breaks : (p : ℕ) → Broken L t at p → Account L t at (Breaks p)
+pub data Account (L : Language) (t : List ℕ) (at : ℕ) : Result ℕ Break → Type 0 where
+  wraps : (m : ℕ) → L m t → Account L t at (Ok m)
+  breaks : (p : ℕ) → Broken L t at p → Account L t at (Err (break_at p))
 
 -- what a beginning becomes in another language
 begins_as : (L M : Language) (u v : List ℕ) → ((m : ℕ) (w : List ℕ) → L m (u ++ w) → M m (v ++ w)) → BeginsIn L u
@@ -50,7 +49,8 @@ behind b L m u = L m (b ∷ u)
 -- ---- one byte
 
 -- an account of what follows a byte is one of the whole
-pub account_more : (L : Language) (b : ℕ) (t : List ℕ) (at : ℕ) {j : Judged} → Account (behind b L) t (suc at) j
+pub account_more : (L : Language) (b : ℕ) (t : List ℕ) (at : ℕ) {j : Result ℕ Break}
+    → Account (behind b L) t (suc at) j
     → Account L (b ∷ t) at j
 account_more L b t at (wraps m x) = wraps m x
 account_more L b t at (breaks p x) =
@@ -65,7 +65,7 @@ account_more L b t at (breaks p x) =
 
 -- a byte with which no word begins, and a word that is missing
 pub account_wrong : (L : Language) (b : ℕ) (t : List ℕ) (at : ℕ) → BeginsIn L []
-    → ((m : ℕ) (u : List ℕ) → L m (b ∷ u) → ⊥) → Account L (b ∷ t) at (Breaks at)
+    → ((m : ℕ) (u : List ℕ) → L m (b ∷ u) → ⊥) → Account L (b ∷ t) at (Err (break_at at))
 account_wrong L b t at g n =
     breaks at record {
       k = 0;
@@ -76,7 +76,8 @@ account_wrong L b t at g n =
       cut = λ h. absurd (omega arith);
     }
 
-pub account_cut : (L : Language) (at : ℕ) → BeginsIn L [] → ((m : ℕ) → L m [] → ⊥) → Account L [] at (Breaks at)
+pub account_cut : (L : Language) (at : ℕ) → BeginsIn L [] → ((m : ℕ) → L m [] → ⊥)
+    → Account L [] at (Err (break_at at))
 account_cut L at g n =
     breaks at record {
       k = 0;
@@ -92,7 +93,7 @@ account_cut L at g n =
 -- E is a property of the first byte. Where the lists that have it are words of one language if and
 -- only if they are words of the other, an account by the other one is an account by this one.
 module _ (L M : Language) (E : List ℕ → Type 0) (head-only : (b : ℕ) (u v : List ℕ) → E (b ∷ u) → E (b ∷ v)) where
-  pub account_front : (t : List ℕ) (at : ℕ) {j : Judged} → E t → BeginsIn L []
+  pub account_front : (t : List ℕ) (at : ℕ) {j : Result ℕ Break} → E t → BeginsIn L []
       → ((m : ℕ) (u : List ℕ) → E u → L m u → M m u) → ((m : ℕ) (u : List ℕ) → E u → M m u → L m u)
       → Account M t at j → Account L t at j
   account_front t at e g to from (wraps m x) = wraps m (from m t e x)
@@ -131,7 +132,7 @@ module _ (L M : Language) (E : List ℕ → Type 0) (head-only : (b : ℕ) (u v 
           }
 
 -- the same words altogether
-pub account_same : (L M : Language) (t : List ℕ) (at : ℕ) {j : Judged}
+pub account_same : (L M : Language) (t : List ℕ) (at : ℕ) {j : Result ℕ Break}
     → ((m : ℕ) (u : List ℕ) → L m u → M m u) → ((m : ℕ) (u : List ℕ) → M m u → L m u)
     → Account M t at j → Account L t at j
 account_same L M t at to from (wraps m x) = wraps m (from m t x)
@@ -172,16 +173,16 @@ broken_none L t at p m x w =
     (λ h. x.cut (omega (arith, x.inside)) m w)
 
 -- so of a judgement that has an account, breaking at p is being broken there
-pub account_broken : (L : Language) (t : List ℕ) (at p : ℕ) → Account L t at (Breaks p) → Broken L t at p
+pub account_broken : (L : Language) (t : List ℕ) (at p : ℕ) → Account L t at (Err (break_at p)) → Broken L t at p
 account_broken L t at p (breaks q x) = x
 
-pub account_wraps : (L : Language) (t : List ℕ) (at m : ℕ) → Account L t at (Wraps m) → L m t
+pub account_wraps : (L : Language) (t : List ℕ) (at m : ℕ) → Account L t at (Ok m) → L m t
 account_wraps L t at m (wraps n x) = x
 
-pub broken_breaks : (L : Language) (t : List ℕ) (at p : ℕ) {j : Judged} → Account L t at j → Broken L t at p
-    → j ≡ Breaks p
+pub broken_breaks : (L : Language) (t : List ℕ) (at p : ℕ) {j : Result ℕ Break} → Account L t at j → Broken L t at p
+    → j ≡ Err (break_at p)
 broken_breaks L t at p (wraps m x) b = absurd (broken_none L t at p m b x)
-broken_breaks L t at p (breaks q x) b = ap Breaks (broken_one L t at q p x b)
+broken_breaks L t at p (breaks q x) b = ap (λ (n : ℕ). Err (break_at n)) (broken_one L t at q p x b)
 
 -- ---- words
 
@@ -211,9 +212,9 @@ after_others c w L m b u a =
     record { next = a.next; is = cc; word = a.word }
 
 -- as far as t is w; then an account of what follows
-pub account_after : (w : List ℕ) (L : Language) (t : List ℕ) (at : ℕ) (j : Judged) → BeginsIn L []
+pub account_after : (w : List ℕ) (L : Language) (t : List ℕ) (at : ℕ) (j : Result ℕ Break) → BeginsIn L []
     → (length w ≤ agreeing w t → Account L (drop (length w) t) (at + length w) j)
-    → Account (After w L) t at (if ltb (agreeing w t) (length w) then Breaks (at + agreeing w t) else j)
+    → Account (After w L) t at (if ltb (agreeing w t) (length w) then Err (break_at (at + agreeing w t)) else j)
 unfolding agreeing
 account_after [] L t at j g x =
     let z : at + 0 ≡ at = omega arith in
@@ -226,7 +227,7 @@ account_after (c ∷ w) L [] at j g x =
     (account_cut (After (c ∷ w) L) at (begins_after (c ∷ w) L g) (after_missing c w L))
 account_after (c ∷ w) L (b ∷ t) at j g x =
     by_eq (λ n. (suc (length w) ≤ n → Account L (drop (length w) t) (at + suc (length w)) j)
-    → Account (After (c ∷ w) L) (b ∷ t) at (if ltb n (suc (length w)) then Breaks (at + n) else j))
+    → Account (After (c ∷ w) L) (b ∷ t) at (if ltb n (suc (length w)) then Err (break_at (at + n)) else j))
     (suc (agreeing w t)) 0 b c
     (λ e y.
     let z : at + suc (agreeing w t) ≡ suc at + agreeing w t = omega arith in
@@ -252,9 +253,9 @@ only_begins n = record { rest = []; number = n; word = (refl, refl) }
 
 -- nothing may follow
 account_last : (n k at : ℕ) (t : List ℕ)
-    → Account (Only n []) (drop k t) at (if ltb k (length t) then Breaks at else Wraps n)
+    → Account (Only n []) (drop k t) at (if ltb k (length t) then Err (break_at at) else Ok n)
 account_last n k at t =
-    by_lt (λ j. Account (Only n []) (drop k t) at j) (Breaks at) (Wraps n) k (length t)
+    by_lt (λ j. Account (Only n []) (drop k t) at j) (Err (break_at at)) (Ok n) k (length t)
     (λ h.
     rw (drop-cons t k 0 h)
     (account_wrong (Only n []) _ _ at (only_begins n) (λ m u a. omega (arith, ap length a.0))))

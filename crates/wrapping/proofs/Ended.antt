@@ -13,9 +13,9 @@ use Rattle.base64_chars.proofs.Alphabet.{pad_none}
 use Rattle.base64_chars.specs.Coded.{Coded}
 use Rattle.base64_chars.proofs.Encoded.{letter_count}
 use Rattle.pem.specs.Wrap.{newline, end, fill}
-use Rattle.pem.specs.Judged.{ending, bytes_of, closed_by, ended}
-use Rattle.pem.specs.declared.Judged.{Judged}
-use Rattle.pem.specs.declared.Judged.TheVariants.{Breaks}
+use Rattle.pem.specs.Judged.{ending, bytes_of, closed_by, ended, break_at}
+use Rattle.pem.specs.declared.Break.{Break}
+use Rattle.std.specs.Prelude.{Err, Result}
 use Rattle.wrapping.proofs.Account.{Account, Only, account_wrong, account_cut, account_front, account_closed}
 use Rattle.wrapping.proofs.Rest.{due, Rest, due_more, due_none, due_first, some_more, rest_begins}
 
@@ -99,13 +99,13 @@ two_due k h = rw (due_more k pad (pad ∷ []) (omega arith)) (ap (λ t. pad ∷ 
 
 -- nothing may follow
 never_ends : (n k v at : ℕ) (t : List ℕ) → Stops k t → ((m : ℕ) (u : List ℕ) → Stops k u → Rest n k v m u → ⊥)
-    → Account (Rest n k v) t at (Breaks at)
+    → Account (Rest n k v) t at (Err (break_at at))
 never_ends n k v at [] s f = account_cut (Rest n k v) at (rest_begins n k v) (λ m. f m [] s)
 never_ends n k v at (b ∷ t) s f = account_wrong (Rest n k v) b t at (rest_begins n k v) (λ m u. f m (b ∷ u) s)
 
 module _ (n k v at : ℕ) (t : List ℕ) (s : Stops k t) where
   ends_never : k < 64 → (k % 4 ≡ 0 → n ≡ 0) → (k % 4 ≡ 2 → v % 16 ≡ 0 → ⊥) → (k % 4 ≡ 3 → v % 4 ≡ 0 → ⊥)
-      → Account (Rest n k v) t at (Breaks at)
+      → Account (Rest n k v) t at (Err (break_at at))
   ends_never h f g i = never_ends n k v at t s (λ m u x r. go r.chars (rest_closes n k v m u h x r) r.some)
     where
       go : (cs : List ℕ) → Closes (k % 4) v cs → (n ≡ 0 → cs ≡ [] → ⊥) → ⊥
@@ -136,29 +136,29 @@ module _ (n k v at : ℕ) (t : List ℕ) (s : Stops k t) where
   pub account_ended : k ≤ 64 → k ≤ n → Account (Rest n k v) t at (ended n k v at t)
   unfolding ended ending
   account_ended h i =
-      by_eq P (Breaks at) _ k 64 (λ e. never_ends n k v at t s (λ m u x r. rest_full n k v m u e x r)) (λ e.
+      by_eq P (Err (break_at at)) _ k 64 (λ e. never_ends n k v at t s (λ m u x r. rest_full n k v m u e x r)) (λ e.
       by_eq P _ _ k 0
       (λ z.
-      by_eq P (Breaks at) _ n 0
+      by_eq P (Err (break_at at)) _ n 0
       (λ y. ends_never (omega arith) (λ q. y) (omega arith) (omega arith))
       (λ y. ends_with [] _ (omega arith) (none (omega arith) refl) (λ q. absurd (y q)) (start_due k z)))
       (λ z.
-      by_eq P (Breaks at) _ (k % 4) 1
+      by_eq P (Err (break_at at)) _ (k % 4) 1
       (λ y. ends_never (omega arith) (omega arith) (omega arith) (omega arith)) (λ x.
       by_eq P _ _ (k % 4) 2
       (λ q.
-      by_eq P _ (Breaks at) (v % 16) 0
+      by_eq P _ (Err (break_at at)) (v % 16) 0
       (λ u. ends_with (pad ∷ pad ∷ []) _ (omega arith) (two q u refl) (λ y. some_more _ _) (two_due k (omega arith)))
       (λ u. ends_never (omega arith) (omega arith) (omega arith) (omega arith)))
       (λ q.
       by_eq P _ _ (k % 4) 3
       (λ l.
-      by_eq P _ (Breaks at) (v % 4) 0
+      by_eq P _ (Err (break_at at)) (v % 4) 0
       (λ u. ends_with (pad ∷ []) _ (omega arith) (one l u refl) (λ y. some_more _ _) (one_due k (omega arith)))
       (λ u. ends_never (omega arith) (omega arith) (omega arith) (omega arith)))
       (λ l.
       ends_with [] _ (omega arith) (none (omega arith) refl) (λ y. absurd (omega arith))
       (none_due k (omega arith) (omega arith)))))))
     where
-      P : Judged → Type 0
+      P : Result ℕ Break → Type 0
       P j = Account (Rest n k v) t at j

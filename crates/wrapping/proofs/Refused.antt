@@ -12,9 +12,9 @@ use Rattle.der.proofs.Choices.{either}
 use Rattle.base64_chars.specs.Encoded.{encoded}
 use Rattle.base64_chars.proofs.Encoded.{encoded_coded, coded_encoded, encoded_count, coded_count, encoded_nonempty}
 use Rattle.pem.specs.Wrap.{begin, end, fill, lines_of, wrap}
-use Rattle.pem.specs.Judged.{judged}
-use Rattle.pem.specs.declared.Judged.{Judged}
-use Rattle.pem.specs.declared.Judged.TheVariants.{Wraps, Breaks}
+use Rattle.pem.specs.Judged.{judged, break_at}
+use Rattle.pem.specs.declared.Break.{Break}
+use Rattle.std.specs.Prelude.{Err, Ok, Result}
 use Rattle.wrapping.specs.Text.{Text, Begins, GoesWrong, IsCut, RefusedAt, WrapsOf}
 use Rattle.wrapping.proofs.Account.{BeginsIn, Broken, Account, wraps, breaks, account_broken, account_wraps}
 use Rattle.wrapping.proofs.Account.{broken_breaks, broken_none}
@@ -105,7 +105,7 @@ refused_broken t p (inr x) =
     }
 
 -- `judged` refuses at the offset of Rule 11.7, and there only
-pub refused_at : (t : List ℕ) (p : ℕ) → (judged t ≡ Breaks p) ↔ RefusedAt t p
+pub refused_at : (t : List ℕ) (p : ℕ) → (judged t ≡ Err (break_at p)) ↔ RefusedAt t p
 refused_at t p = (
   λ e. broken_refused t p (account_broken TextIn t 0 p (rw e at (judged_account t))),
   λ r. broken_breaks TextIn t 0 p (judged_account t) (refused_broken t p r),
@@ -113,14 +113,14 @@ refused_at t p = (
 
 -- ---- how many bytes a text wraps
 
-pub judged_wraps : (t : List ℕ) (m : ℕ) → judged t ≡ Wraps m → WrapsOf t m
+pub judged_wraps : (t : List ℕ) (m : ℕ) → judged t ≡ Ok m → WrapsOf t m
 judged_wraps t m e = in_text t m (account_wraps TextIn t 0 m (rw e at (judged_account t)))
 
-text_wraps : (t : List ℕ) (m : ℕ) (j : Judged) → Account TextIn t 0 j → TextIn m t → j ≡ Wraps m
-text_wraps t m j (wraps n x) y = ap Wraps (text_number n m t x y)
+text_wraps : (t : List ℕ) (m : ℕ) (j : Result ℕ Break) → Account TextIn t 0 j → TextIn m t → j ≡ Ok m
+text_wraps t m j (wraps n x) y = ap Ok (text_number n m t x y)
 text_wraps t m j (breaks p x) y = absurd (broken_none TextIn t 0 p m x y)
 
-pub wrap_judged : (x : List ℕ) → Bytes x → 1 ≤ length x → judged (wrap x) ≡ Wraps (length x)
+pub wrap_judged : (x : List ℕ) → Bytes x → 1 ≤ length x → judged (wrap x) ≡ Ok (length x)
 wrap_judged x h l =
     text_wraps (wrap x) (length x) (judged (wrap x)) (judged_account (wrap x))
     (text_in (wrap x) (record { bytes = x; fit = h; some = l; is = refl }))

@@ -10,8 +10,7 @@ use Rattle.der.specs.Element.{fault}
 use Rattle.der.specs.Span.{Bytes}
 use Rattle.der.specs.declared.Fault.{Fault}
 use Rattle.buffer.specs.Written.{success}
-use Rattle.buffer.specs.declared.Written.{Written}
-use Rattle.buffer.specs.declared.Written.TheVariants.{Length}
+use Rattle.std.specs.Prelude.{Err, Ok}
 use Rattle.pem.specs.Wrap.{wrap}
 use Rattle.pem.specs.Calls.{imported, exported}
 use Rattle.wrapping.specs.Text.{Text, RefusedAt}
@@ -47,7 +46,7 @@ longer_text = form.longer
 -- ---- import (Rules 11.6, 11.7)
 
 -- It returns n exactly for the texts of n bytes, 1 to 65,535, if the buffer has space for them,
-pub import_iff : (t buffer : List ℕ) (n : ℕ) → ((imported t buffer).answer ≡ Length n) ↔ Imports t buffer n
+pub import_iff : (t buffer : List ℕ) (n : ℕ) → ((imported t buffer).answer ≡ Ok n) ↔ Imports t buffer n
 import_iff = outcomes.length_iff
 
 -- and the bytes that the text wraps are then at the front of the buffer, the rest of it as before.
@@ -58,27 +57,27 @@ import_bytes = outcomes.import_bytes
 -- 16 at p exactly if the first p bytes begin a text of the form and the first p + 1 begin none, or
 -- if all p bytes begin one and are none.
 pub refused_at : (t buffer : List ℕ) (p : ℕ)
-    → ((imported t buffer).answer ≡ Written.Refused (fault 16 p)) ↔ RefusedAt t p
+    → ((imported t buffer).answer ≡ Err (fault 16 p)) ↔ RefusedAt t p
 refused_at = outcomes.not_text_iff
 
 -- 9 exactly for the texts of more than 65,535 bytes; 10 exactly for the others, if the buffer is
 -- shorter than their bytes; both at 0.
 pub import_too_long : (t buffer : List ℕ) (p : ℕ)
-    → ((imported t buffer).answer ≡ Written.Refused (fault 9 p)) ↔ WrapsMore t p
+    → ((imported t buffer).answer ≡ Err (fault 9 p)) ↔ WrapsMore t p
 import_too_long = outcomes.too_long_iff
 
 pub import_short_buffer : (t buffer : List ℕ) (p : ℕ)
-    → ((imported t buffer).answer ≡ Written.Refused (fault 10 p)) ↔ LacksSpace t buffer p
+    → ((imported t buffer).answer ≡ Err (fault 10 p)) ↔ LacksSpace t buffer p
 import_short_buffer = outcomes.short_buffer_iff
 
 -- There is no other refusal, and each leaves the whole buffer as before.
-pub import_refusals : (t buffer : List ℕ) (f : Fault) → (imported t buffer).answer ≡ Written.Refused f
+pub import_refusals : (t buffer : List ℕ) (f : Fault) → (imported t buffer).answer ≡ Err f
     → TextNumber f × ((imported t buffer).buffer ≡ buffer)
 import_refusals = outcomes.refused_by_lem
 
 -- ---- export (Rule 11.8)
 
-pub export_iff : (x buffer : List ℕ) (n : ℕ) → ((exported x buffer).answer ≡ Length n) ↔ Exports x buffer n
+pub export_iff : (x buffer : List ℕ) (n : ℕ) → ((exported x buffer).answer ≡ Ok n) ↔ Exports x buffer n
 export_iff = outcomes.export_length_iff
 
 pub export_text : (x buffer : List ℕ) → 1 ≤ length x → length x ≤ 65_535 → length (wrap x) ≤ length buffer
@@ -86,18 +85,18 @@ pub export_text : (x buffer : List ℕ) → 1 ≤ length x → length x ≤ 65_5
 export_text = outcomes.export_text
 
 pub export_no_byte : (x buffer : List ℕ) (p : ℕ)
-    → ((exported x buffer).answer ≡ Written.Refused (fault 16 p)) ↔ ((length x ≡ 0) × (p ≡ 0))
+    → ((exported x buffer).answer ≡ Err (fault 16 p)) ↔ ((length x ≡ 0) × (p ≡ 0))
 export_no_byte = outcomes.export_none_iff
 
 pub export_too_long : (x buffer : List ℕ) (p : ℕ)
-    → ((exported x buffer).answer ≡ Written.Refused (fault 9 p)) ↔ ((65_535 < length x) × (p ≡ 0))
+    → ((exported x buffer).answer ≡ Err (fault 9 p)) ↔ ((65_535 < length x) × (p ≡ 0))
 export_too_long = outcomes.export_long_iff
 
 pub export_short_buffer : (x buffer : List ℕ) (p : ℕ)
-    → ((exported x buffer).answer ≡ Written.Refused (fault 10 p)) ↔ LacksTextSpace x buffer p
+    → ((exported x buffer).answer ≡ Err (fault 10 p)) ↔ LacksTextSpace x buffer p
 export_short_buffer = outcomes.export_short_iff
 
-pub export_refusals : (x buffer : List ℕ) (f : Fault) → (exported x buffer).answer ≡ Written.Refused f
+pub export_refusals : (x buffer : List ℕ) (f : Fault) → (exported x buffer).answer ≡ Err f
     → TextNumber f × ((exported x buffer).buffer ≡ buffer)
 export_refusals = outcomes.export_refused_by
 
@@ -105,12 +104,12 @@ export_refusals = outcomes.export_refused_by
 
 -- What export left at the front of one buffer is imported into another as the bytes that were
 -- exported,
-pub export_import : (x buffer other : List ℕ) (n : ℕ) → Bytes x → (exported x buffer).answer ≡ Length n
+pub export_import : (x buffer other : List ℕ) (n : ℕ) → Bytes x → (exported x buffer).answer ≡ Ok n
     → length x ≤ length other → imported (take n (exported x buffer).buffer) other ≡ success x other
 export_import = outcomes.export_import
 
 -- and what import left there is exported as the text that was imported, byte for byte.
-pub import_export : (t buffer other : List ℕ) (n : ℕ) → (imported t buffer).answer ≡ Length n → length t ≤ length other
+pub import_export : (t buffer other : List ℕ) (n : ℕ) → (imported t buffer).answer ≡ Ok n → length t ≤ length other
     → exported (take n (imported t buffer).buffer) other ≡ success t other
 import_export = outcomes.import_export
 

@@ -1,12 +1,11 @@
 -- Bytes and their characters as RFC 4648, section 10, lists them; and texts with what each is
 -- judged to be, every number written out.
-use Rattle.std.specs.Prelude.{◌≡◌, List, [], ◌∷◌, ◌++◌, map, ℕ, zero, suc}
+use Rattle.std.specs.Prelude.{◌≡◌, List, [], ◌∷◌, ◌++◌, map, ℕ, zero, suc, Err, Ok, Result}
 use Rattle.buffer.specs.Text.{ascii}
 use Rattle.base64_chars.specs.Encoded.{encoded}
 use Rattle.pem.specs.Wrap.{newline, begin, end}
-use Rattle.pem.specs.Judged.{judged}
-use Rattle.pem.specs.declared.Judged.{Judged}
-use Rattle.pem.specs.declared.Judged.TheVariants.{Wraps, Breaks}
+use Rattle.pem.specs.Judged.{judged, break_at}
+use Rattle.pem.specs.declared.Break.{Break}
 
 -- ---- RFC 4648, section 10
 
@@ -29,7 +28,7 @@ Encodes cases = map (λ (c : List ℕ × List ℕ). encoded c.0) cases ≡ map (
 -- a text, and what it is judged to be
 pub record Case : Type 0 where
   pub text : List ℕ
-  pub result : Judged
+  pub result : Result ℕ Break
 
 abbrev pub Holds : List Case → Type 0
 Holds cases = map (λ (c : Case). judged c.text) cases ≡ map (λ (c : Case). c.result) cases
@@ -48,10 +47,10 @@ many_a zero = []
 many_a (suc n) = 0x41 ∷ many_a n
 
 abbrev pub wraps : List ℕ → ℕ → Case
-wraps t n = record { text = t; result = Wraps n }
+wraps t n = record { text = t; result = Ok n }
 
 abbrev pub breaks : List ℕ → ℕ → Case
-breaks t p = record { text = t; result = Breaks p }
+breaks t p = record { text = t; result = Err (break_at p) }
 
 unfoldable pub bench_texts : List Case
 bench_texts =

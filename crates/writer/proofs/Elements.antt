@@ -2,6 +2,7 @@
 -- ContentInfo and of data, and the whole.
 use mathlib.Core.Path.{◌≡◌, refl, sym, ap, ◌∙◌}
 use mathlib.Core.List.{List, ◌++◌, append_assoc}
+use denote.Bor.{Bor}
 use Prim.Native.Nat.{ℕ, ◌+◌, ◌≤◌}
 use native.Mathlib.Omega.{arith}
 use lib.ListN.{length}
@@ -18,7 +19,7 @@ use Rattle.sizes.specs.Bodies.{content_of, encrypted_data_body, mac_body}
 use Rattle.sizes.specs.Picked.{form_of}
 use Rattle.sizes.specs.Sizes.{bag_size, content_info_size, data_size, pfx_size}
 use Rattle.encode.specs.Sizes.{capped, element_size}
-use Rattle.sizes.specs.declared.rows.Form.{Form}
+use Rattle.std.specs.Prelude.{None}
 use Rattle.encode.proofs.Capped.{Sized, near_told, near_is, near_then, capped_small, element_more}
 use Rattle.encode.proofs.Capped.{sized_told, sized_element, length_element}
 use Rattle.sizes.proofs.Nears.{near_pfx}
@@ -75,8 +76,10 @@ data_above n = omega (arith, info_above (element_size (element_size n)), element
 -- ---- by the kind of a bag
 
 module _ (k j : BagKind) (h : k ≡ j) (d : List ℕ) (at : ℕ) (e : List ℕ) (r : ℕ) where
-  pub id_of_lem : Placed d at (identifier (identifier_of j)) e r → Placed d at (identifier (identifier_of k)) e r
-  id_of_lem f = rw h f
+  -- x is what was lent of the bytes y, which are the identifier of j
+  pub id_of_lem : (x y : Bor (List ℕ)) → x ≡ y → identifier_of j ≡ y.now → Placed d at (identifier x.now) e r
+      → Placed d at (identifier (identifier_of k)) e r
+  id_of_lem x y p q f = rw (p, ← q, ← h) at f
 
   pub content_of_lem : (s : List ℕ) (p : Parts) → Put Short d at (content_of s j p) e r → Put Short d at (content_of s k p) e r
   content_of_lem s p f = rw h f
@@ -88,7 +91,7 @@ tlv_is : (t n : ℕ) (b : List ℕ) → n ≡ length b → tlv t b ≡ header t 
 unfolding tlv header
 tlv_is t n b e = rw e refl
 
-bag_parts : (k : BagKind) (content : List ℕ) (set : Set) → (form_of k ≡ Form.None → ⊥)
+bag_parts : (k : BagKind) (content : List ℕ) (set : Set) → (form_of k ≡ None → ⊥)
     → bag_bytes k content set ≡ bag_head k (length content) (length (set_bytes set)) ++ (content ++ set_bytes set)
 unfolding bag_bytes bag_head
 bag_parts k content set h =
@@ -104,7 +107,7 @@ bag_parts k content set h =
     ) refl
 
 pub bag_put : (k : BagKind) (content : List ℕ) (set : Set) (c q : ℕ) {d : List ℕ} {at : ℕ} {m : List ℕ} {p : ℕ} {m2 : List ℕ} {p2 : ℕ} {e : List ℕ} {r : ℕ}
-    → (form_of k ≡ Form.None → ⊥) → Sized c content → Sized q (set_bytes set)
+    → (form_of k ≡ None → ⊥) → Sized c content → Sized q (set_bytes set)
     → (bag_size c q ≤ file_bytes → Placed d at (bag_head k c q) m p) → Put Short m p content m2 p2
     → Put Short m2 p2 (set_bytes set) e r → Put Short d at (bag_bytes k content set) e r
 unfolding bag_size

@@ -4,7 +4,7 @@ use mathlib.Core.Bool.{Bool, true, false}
 use mathlib.Core.List.{List, [], ◌++◌, append-nil}
 use mathlib.Core.Option.{Option, some}
 use mathlib.Core.Option as option
-use Prim.Native.Nat.{ℕ, ◌+◌, ◌-◌, ◌≤◌, ◌<◌}
+use Prim.Native.Nat.{ℕ, ◌+◌, ◌≤◌, ◌<◌}
 use native.Mathlib.Omega.{arith}
 use lib.Dec.{eqb}
 use lib.ListN.{length, get_or}
@@ -19,8 +19,7 @@ use Rattle.pkcs12.specs.Values.{same_enclosing}
 use Rattle.pkcs12.specs.Table.{no_attribute, no_bag}
 use Rattle.pkcs12.specs.declared.kind.BagKind.{BagKind}
 use Rattle.pkcs12.specs.declared.row.BagRow.{BagRow}
-use Rattle.pkcs12.specs.declared.row.Enclosing.{Enclosing}
-use Rattle.pkcs12.specs.declared.row.Enclosing.TheVariants.{Bag}
+use Rattle.std.specs.Prelude.{None, Option as Maybe, Some}
 use Rattle.pkcs12.specs.declared.table.Table.{Table}
 use Rattle.sizes.specs.Bodies.{content_of, attribute_in}
 use Rattle.sizes.specs.Picked.{attribute_end, bag_end, attribute_value, bag_value, form_of, SetPicked, set_picked, Picked}
@@ -101,13 +100,9 @@ module _ (t : Table) (s : List ℕ) (h : Bool) (n from : ℕ) where
 
 -- ---- one bag
 
--- what the code learnt of a kind
-pub leaf_form : (f : Form) (k : BagKind) → f ≡ form_of k → f ≡ Form.Leaf → form_of k ≡ Form.Leaf
-leaf_form f k o h = sym o ∙ h
-
 module _ (t : Table) (s : List ℕ) (row : BagRow) (n from : ℕ) where
   pub leaf_put : (content : ℕ) (owned : Owned) (d : List ℕ) (at : ℕ) (m : List ℕ) (p : ℕ) (m2 : List ℕ) (p2 : ℕ) (e : List ℕ) (r : SetEnd)
-      → form_of row.kind ≡ Form.Leaf → content ≡ capped (length (content_of s row.kind row.parts))
+      → form_of row.kind ≡ Some Form.Leaf → content ≡ capped (length (content_of s row.kind row.parts))
       → owned ≡ set_sized (set_picked t s row.has_set n from)
       → (bag_size content owned.size ≤ file_bytes → Placed d at (bag_head row.kind content owned.size) m p)
       → Put Short m p (content_of s row.kind row.parts) m2 p2 → SetPut m2 p2 (set_picked t s row.has_set n from) e r
@@ -131,47 +126,47 @@ unfolding one_part
 taken_put o k c set next b n m d at z r w p q =
     rw b.found record { put = put_as (sym b.bytes) w; bag = p ∙ sym b.bag; attribute = q ∙ sym b.attribute }
 
-module _ (t : Table) (s : List ℕ) (l k n from : ℕ) (row : BagRow) (e : row ≡ get_or t.bags n no_bag) (f : Form) (o : f ≡ form_of row.kind) where
-  pub bag_nothing : (d : List ℕ) (at : ℕ) → f ≡ Form.None
+module _ (t : Table) (s : List ℕ) (l k n from : ℕ) (row : BagRow) (e : row ≡ get_or t.bags n no_bag) (f : Maybe Form) (o : f ≡ form_of row.kind) where
+  pub bag_nothing : (d : List ℕ) (at : ℕ) → f ≡ None
       → RowsPut d at (one_part (bag_picked t s l k n from) n from) d (record { at = at; bag = n; attribute = from })
   unfolding one_part
   bag_nothing d at h = rw (bag_is_empty t s l k n from row e (sym o ∙ h)) record { put = put_nothing d at; bag = refl; attribute = refl }
 
-  pub bag_of_leaf : (d : List ℕ) (at : ℕ) (z : List ℕ) (r : RowsEnd) → f ≡ Form.Leaf → RowsPut d at (leaf_part t s row n from) z r
+  pub bag_of_leaf : (d : List ℕ) (at : ℕ) (z : List ℕ) (r : RowsEnd) → f ≡ Some Form.Leaf → RowsPut d at (leaf_part t s row n from) z r
       → RowsPut d at (one_part (bag_picked t s l k n from) n from) z r
   unfolding leaf_part
   bag_of_leaf d at z r h w = taken_put _ _ _ _ _ (bag_is_leaf t s l k n from row e (sym o ∙ h)) n from d at z r w.put w.bag w.attribute
 
-  module _ (h : f ≡ Form.Nested) where
+  module _ (h : f ≡ Some Form.Nested) where
     pub bag_deep : (d : List ℕ) (at : ℕ) → l ≡ 0 → RowsPut d at (one_part (bag_picked t s l k n from) n from) d (record { at = at; bag = n; attribute = from })
     unfolding one_part
     bag_deep d at z = rw (bag_is_too_deep t s l k n from row e (sym o ∙ h) z) record { put = put_nothing d at; bag = refl; attribute = refl }
 
-    module _ (inner : Taken) (i : inner ≡ taken_sized (bags_picked t s (l - 1) k (Bag n) (n + 1) from))
+    module _ (below : ℕ) (y : l ≡ below + 1) (inner : Taken) (i : inner ≡ taken_sized (bags_picked t s below k (Some n) (n + 1) from))
         (owned : Owned) (w : owned ≡ set_sized (set_picked t s row.has_set n inner.attribute))
-        (m3 : List ℕ) (p3 : ℕ) (m4 : List ℕ) (all : RowsEnd) (a : RowsPut m3 p3 (bags_part (bags_picked t s (l - 1) k (Bag n) (n + 1) from)) m4 all) where
+        (m3 : List ℕ) (p3 : ℕ) (m4 : List ℕ) (all : RowsEnd) (a : RowsPut m3 p3 (bags_part (bags_picked t s below k (Some n) (n + 1) from)) m4 all) where
       next_is : inner.attribute ≡ all.attribute
       unfolding bags_part
-      next_is = taken_attribute (bags_picked t s (l - 1) k (Bag n) (n + 1) from) inner i ∙ sym a.attribute
+      next_is = taken_attribute (bags_picked t s below k (Some n) (n + 1) from) inner i ∙ sym a.attribute
 
       -- what writing the set behind the bags requires
       pub nest_body : owned.body ≡ capped (length (set_body (set_picked t s row.has_set n all.attribute).set))
       nest_body = rw next_is at (owned_body (set_picked t s row.has_set n inner.attribute) owned w)
 
       pub nest_put : (content : ℕ) (d : List ℕ) (at : ℕ) (m : List ℕ) (p : ℕ) (z : List ℕ) (r : SetEnd)
-          → (l ≡ 0 → ⊥) → content ≡ capped (element_size inner.size)
+          → content ≡ capped (element_size inner.size)
           → (bag_size content owned.size ≤ file_bytes → Placed d at (bag_head row.kind content owned.size) m p)
           → Placed m p (header sequence_tag inner.size) m3 p3 → SetPut m4 all.at (set_picked t s row.has_set n all.attribute) z r
           → RowsPut d at (one_part (bag_picked t s l k n from) n from) z (record { at = r.at; bag = all.bag; attribute = r.next })
       unfolding bags_part
-      nest_put content d at m p z r y c u v b =
-          let picked : Picked = bags_picked t s (l - 1) k (Bag n) (n + 1) from in
+      nest_put content d at m p z r c u v b =
+          let picked : Picked = bags_picked t s below k (Some n) (n + 1) from in
           let set : SetPicked = set_picked t s row.has_set n picked.attribute in
           let body : List ℕ = bags_bytes picked.bags in
           let inside : Sized inner.size body = taken_sized_lem picked inner i in
           let own : owned ≡ set_sized set = rw (taken_attribute picked inner i) at w in
           let behind : SetPut m4 all.at set z r = rw a.attribute at b in
-          let found = bag_is_nest t s l k n from row e (sym o ∙ h) y in
+          let found = bag_is_nest t s l k n from row e (sym o ∙ h) below y in
           taken_put _ _ _ _ _ found n from d at z _
           (bag_put row.kind (sequence body) set.set content owned.size found.kind
           (sized_element content inner.size sequence_tag body c inside) (owned_sized set owned own) u
@@ -181,7 +176,7 @@ module _ (t : Table) (s : List ℕ) (l k n from : ℕ) (row : BagRow) (e : row �
 -- ---- bags side by side
 
 -- the loop of `bags`, from the offset p of the buffer m on
-pub record BagsPutting (t : Table) (s : List ℕ) (l k : ℕ) (e : Enclosing) (first from end : ℕ) (m : List ℕ) (p : ℕ) (z : List ℕ) (r : RowsEnd) : Type 0 where
+pub record BagsPutting (t : Table) (s : List ℕ) (l k : ℕ) (e : Maybe ℕ) (first from end : ℕ) (m : List ℕ) (p : ℕ) (z : List ℕ) (r : RowsEnd) : Type 0 where
   pub seen_bytes : List ℕ
   pub seen : BagsSeen t s l k e first from r.bag r.attribute seen_bytes
   pub put : Put Short m p seen_bytes z r.at
@@ -199,7 +194,7 @@ unfolding one_part
 one_gave d at option.none n m z r w = (w.put, w.bag, w.attribute)
 one_gave d at (some p) n m z r w = (w.put, w.bag, w.attribute)
 
-module _ (t : Table) (s : List ℕ) (l k : ℕ) (e : Enclosing) (first from : ℕ) where
+module _ (t : Table) (s : List ℕ) (l k : ℕ) (e : Maybe ℕ) (first from : ℕ) where
   pub bags_begin : (end : ℕ) (m : List ℕ) (p : ℕ) → end ≡ bag_end t
       → BagsPutting t s l k e first from end m p m (record { at = p; bag = first; attribute = from })
   bags_begin end m p h =

@@ -18,7 +18,7 @@ use Rattle.pkcs12.specs.Table.{no_safe, sealed_in, mac_shown}
 use Rattle.pkcs12.specs.declared.kind.SafeKind.{SafeKind}
 use Rattle.pkcs12.specs.declared.kind.SafeKind.TheVariants.{Plain, Encrypted}
 use Rattle.pkcs12.specs.declared.row.SafeRow.{SafeRow}
-use Rattle.pkcs12.specs.declared.row.Enclosing.{Enclosing}
+use Rattle.std.specs.Prelude.{None}
 use Rattle.pkcs12.specs.declared.table.Table.{Table}
 use Rattle.sizes.specs.Bodies.{mac_body}
 use Rattle.sizes.specs.Picked.{safe_end, Picked, bags_picked, SafePicked, safe_picked, safes_picked}
@@ -46,12 +46,12 @@ module _ (t : Table) (s : List ℕ) (k first from : ℕ) (row : SafeRow) (e : ro
   safe_nothing d at h = rw (safe_is_empty t s k first from row e h) record { put = put_nothing d at; bag = refl; attribute = refl }
 
   pub plain_put : (inner : Taken) (d : List ℕ) (at : ℕ) (m : List ℕ) (p : ℕ) (z : List ℕ) (r : RowsEnd) → row.kind ≡ Plain
-      → inner ≡ taken_sized (bags_picked t s 7 k Enclosing.None first from)
+      → inner ≡ taken_sized (bags_picked t s 7 k None first from)
       → (data_size inner.size ≤ file_bytes → Placed d at (data_head data_type inner.size) m p)
-      → RowsPut m p (bags_part (bags_picked t s 7 k Enclosing.None first from)) z r → RowsPut d at (safe_part (safe_picked t s k first from) first from) z r
+      → RowsPut m p (bags_part (bags_picked t s 7 k None first from)) z r → RowsPut d at (safe_part (safe_picked t s k first from) first from) z r
   unfolding safe_part bags_part safe_bytes
   plain_put inner d at m p z r h i f w =
-      let picked : Picked = bags_picked t s 7 k Enclosing.None first from in
+      let picked : Picked = bags_picked t s 7 k None first from in
       rw (safe_is_plain t s k first from row e h) record {
         put = data_put (bags_bytes picked.bags) inner.size (taken_sized_lem picked inner i) f w.put;
         bag = w.bag;

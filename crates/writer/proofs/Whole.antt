@@ -18,14 +18,12 @@ use Rattle.pkcs12.specs.Table.{reading_of}
 use Rattle.pkcs12.specs.Written.{written_as, file_of, on_file, write_file}
 use Rattle.buffer.specs.Written.{Outcome, refusal, success}
 use Rattle.pkcs12.specs.declared.table.Table.{Table}
-use Rattle.buffer.specs.declared.Written.TheVariants.{Length}
+use Rattle.std.specs.Prelude.{None, Ok, Option as Maybe, Some}
 use Rattle.sizes.specs.Picked.{safes_picked}
 use Rattle.encode.specs.Sizes.{capped}
 use Rattle.encode.proofs.Capped.{capped_told, by_size}
 use Rattle.sizes.proofs.Reading.{CountsFit, reading_law}
 use Rattle.sound.specs.Measured.{measured}
-use Rattle.sound.specs.declared.Measured.{Measured}
-use Rattle.sound.specs.declared.Measured.TheVariants.{Unsound, Size}
 use Rattle.sound.proofs.Whole.{Arrays, fits}
 use Rattle.buffer.specs.Placed.{Put, Short}
 use Rattle.writer.specs.Rows.{reading_at}
@@ -65,43 +63,43 @@ file_at t s f a e = go (keeps_rules t s) refl e
     go false k h = cc
 
 -- what measuring shows of the file
-abbrev Tells : Measured → Option (List ℕ) → Type 0
-Tells Unsound option.none = Unit {0}
-Tells Unsound (some f) = ⊥
-Tells (Size n) option.none = ⊥
-Tells (Size n) (some f) = n ≡ capped (length f)
+abbrev Tells : Maybe ℕ → Option (List ℕ) → Type 0
+Tells None option.none = Unit {0}
+Tells None (some f) = ⊥
+Tells (Some n) option.none = ⊥
+Tells (Some n) (some f) = n ≡ capped (length f)
 
-size_same : (n m : ℕ) → Size n ≡ Size m → n ≡ m
+size_same : (n m : ℕ) → Some n ≡ Some m → n ≡ m
 size_same n m e = cc
 
-tells : (r : Measured) (o : Option (List ℕ)) → r ≡ on_file o Unsound (λ f. Size (capped (length f))) → Tells r o
-tells Unsound option.none e = tt
-tells Unsound (some f) e = (let z : ◌≡◌ {A = ℕ} 0 1 = cc in absurd (omega arith))
-tells (Size n) option.none e = (let z : ◌≡◌ {A = ℕ} 0 1 = cc in absurd (omega arith))
-tells (Size n) (some f) e = size_same n (capped (length f)) e
+tells : (r : Maybe ℕ) (o : Option (List ℕ)) → r ≡ on_file o None (λ f. Some (capped (length f))) → Tells r o
+tells None option.none e = tt
+tells None (some f) e = (let z : ◌≡◌ {A = ℕ} 0 1 = cc in absurd (omega arith))
+tells (Some n) option.none e = (let z : ◌≡◌ {A = ℕ} 0 1 = cc in absurd (omega arith))
+tells (Some n) (some f) e = size_same n (capped (length f)) e
 
-module _ (t : Table) (s buffer : List ℕ) (r : Measured) (p : r ≡ measured t s) where
-  no_file : r ≡ Unsound → file_of t s ≡ option.none
+module _ (t : Table) (s buffer : List ℕ) (r : Maybe ℕ) (p : r ≡ measured t s) where
+  no_file : r ≡ None → file_of t s ≡ option.none
   unfolding measured
-  no_file e = go (file_of t s) (tells Unsound (file_of t s) (sym e ∙ p))
+  no_file e = go (file_of t s) (tells None (file_of t s) (sym e ∙ p))
     where
-      go : (o : Option (List ℕ)) → Tells Unsound o → o ≡ option.none
+      go : (o : Option (List ℕ)) → Tells None o → o ≡ option.none
       go option.none h = refl
       go (some f) h = absurd h
 
-  a_file : (n : ℕ) → r ≡ Size n → (f : List ℕ) × (file_of t s ≡ some f) × (n ≡ capped (length f))
+  a_file : (n : ℕ) → r ≡ Some n → (f : List ℕ) × (file_of t s ≡ some f) × (n ≡ capped (length f))
   unfolding measured
-  a_file n e = go (file_of t s) (tells (Size n) (file_of t s) (sym e ∙ p))
+  a_file n e = go (file_of t s) (tells (Some n) (file_of t s) (sym e ∙ p))
     where
-      go : (o : Option (List ℕ)) → Tells (Size n) o → (f : List ℕ) × (o ≡ some f) × (n ≡ capped (length f))
+      go : (o : Option (List ℕ)) → Tells (Some n) o → (f : List ℕ) × (o ≡ some f) × (n ≡ capped (length f))
       go option.none h = absurd h
       go (some f) h = (f, refl, h)
 
-  pub refused_unsound : r ≡ Unsound → write_file t s buffer ≡ refusal not_sound buffer
+  pub refused_unsound : r ≡ None → write_file t s buffer ≡ refusal not_sound buffer
   unfolding write_file
   refused_unsound e = rw (no_file e) refl
 
-  module _ (n : ℕ) (e : r ≡ Size n) where
+  module _ (n : ℕ) (e : r ≡ Some n) where
     pub refused_long : file_bytes < n → write_file t s buffer ≡ refusal too_long buffer
     unfolding write_file
     refused_long h =
@@ -126,8 +124,8 @@ module _ (t : Table) (s buffer : List ℕ) (r : Measured) (p : r ≡ measured t 
             let a = a_file n e in
             rw (a.1, le-ltb file_bytes (length a.0) (omega (arith, h, size_is)), le-ltb (length buffer) (length a.0) (omega (arith, k, size_is))) refl
 
-        pub written_answer : Length n ≡ (write_file t s buffer).answer
-        written_answer = ap Length (sym size_is) ∙ sym (ap (λ (o : Outcome). o.answer) written)
+        pub written_answer : Ok n ≡ (write_file t s buffer).answer
+        written_answer = ap Ok (sym size_is) ∙ sym (ap (λ (o : Outcome). o.answer) written)
 
         pub written_buffer : Arrays t → (z : List ℕ) (at : ℕ) → Put Short buffer 0 (encode (reading_at t s)) z at → z ≡ (write_file t s buffer).buffer
         written_buffer a z at w =

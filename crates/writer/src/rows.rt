@@ -1,6 +1,6 @@
 // Safes, safe contents, bags and their attributes, front to back, by the rows of the table. The
 // sizes of a level are computed before it is written.
-ghost use Rattle.std.specs.Prelude.{◌≡◌, ◌<◌, length, get_or};
+ghost use Rattle.std.specs.Prelude.{◌≡◌, ◌<◌, length, get_or, Some};
 ghost use Rattle.pkcs12.specs.Numbers.{bag_rows};
 ghost use Rattle.pkcs12.specs.Encode.{safes_bytes, encode};
 ghost use Rattle.pkcs12.specs.Table.{no_safe, no_bag};
@@ -14,18 +14,18 @@ ghost use Rattle.writer.specs.Rows.{is_empty_safe};
 
 use crate::parts;
 use encode::write;
-use pkcs12::{BagRow, Enclosing, SafeKind, SafeRow, Table};
+use pkcs12::{BagRow, SafeKind, SafeRow, Table};
 use sizes::rows::Form;
 
 // The offset behind what was written, and the next attribute row.
-#[derive(Clone, Copy)]
+#[derive(Clone, Copy, Debug, PartialEq, Eq)]
 pub(crate) struct SetEnd {
     pub(crate) at: usize,
     pub(crate) next: usize,
 }
 
 // The offset behind what was written, and the next bag and attribute rows.
-#[derive(Clone, Copy)]
+#[derive(Clone, Copy, Debug, PartialEq, Eq)]
 pub(crate) struct RowsEnd {
     pub(crate) at: usize,
     pub(crate) bag: usize,
@@ -49,19 +49,19 @@ fn set(
     if !has_set {
         return SetEnd { at, next: from };
     }
-    let end = range::fewer(table.attribute_count, pkcs12::ATTRIBUTE_ROWS);
+    let end = table.attribute_count.min(pkcs12::ATTRIBUTE_ROWS);
     let mut to = write::header(out, at, der::SET, body);
-    let mut next = from;
-    while next < end {
+    for next in from..end {
         let row = table.attributes[next];
-        let owner = row.bag as usize;
-        if owner != bag {
+        if usize::from(row.bag) != bag {
             return SetEnd { at: to, next };
         }
         to = parts::attribute(out, to, bytes, row);
-        next = next + 1;
     }
-    SetEnd { at: to, next }
+    SetEnd {
+        at: to,
+        next: from.max(end),
+    }
 }
 
 // Bag n, which holds no bags.
@@ -74,21 +74,17 @@ fn leaf(
     n: usize,
     from: usize,
 ) -> RowsEnd
-    requires { (n < bag_rows) × (form_of row.kind ≡ Form.Leaf) }
+    requires { (n < bag_rows) × (form_of row.kind ≡ Some Form.Leaf) }
     ensures { RowsPut out.old at (leaf_part table bytes.now row n from) out.new result }
 {
-    let kind = row.kind;
-    let parts = row.parts;
-    let has_set = row.has_set;
-    let next = n + 1;
-    let content = sizes::content(bytes, kind, parts);
-    let owned = sizes::rows::set(table, bytes, has_set, n, from);
-    let head = parts::bag_head(out, at, kind, content, owned.size);
-    let value = parts::content(out, head, bytes, kind, parts);
-    let end = set(out, value, table, bytes, has_set, n, from, owned.body);
+    let content = sizes::content(bytes, row.kind, row.parts);
+    let owned = sizes::rows::set(table, bytes, row.has_set, n, from);
+    let head = parts::bag_head(out, at, row.kind, content, owned.size);
+    let value = parts::content(out, head, bytes, row.kind, row.parts);
+    let end = set(out, value, table, bytes, row.has_set, n, from, owned.body);
     RowsEnd {
         at: end.at,
-        bag: next,
+        bag: n + 1,
         attribute: end.next,
     }
 }
@@ -110,56 +106,32 @@ fn bag(
     requires { (n < bag_rows) × (row ≡ get_or table.bags n no_bag) }
     ensures { RowsPut out.old at (one_part (bag_picked table bytes.now level safe n from) n from) out.new result }
 {
-    let kind = row.kind;
-    match sizes::rows::form_of(kind) {
-        Form::None => RowsEnd {
-            at,
-            bag: n,
-            attribute: from,
-        },
-        Form::Leaf => leaf(out, at, table, bytes, row, n, from),
-        Form::Nested => {
-            if level == 0 {
-                return RowsEnd {
-                    at,
-                    bag: n,
-                    attribute: from,
-                };
-            }
-            let below = level - 1;
-            let number = n as u16;
+    let nothing = RowsEnd {
+        at,
+        bag: n,
+        attribute: from,
+    };
+    match sizes::rows::form_of(row.kind) {
+        None => nothing,
+        Some(Form::Leaf) => leaf(out, at, table, bytes, row, n, from),
+        Some(Form::Nested) => {
+            let Some(below) = level.checked_sub(1) else {
+                return nothing;
+            };
+            let number = Some(n as u16);
             let next = n + 1;
-            let has_set = row.has_set;
-            let inner = sizes::rows::bags(
-                table,
-                bytes,
-                safe,
-                Enclosing::Bag(number),
-                next,
-                from,
-                below,
-            );
+            let inner = sizes::rows::bags(table, bytes, safe, number, next, from, below);
             let content = encode::size::element(inner.size);
-            let owned = sizes::rows::set(table, bytes, has_set, n, inner.attribute);
-            let head = parts::bag_head(out, at, kind, content, owned.size);
+            let owned = sizes::rows::set(table, bytes, row.has_set, n, inner.attribute);
+            let head = parts::bag_head(out, at, row.kind, content, owned.size);
             let body = write::header(out, head, der::SEQUENCE, inner.size);
-            let all = bags(
-                out,
-                body,
-                table,
-                bytes,
-                safe,
-                Enclosing::Bag(number),
-                next,
-                from,
-                below,
-            );
+            let all = bags(out, body, table, bytes, safe, number, next, from, below);
             let end = set(
                 out,
                 all.at,
                 table,
                 bytes,
-                has_set,
+                row.has_set,
                 n,
                 all.attribute,
                 owned.body,
@@ -181,14 +153,14 @@ fn bags(
     table: Table,
     bytes: &[u8],
     safe: usize,
-    enclosing: Enclosing,
+    enclosing: Option<u16>,
     first: usize,
     from: usize,
     level: u8,
 ) -> RowsEnd
     ensures { RowsPut out.old at (bags_part (bags_picked table bytes.now level safe enclosing first from)) out.new result }
 {
-    let end = range::fewer(table.bag_count, pkcs12::BAG_ROWS);
+    let end = table.bag_count.min(pkcs12::BAG_ROWS);
     let mut so_far = RowsEnd {
         at,
         bag: first,
@@ -221,11 +193,7 @@ fn bags(
 fn is_empty_safe(kind: SafeKind) -> bool
     ensures { result ≡ is_empty_safe kind }
 {
-    match kind {
-        SafeKind::None => true,
-        SafeKind::Plain => false,
-        SafeKind::Encrypted => false,
-    }
+    matches!(kind, SafeKind::None)
 }
 
 // Safe k; its bags from a bag row and an attribute row on.
@@ -242,23 +210,14 @@ fn safe(
     requires { row ≡ get_or table.safes k no_safe }
     ensures { RowsPut out.old at (safe_part (safe_picked table bytes.now k first from) first from) out.new result }
 {
-    let kind = row.kind;
-    match kind {
+    match row.kind {
         SafeKind::None => RowsEnd {
             at,
             bag: first,
             attribute: from,
         },
         SafeKind::Plain => {
-            let inner = sizes::rows::bags(
-                table,
-                bytes,
-                k,
-                Enclosing::None,
-                first,
-                from,
-                sizes::rows::BELOW,
-            );
+            let inner = sizes::rows::bags(table, bytes, k, None, first, from, sizes::rows::BELOW);
             let head = parts::data_head(out, at, inner.size);
             bags(
                 out,
@@ -266,17 +225,15 @@ fn safe(
                 table,
                 bytes,
                 k,
-                Enclosing::None,
+                None,
                 first,
                 from,
                 sizes::rows::BELOW,
             )
         }
         SafeKind::Encrypted => {
-            let parts = row.parts;
-            let end = parts::encrypted_safe(out, at, bytes, parts);
             RowsEnd {
-                at: end,
+                at: parts::encrypted_safe(out, at, bytes, row.parts),
                 bag: first,
                 attribute: from,
             }
@@ -288,17 +245,15 @@ fn safe(
 fn safes(out: &mut [u8], at: usize, table: Table, bytes: &[u8]) -> usize
     ensures { Put Short out.old at (safes_bytes (safes_picked table bytes.now 0 0 0).safes) out.new result }
 {
-    let end = range::fewer(table.safe_count, pkcs12::SAFE_ROWS);
+    let end = table.safe_count.min(pkcs12::SAFE_ROWS);
     let mut so_far = RowsEnd {
         at,
         bag: 0,
         attribute: 0,
     };
-    let mut k: usize = 0;
-    while k < end {
+    for k in 0..end {
         let row = table.safes[k];
-        let kind = row.kind;
-        if is_empty_safe(kind) {
+        if is_empty_safe(row.kind) {
             return so_far.at;
         }
         so_far = safe(
@@ -311,7 +266,6 @@ fn safes(out: &mut [u8], at: usize, table: Table, bytes: &[u8]) -> usize
             so_far.bag,
             so_far.attribute,
         );
-        k = k + 1;
     }
     so_far.at
 }
@@ -320,13 +274,12 @@ fn safes(out: &mut [u8], at: usize, table: Table, bytes: &[u8]) -> usize
 pub(crate) fn file(out: &mut [u8], table: Table, bytes: &[u8]) -> usize
     ensures { Put Short out.old 0 (encode (reading_at table bytes.now)) out.new result }
 {
-    let fields = table.mac;
     let all = sizes::rows::all_safes(table, bytes);
-    let mac = sizes::mac(bytes, fields);
+    let mac = sizes::mac(bytes, table.mac);
     let size = sizes::pfx(all.size, mac);
     let body = write::header(out, 0, der::SEQUENCE, size);
     let content = write::integer(out, body, pkcs12::PFX_VERSION);
     let head = parts::data_head(out, content, all.size);
     let end = safes(out, head, table, bytes);
-    parts::mac(out, end, bytes, fields)
+    parts::mac(out, end, bytes, table.mac)
 }

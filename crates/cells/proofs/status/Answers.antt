@@ -1,19 +1,23 @@
 -- Too few cells; else the status of the upload that they hold.
-use native.Mathlib.Omega.{arith}
+use mathlib.Core.Path.{ap, ◌∙◌}
+use Rattle.std.specs.Prelude.{Err}
 use Rattle.stream.specs.Report.{status_report}
+use Rattle.stream.proofs.Rules.{kept}
 use Rattle.cells.proofs.Outcomes.{status_few, status_held}
-use mathlib.Core.Path.{ap}
 use Rattle.cells.proofs.status.Goals as goal
 
-pub returns-then-cells-lt-UPLOAD_LENGTH-clause-value : goal.returns-then-cells-lt-UPLOAD_LENGTH-clause-value
-returns-then-cells-lt-UPLOAD_LENGTH-clause-value c = status_few _ _ (omega (arith, c.if-cells-lt-UPLOAD_LENGTH.true)) c.refused.ensures
+pub returns-in_err-u-clause-value : goal.returns-in_err-u-clause-value
+returns-in_err-u-clause-value c =
+    let few = c.in_err-u.ensures.few in
+    status_few _ _ few.0 (kept _ _ c.from_residual.ensures ∙ ap Err few.1)
 
-pub returns-then-cells-lt-UPLOAD_LENGTH-clause-report : goal.returns-then-cells-lt-UPLOAD_LENGTH-clause-report
-returns-then-cells-lt-UPLOAD_LENGTH-clause-report c = ap status_report (returns-then-cells-lt-UPLOAD_LENGTH-clause-value c)
+pub returns-in_err-u-clause-report : goal.returns-in_err-u-clause-report
+returns-in_err-u-clause-report c = ap status_report (returns-in_err-u-clause-value c)
 
 pub returns-clause-value : goal.returns-clause-value
-returns-clause-value c = status_held _ _ _ (omega (arith, c.if-cells-lt-UPLOAD_LENGTH.false)) c.upload-u.ensures
-    c.status.ensures.value
+returns-clause-value c =
+    let held = c.in_ok-u.ensures.held in
+    status_held _ _ _ held.0 held.1 c.status.ensures.value
 
 pub returns-clause-report : goal.returns-clause-report
 returns-clause-report c = ap status_report (returns-clause-value c)

@@ -7,6 +7,6 @@ pub returns-then-n-i : goal.returns-then-n-i
 unfolding chosen_of
 returns-then-n-i c = search choices depth 14
 
-pub returns : goal.returns
+pub returns-else-n-i : goal.returns-else-n-i
 unfolding chosen_of
-returns c = search choices depth 14
+returns-else-n-i c = search choices depth 14

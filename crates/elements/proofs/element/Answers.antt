@@ -9,25 +9,25 @@ use Rattle.elements.proofs.element.Goals as goal
 pub loop-at-init : goal.loop-at-init
 loop-at-init c = walking_start _ _ _ _ (omega arith)
 
-pub returns-in-Refused-clause-value : goal.returns-in-Refused-clause-value
+pub returns-in_default-clause-value : goal.returns-in_default-clause-value
 unfolding element_ranges
-returns-in-Refused-clause-value c = let e = c in
+returns-in_default-clause-value c = let e = c in
     walking_stops _ _ _ _ _ _ _ e.loop-at.invariant e.loop-at-test.true _
-    e.element.ensures.value _ c.in-Refused.is
+    e.element.ensures.value _ c.in_default.is
 
-pub returns-in-Refused-clause-bytes : goal.returns-in-Refused-clause-bytes
+pub returns-in_default-clause-bytes : goal.returns-in_default-clause-bytes
 unfolding element_ranges
-returns-in-Refused-clause-bytes c = search all_bytes
+returns-in_default-clause-bytes c = search all_bytes
 
-pub overflow_cast-start16 : goal.overflow_cast-start16
-overflow_cast-start16 c = omega (arith, c.loop-at.invariant.small)
+pub overflow_cast-met : goal.overflow_cast-met
+overflow_cast-met c = omega (arith, c.loop-at.invariant.small)
 
-pub overflow_cast-stop16 : goal.overflow_cast-stop16
-overflow_cast-stop16 c = omega (
+pub overflow_cast-met-in-loop-at : goal.overflow_cast-met-in-loop-at
+overflow_cast-met-in-loop-at c = omega (
   arith,
   let e = c in
       stop_fits _ _ _ _ _ _ _ e.loop-at.invariant e.loop-at-test.true _
-      e.element.ensures.value _ _ _ c.in-Found.is,
+      e.element.ensures.value _ _ _ c.in-Ok.is,
 )
 
 pub overflow_add-count : goal.overflow_add-count
@@ -39,18 +39,18 @@ pub loop-at-smaller : goal.loop-at-smaller
 loop-at-smaller c =
     let e = c in
     walking_less _ _ _ _ _ _ _ e.loop-at.invariant e.loop-at-test.true _
-    e.element.ensures.value _ _ _ c.in-Found.is
+    e.element.ensures.value _ _ _ c.in-Ok.is
 
 pub loop-at-preserved : goal.loop-at-preserved
 loop-at-preserved c =
     let e = c in
     walking_on _ _ _ _ _ _ _ e.loop-at.invariant e.loop-at-test.true _
-    e.element.ensures.value _ _ _ c.in-Found.is _ c.chosen-found.ensures
+    e.element.ensures.value _ _ _ c.in-Ok.is _ c.chosen-found.ensures
 
-pub returns-clause-value : goal.returns-clause-value
+pub returns-after-loop-at-clause-value : goal.returns-after-loop-at-clause-value
 unfolding element_ranges
-returns-clause-value c = walking_ends _ _ _ _ _ _ _ c.loop-at.invariant c.loop-at-test.false
+returns-after-loop-at-clause-value c = walking_ends _ _ _ _ _ _ _ c.loop-at.invariant c.loop-at-test.false
 
-pub returns-clause-bytes : goal.returns-clause-bytes
+pub returns-after-loop-at-clause-bytes : goal.returns-after-loop-at-clause-bytes
 unfolding element_ranges
-returns-clause-bytes c = search all_bytes
+returns-after-loop-at-clause-bytes c = search all_bytes

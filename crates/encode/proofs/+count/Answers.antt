@@ -7,7 +7,7 @@ pub returns-then-n-lt256 : goal.returns-then-n-lt256
 returns-then-n-lt256 t c = search count_small
 
 pub overflow_add-result : goal.overflow_add-result
-overflow_add-result t c = omega (arith, count_few _ _ c.count-more.ensures (omega arith))
+overflow_add-result t c = omega (arith, count_few _ _ c.count.ensures (omega arith))
 
 pub returns : goal.returns
 returns t c = search count_more

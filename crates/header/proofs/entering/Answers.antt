@@ -3,9 +3,9 @@ use Rattle.der.proofs.Choices.{choices}
 use Rattle.header.specs.Header.{entering}
 use Rattle.header.proofs.entering.Goals as goal
 
-pub returns-then-wide-stop : goal.returns-then-wide-stop
+pub returns-then-end-stop : goal.returns-then-end-stop
 unfolding entering
-returns-then-wide-stop c = search choices depth 14
+returns-then-end-stop c = search choices depth 14
 
 pub returns : goal.returns
 unfolding entering

@@ -2,6 +2,7 @@
 use Rattle.der.proofs.Choices.{choices, told_true, told_false}
 use Rattle.header.specs.Header.{on_first}
 use Rattle.header.proofs.on_first.Goals as goal
+use Rattle.header.proofs.on_first.Goals.{else-deep-via-then-deep+else-most-wide, else-deep-via-else-deep}
 
 pub returns-then-b-eq0 : goal.returns-then-b-eq0
 unfolding on_first
@@ -15,10 +16,10 @@ pub returns-then-most-wide : goal.returns-then-most-wide
 unfolding on_first
 returns-then-most-wide c = search (choices, told_true, told_false) depth 14
 
-pub returns-else-most-wide : goal.returns-else-most-wide
+pub returns : goal.returns
 unfolding on_first
-returns-else-most-wide c = search (choices, told_true, told_false) depth 14
-
-pub returns-else-deep : goal.returns-else-deep
-unfolding on_first
-returns-else-deep c = search (choices, told_true, told_false) depth 14
+returns c =
+    elim c.else-deep.branch [
+      | else-deep-via-then-deep+else-most-wide w ↦ search (choices, told_true, told_false) depth 14
+      | else-deep-via-else-deep w ↦ search (choices, told_true, told_false) depth 14
+    ]

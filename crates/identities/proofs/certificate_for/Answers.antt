@@ -1,24 +1,24 @@
--- The table is not sound, or its rows are paired.
+-- The table is not sound, or its identity rows are paired.
+use Rattle.std.proofs.Common.{ap}
+use Rattle.der.proofs.Choices.{handed_as}
 use Rattle.pairing.specs.Report.{paired_report}
 use Rattle.identities.proofs.Rules.{certificate_unsound, certificate_paired}
-use mathlib.Core.Path.{ap}
 use Rattle.identities.proofs.certificate_for.Goals as goal
 
-pub returns-in-Unsound-clause-value : goal.returns-in-Unsound-clause-value
-returns-in-Unsound-clause-value c = certificate_unsound _ _ _ c.measure.ensures.value _ c.in-Unsound.is
+pub returns-in_err-ok_or-clause-value : goal.returns-in_err-ok_or-clause-value
+returns-in_err-ok_or-clause-value c =
+    handed_as _ c.in_err-ok_or.field-0.0 _
+    (certificate_unsound _ _ _ c.measure.ensures.value _ _ c.ok_or.ensures.value c.refused.ensures _ _
+    c.in_err-ok_or.was)
+    c.from_residual.ensures
 
-pub returns-in-Unsound-clause-report : goal.returns-in-Unsound-clause-report
-returns-in-Unsound-clause-report c = ap paired_report (returns-in-Unsound-clause-value c)
+pub returns-in_err-ok_or-clause-report : goal.returns-in_err-ok_or-clause-report
+returns-in_err-ok_or-clause-report c = ap paired_report (returns-in_err-ok_or-clause-value c)
 
-pub returns-in-Unsound-clause-bytes : goal.returns-in-Unsound-clause-bytes
-returns-in-Unsound-clause-bytes c = c.measure.ensures.bytes
+pub returns-clause-value : goal.returns-clause-value
+returns-clause-value c =
+    certificate_paired _ _ _ c.measure.ensures.value _ _ c.ok_or.ensures.value c.refused.ensures _ _ _ _
+    c.in_ok-ok_or.was c.rows_of.ensures c.pair_all.ensures.value
 
-pub returns-in-Size-clause-value : goal.returns-in-Size-clause-value
-returns-in-Size-clause-value c = certificate_paired _ _ _ c.measure.ensures.value _ c.in-Size.is _ _ _
-    c.rows_of-rows.ensures c.pair_all.ensures.value
-
-pub returns-in-Size-clause-report : goal.returns-in-Size-clause-report
-returns-in-Size-clause-report c = ap paired_report (returns-in-Size-clause-value c)
-
-pub returns-in-Size-clause-bytes : goal.returns-in-Size-clause-bytes
-returns-in-Size-clause-bytes c = c.measure.ensures.bytes
+pub returns-clause-report : goal.returns-clause-report
+returns-clause-report c = ap paired_report (returns-clause-value c)

@@ -1,46 +1,84 @@
--- The rows are stored one by one (Fills).
-use mathlib.Core.Path.{◌≡◌, sym, ap, ◌∙◌}
-use mathlib.Core.List.{List}
-use native.Mathlib.Omega.{arith}
-use lib.ListN.{set}
-use Rattle.der.proofs.Promised.{all_bytes}
+-- The table is not sound, the caller has too few rows, or all rows are stored.
+use Rattle.std.proofs.Common.{List, ◌≤◌, ◌++◌, ◌∙◌, ap, sym, arith, take, drop, length-take}
+use Rattle.std.specs.Prelude.{Err, Ok}
 use Rattle.buffer.specs.Report.{written_report}
-use Rattle.buffer.specs.declared.Written.{Written}
+use Rattle.pkcs12.specs.Numbers.{bag_rows}
 use Rattle.pairing.specs.declared.IdentityRow.{IdentityRow}
-use Rattle.identities.specs.declared.Filling.{Filling}
-use Rattle.identities.proofs.Fills.{stored_to, stored_none, stored_more}
-use Rattle.identities.proofs.Fills.{fill_count, fill_answer, fill_rows}
+use Rattle.identities.specs.Filling.{Filled}
+use Rattle.identities.proofs.Fills.{all_rows, all_stored}
+use Rattle.identities.proofs.Rules.{filling_unsound, filling_few, filling_short, filling_all}
 use Rattle.identities.proofs.fill.Goals as goal
 
-pub loop-i-init : goal.loop-i-init
-loop-i-init c =
-    let few = fill_count c.args.table c.args.bytes.now c.args.out.now in
-    let e = ap (λ (p : Filling). p.count) c.prepared-found.ensures in
-    (omega arith, (omega (arith, few, e), sym (stored_none _ _)))
+pub returns-then-is_none-clause-value : goal.returns-then-is_none-clause-value
+returns-then-is_none-clause-value c =
+    ap Err c.refused.ensures
+    ∙ ap (λ (p : Filled). p.answer)
+    (filling_unsound _ _ _ c.measure.ensures.value _ c.is_none.ensures c.args.out.now c.if-is_none.true)
 
-pub loop-i-preserved : goal.loop-i-preserved
-loop-i-preserved c =
-    let e = ap (λ (l : List IdentityRow). set l c.loop-i.i c.row_at.result) c.loop-i.invariant.1.1 in
-    let f =
-    ap (λ (r : IdentityRow). set (stored_to c.prepared-found.result.rows c.args.out.now c.loop-i.i) c.loop-i.i r)
-    c.row_at.ensures in
-    (omega arith, (c.loop-i.invariant.1.0, e ∙ f ∙ stored_more _ _ _ (omega (arith, c.loop-i.invariant.1.0))))
+pub returns-then-is_none-clause-report : goal.returns-then-is_none-clause-report
+returns-then-is_none-clause-report c = ap written_report (returns-then-is_none-clause-value c)
+
+pub returns-then-is_none-clause-out_after : goal.returns-then-is_none-clause-out_after
+returns-then-is_none-clause-out_after c =
+    ap (λ (p : Filled). p.rows)
+    (filling_unsound _ _ _ c.measure.ensures.value _ c.is_none.ensures c.args.out.now c.if-is_none.true)
+
+pub returns-then-out-count-clause-value : goal.returns-then-out-count-clause-value
+returns-then-out-count-clause-value c =
+    ap Err c.refused-then-out-count.ensures
+    ∙ ap (λ (p : Filled). p.answer)
+    (filling_short _ _ _ c.measure.ensures.value _ c.is_none.ensures c.args.out.now c.if-is_none.false
+    c.if-out-count.true)
+
+pub returns-then-out-count-clause-report : goal.returns-then-out-count-clause-report
+returns-then-out-count-clause-report c = ap written_report (returns-then-out-count-clause-value c)
+
+pub returns-then-out-count-clause-out_after : goal.returns-then-out-count-clause-out_after
+returns-then-out-count-clause-out_after c =
+    ap (λ (p : Filled). p.rows)
+    (filling_short _ _ _ c.measure.ensures.value _ c.is_none.ensures c.args.out.now c.if-is_none.false
+    c.if-out-count.true)
+
+pub slice_bounds-rows-end : goal.slice_bounds-rows-end
+slice_bounds-rows-end c =
+    omega (arith, filling_few _ _ _ c.measure.ensures.value _ c.is_none.ensures c.args.out.now c.if-is_none.false)
+
+pub slice_bounds-copy_from_slice-end-3 : goal.slice_bounds-copy_from_slice-end-3
+slice_bounds-copy_from_slice-end-3 c =
+    omega (
+      arith,
+      filling_few _ _ _ c.measure.ensures.value _ c.is_none.ensures c.args.out.now c.if-is_none.false,
+      length-take {A = IdentityRow},
+    )
+
+pub copy_from_slice-requires : goal.copy_from_slice-requires
+copy_from_slice-requires c =
+    omega (
+      arith,
+      filling_few _ _ _ c.measure.ensures.value _ c.is_none.ensures c.args.out.now c.if-is_none.false,
+      length-take {A = IdentityRow},
+    )
 
 pub returns-clause-value : goal.returns-clause-value
 returns-clause-value c =
-    ap {B = Written} (λ (p : Filling). p.answer) c.prepared-found.ensures
-    ∙ fill_answer c.args.table c.args.bytes.now c.args.out.now
+    let few : c.args.table.bag_count ≤ bag_rows =
+    filling_few _ _ _ c.measure.ensures.value _ c.is_none.ensures c.args.out.now c.if-is_none.false in
+    ap Ok (sym (all_rows c.args.table c.args.bytes.now c.args.out.now few))
+    ∙ ap (λ (p : Filled). p.answer)
+    (filling_all _ _ _ c.measure.ensures.value _ c.is_none.ensures c.args.out.now c.if-is_none.false
+    c.if-out-count.false)
 
 pub returns-clause-report : goal.returns-clause-report
 returns-clause-report c = ap written_report (returns-clause-value c)
 
 pub returns-clause-out_after : goal.returns-clause-out_after
 returns-clause-out_after c =
-    let all : c.loop-i.i ≡ c.prepared-found.result.count = omega (arith, c.loop-i.invariant.0) in
-    c.loop-i.invariant.1.1
-    ∙ ap (stored_to c.prepared-found.result.rows c.args.out.now) all
-    ∙ ap (λ (p : Filling). stored_to p.rows c.args.out.now p.count) c.prepared-found.ensures
-    ∙ fill_rows c.args.table c.args.bytes.now c.args.out.now
-
-pub returns-clause-bytes : goal.returns-clause-bytes
-returns-clause-bytes c = search all_bytes
+    let few : c.args.table.bag_count ≤ bag_rows =
+    filling_few _ _ _ c.measure.ensures.value _ c.is_none.ensures c.args.out.now c.if-is_none.false in
+    ap (λ (xs : List IdentityRow). xs ++ drop c.args.table.bag_count c.args.out.now) c.copy_from_slice.ensures.after
+    ∙ ap (λ (xs : List IdentityRow). take c.args.table.bag_count xs ++ drop c.args.table.bag_count c.args.out.now)
+    c.rows_of-rows.ensures
+    ∙ all_stored c.args.table c.args.bytes.now c.args.out.now few
+    ∙ ap (λ (p : Filled). p.rows)
+    (filling_all _ _ _ c.measure.ensures.value _ c.is_none.ensures c.args.out.now c.if-is_none.false
+    c.if-out-count.false)

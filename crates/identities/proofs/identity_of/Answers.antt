@@ -1,41 +1,22 @@
 -- Opening the bag's attributes was refused or not.
+use Rattle.std.proofs.Common.{ap}
+use Rattle.der.proofs.Choices.{handed_as}
 use Rattle.identities.specs.Report.{identity_report}
-use Rattle.identities.proofs.Rules.{opened_refused, opened_ready, opened_given, opened_done}
-use mathlib.Core.Path.{ap}
+use Rattle.identities.proofs.Rules.{opened_refused, opened_ready}
 use Rattle.identities.proofs.identity_of.Goals as goal
 
-pub returns-in-Refused-clause-value : goal.returns-in-Refused-clause-value
-returns-in-Refused-clause-value c = opened_refused _ _ _ _ c.opening-position.ensures.value _ c.in-Refused.is
+pub returns-in_err-position-clause-value : goal.returns-in_err-position-clause-value
+returns-in_err-position-clause-value c =
+    handed_as _ c.in_err-position.field-0.0 _
+    (opened_refused _ _ _ _ c.opening-position.ensures.value _ c.in_err-position.was)
+    c.from_residual.ensures
 
-pub returns-in-Refused-clause-report : goal.returns-in-Refused-clause-report
-returns-in-Refused-clause-report c = ap identity_report (returns-in-Refused-clause-value c)
+pub returns-in_err-position-clause-report : goal.returns-in_err-position-clause-report
+returns-in_err-position-clause-report c = ap identity_report (returns-in_err-position-clause-value c)
 
-pub returns-in-Refused-clause-bytes : goal.returns-in-Refused-clause-bytes
-returns-in-Refused-clause-bytes c = c.opening-position.ensures.bytes
+pub returns-clause-value : goal.returns-clause-value
+returns-clause-value c =
+    opened_ready _ _ _ _ c.opening-position.ensures.value _ _ c.in_ok-position.was c.row_of.ensures
 
-pub returns-in-Ready-clause-value : goal.returns-in-Ready-clause-value
-returns-in-Ready-clause-value c = opened_ready _ _ _ _ c.opening-position.ensures.value _ c.row_of.ensures c.in-Ready.is
-
-pub returns-in-Ready-clause-report : goal.returns-in-Ready-clause-report
-returns-in-Ready-clause-report c = ap identity_report (returns-in-Ready-clause-value c)
-
-pub returns-in-Ready-clause-bytes : goal.returns-in-Ready-clause-bytes
-returns-in-Ready-clause-bytes c = c.opening-position.ensures.bytes
-
-pub returns-in-Attribute-clause-value : goal.returns-in-Attribute-clause-value
-returns-in-Attribute-clause-value c = opened_given _ _ _ _ c.opening-position.ensures.value _ c.row_of-in-Attribute.ensures _ c.in-Attribute.is
-
-pub returns-in-Attribute-clause-report : goal.returns-in-Attribute-clause-report
-returns-in-Attribute-clause-report c = ap identity_report (returns-in-Attribute-clause-value c)
-
-pub returns-in-Attribute-clause-bytes : goal.returns-in-Attribute-clause-bytes
-returns-in-Attribute-clause-bytes c = c.opening-position.ensures.bytes
-
-pub returns-in-Done-clause-value : goal.returns-in-Done-clause-value
-returns-in-Done-clause-value c = opened_done _ _ _ _ c.opening-position.ensures.value _ c.row_of-in-Done.ensures c.in-Done.is
-
-pub returns-in-Done-clause-report : goal.returns-in-Done-clause-report
-returns-in-Done-clause-report c = ap identity_report (returns-in-Done-clause-value c)
-
-pub returns-in-Done-clause-bytes : goal.returns-in-Done-clause-bytes
-returns-in-Done-clause-bytes c = c.opening-position.ensures.bytes
+pub returns-clause-report : goal.returns-clause-report
+returns-clause-report c = ap identity_report (returns-clause-value c)

@@ -1,12 +1,12 @@
 -- The row names the bag, and then its type is localKeyID or another.
-use Rattle.identities.specs.Identities.{local_key_type}
-use Rattle.identities.proofs.Rules.{local_named, local_other}
+use Rattle.std.proofs.Common.{arith}
+use Rattle.identities.specs.Identities.{local_key_type, is_local_key}
 use Rattle.identities.proofs.is_local_key.Goals as goal
 
-pub returns-then-owner-bag : goal.returns-then-owner-bag
-unfolding local_key_type
-returns-then-owner-bag c = local_named _ _ _ _ _ c.if-owner-bag.true
-    c.part.ensures c.same.ensures
+pub returns-then-row-bag : goal.returns-then-row-bag
+unfolding is_local_key local_key_type
+returns-then-row-bag c = grind arith
 
-pub returns : goal.returns
-returns c = local_other _ _ _ c.if-owner-bag.false
+pub returns-else-row-bag : goal.returns-else-row-bag
+unfolding is_local_key
+returns-else-row-bag c = grind arith

@@ -4,4 +4,4 @@ use Rattle.identities.proofs.row_of.Goals as goal
 
 pub returns : goal.returns
 unfolding identity_of
-returns c = rw (c.kind_of-kind.ensures, c.id_of-found.ensures)
+returns c = cc

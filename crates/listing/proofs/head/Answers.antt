@@ -7,5 +7,5 @@ pub returns : goal.returns
 unfolding head_lines
 returns c =
     c.file_line-first.ensures
-    then (rw (c.fewer-safes.ensures, c.fewer-bags.ensures, c.fewer-attributes.ensures) at c.counts_line-second.ensures)
+    then (rw (c.min-safes.ensures, c.min-bags.ensures, c.min-attributes.ensures) at c.counts_line-second.ensures)
     then c.mac_line.ensures

@@ -18,11 +18,11 @@ returns-then-out-n-clause-out_after c = (too_short _ _ _ c.measured-n.ensures (o
 
 pub returns-clause-value : goal.returns-clause-value
 unfolding listing
-returns-clause-value c = (wrote _ _ _ c.measured-n.ensures c.if-out-n.false (counted _ _) _ _ c.answered-end.ensures).0
+returns-clause-value c = (wrote _ _ _ c.measured-n.ensures c.if-out-n.false (counted _ _) _ _ c.answered.ensures).0
 
 pub returns-clause-report : goal.returns-clause-report
 returns-clause-report c = ap written_report (returns-clause-value c)
 
 pub returns-clause-out_after : goal.returns-clause-out_after
 unfolding listing
-returns-clause-out_after c = (wrote _ _ _ c.measured-n.ensures c.if-out-n.false (counted _ _) _ _ c.answered-end.ensures).1
+returns-clause-out_after c = (wrote _ _ _ c.measured-n.ensures c.if-out-n.false (counted _ _) _ _ c.answered.ensures).1

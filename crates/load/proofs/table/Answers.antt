@@ -6,5 +6,5 @@ use Rattle.load.proofs.table.Goals as goal
 pub returns : goal.returns
 returns c =
     table_read _ _ (omega (arith, c.word-safe_count.ensures)) (omega (arith, c.word-bag_count.ensures))
-    (omega (arith, c.word-attribute_count.ensures)) (omega (arith, c.word-elements.ensures)) c.safes-safes.ensures c.bags-bags.ensures
-    c.attributes-attributes.ensures c.mac-mac.ensures c.range-mac_input.ensures
+    (omega (arith, c.word-attribute_count.ensures)) (omega (arith, c.word.ensures)) c.rows.ensures c.rows-2.ensures
+    c.rows-3.ensures c.mac.ensures c.range.ensures

@@ -3,7 +3,7 @@ use mathlib.Core.Path.{ap, ◌∙◌}
 use Rattle.p12.specs.Calls.{paired_number, paired_row}
 use Rattle.der.proofs.Promised.{all_bytes}
 use Rattle.pairing.specs.Report.{paired_report}
-use Rattle.p12.proofs.Gives.{certificate_short, certificate_of}
+use Rattle.p12.proofs.Gives.{certificate_short, certificate_of, paired_told}
 use Rattle.p12.proofs.p12_certificate_for.Goals as goal
 
 pub returns-then-is_short-clause-value : goal.returns-then-is_short-clause-value
@@ -25,12 +25,12 @@ returns-then-is_short-clause-bytes c = search all_bytes
 pub returns-clause-value : goal.returns-clause-value
 returns-clause-value c =
     let g = certificate_of _ _ _ c.is_short.ensures c.if-is_short.false _ c.table.ensures _ _ c.certificate_for-paired.ensures.value in
-    c.paired_number.ensures ∙ ap paired_number g
+    c.number_of.ensures ∙ paired_told _ ∙ ap paired_number g
 
 pub returns-clause-bag_after : goal.returns-clause-bag_after
 returns-clause-bag_after c =
     let g = certificate_of _ _ _ c.is_short.ensures c.if-is_short.false _ c.table.ensures _ _ c.certificate_for-paired.ensures.value in
-    c.paired_row.ensures ∙ ap paired_row g
+    c.row_of.ensures ∙ ap paired_row g
 
 pub returns-clause-bytes : goal.returns-clause-bytes
 returns-clause-bytes c = search all_bytes

@@ -17,15 +17,15 @@ returns-then-is_short-clause-bytes c = search all_bytes
 
 pub returns-clause-value : goal.returns-clause-value
 returns-clause-value c = (write_wrote _ _ _ c.is_short.ensures c.if-is_short.false _ c.table.ensures _ _ _
-    c.write-file.ensures.value c.write-file.ensures.out_after _ c.written_number.ensures _ c.length_of.ensures).0
+    c.write-file.ensures.value c.write-file.ensures.out_after _ c.number_of.ensures _ c.length_of.ensures).0
 
 pub returns-clause-out_after : goal.returns-clause-out_after
 returns-clause-out_after c = (write_wrote _ _ _ c.is_short.ensures c.if-is_short.false _ c.table.ensures _ _ _
-    c.write-file.ensures.value c.write-file.ensures.out_after _ c.written_number.ensures _ c.length_of.ensures).1.0
+    c.write-file.ensures.value c.write-file.ensures.out_after _ c.number_of.ensures _ c.length_of.ensures).1.0
 
 pub returns-clause-written_after : goal.returns-clause-written_after
 returns-clause-written_after c = (write_wrote _ _ _ c.is_short.ensures c.if-is_short.false _ c.table.ensures _ _ _
-    c.write-file.ensures.value c.write-file.ensures.out_after _ c.written_number.ensures _ c.length_of.ensures).1.1
+    c.write-file.ensures.value c.write-file.ensures.out_after _ c.number_of.ensures _ c.length_of.ensures).1.1
 
 pub returns-clause-bytes : goal.returns-clause-bytes
 returns-clause-bytes c = search all_bytes

@@ -1,10 +1,6 @@
-use Prim.Native.Nat.{◌-◌}
 use Rattle.buffer.proofs.Rows.{Lined}
 use Rattle.pair_lines.specs.Lines.{pair_row_line}
 use Rattle.pair_lines.proofs.bag_lines.Given as goal
 
 abbrev pub invariant-loop-i : goal.invariant-loop-i
 invariant-loop-i l = Lined (pair_row_line l.table l.file) l.initial.out 0 l.n l.out l.to l.i
-
-abbrev pub decreases-loop-i : goal.decreases-loop-i
-decreases-loop-i l = l.n - l.i

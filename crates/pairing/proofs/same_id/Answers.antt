@@ -1,16 +1,12 @@
--- Each way out is the definition's, by the tests on the way.
+-- Either way out is the definition's, by which ids there are.
+use Rattle.std.proofs.Common.{arith}
 use Rattle.pairing.specs.Pairs.{same_id}
-use Rattle.pairing.proofs.Rules.{pairs}
 use Rattle.pairing.proofs.same_id.Goals as goal
 
-pub returns-then-not-key : goal.returns-then-not-key
+pub returns-then-row : goal.returns-then-row
 unfolding same_id
-returns-then-not-key c = search pairs depth 14
+returns-then-row c = grind arith
 
-pub returns-then-not-row : goal.returns-then-not-row
+pub returns-else-row : goal.returns-else-row
 unfolding same_id
-returns-then-not-row c = search pairs depth 14
-
-pub returns : goal.returns
-unfolding same_id
-returns c = search pairs depth 14
+returns-else-row c = grind arith

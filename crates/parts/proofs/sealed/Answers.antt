@@ -5,17 +5,17 @@ use Rattle.parts.proofs.Rules.{long_file, short_file}
 use mathlib.Core.Path.{ap}
 use Rattle.parts.proofs.sealed.Goals as goal
 
-pub returns-then-s-gt-FILE_BYTES-clause-value : goal.returns-then-s-gt-FILE_BYTES-clause-value
-returns-then-s-gt-FILE_BYTES-clause-value c = search long_file
+pub returns-in_default-clause-value : goal.returns-in_default-clause-value
+returns-in_default-clause-value c = search (long_file, c.in_default.ensures.none.0)
 
-pub returns-then-s-gt-FILE_BYTES-clause-report : goal.returns-then-s-gt-FILE_BYTES-clause-report
-returns-then-s-gt-FILE_BYTES-clause-report c = ap parts_report (returns-then-s-gt-FILE_BYTES-clause-value c)
+pub returns-in_default-clause-report : goal.returns-in_default-clause-report
+returns-in_default-clause-report c = ap parts_report (returns-in_default-clause-value c)
 
-pub returns-then-s-gt-FILE_BYTES-clause-bytes : goal.returns-then-s-gt-FILE_BYTES-clause-bytes
-returns-then-s-gt-FILE_BYTES-clause-bytes c = search all_bytes
+pub returns-in_default-clause-bytes : goal.returns-in_default-clause-bytes
+returns-in_default-clause-bytes c = search all_bytes
 
 pub returns-clause-value : goal.returns-clause-value
-returns-clause-value c = search short_file
+returns-clause-value c = rw (← c.in-Some.ensures.same) (search short_file)
 
 pub returns-clause-report : goal.returns-clause-report
 returns-clause-report c = ap parts_report (returns-clause-value c)

@@ -13,13 +13,11 @@ fill-answer-requires c = refl
 
 pub returns-clause-value : goal.returns-clause-value
 returns-clause-value c =
-    let y = c.fill-answer.ensures.bytes in
-    read_value _ y _ c.fill-answer.ensures.value _ c.fill-answer.ensures.memory_after _ c.table-table.ensures
+    read_value _ c.fill-answer.ensures.bytes _ c.fill-answer.ensures.value _ c.fill-answer.ensures.memory_after _
+    c.table-table.ensures
 
 pub returns-clause-answer_value : goal.returns-clause-answer_value
 returns-clause-answer_value c = ap (λ r. answer_report r.answer) (returns-clause-value c)
 
 pub returns-clause-bytes : goal.returns-clause-bytes
-returns-clause-bytes c =
-    let y = c.fill-answer.ensures.bytes in
-    y
+returns-clause-bytes c = c.fill-answer.ensures.bytes

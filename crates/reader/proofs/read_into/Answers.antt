@@ -14,24 +14,15 @@ use Rattle.reader.proofs.read_into.Goals as goal
 
 pub returns-then-memory-lt-TABLE_WORDS-clause-value : goal.returns-then-memory-lt-TABLE_WORDS-clause-value
 returns-then-memory-lt-TABLE_WORDS-clause-value c =
-    let z = into_short _ c.args.memory.now c.if-memory-lt-TABLE_WORDS.true in
-    let x = sym (ap (λ (y : Into). y.answer)
-    z) in
-    x
+    sym (ap (λ (y : Into). y.answer) (into_short _ c.args.memory.now c.if-memory-lt-TABLE_WORDS.true))
 
 pub returns-then-memory-lt-TABLE_WORDS-clause-report : goal.returns-then-memory-lt-TABLE_WORDS-clause-report
 returns-then-memory-lt-TABLE_WORDS-clause-report c =
-    let z = into_short _ c.args.memory.now c.if-memory-lt-TABLE_WORDS.true in
-    let x = sym (ap (λ (y : Into). y.answer)
-    z) in
-    ap answer_report x
+    ap answer_report (returns-then-memory-lt-TABLE_WORDS-clause-value c)
 
 pub returns-then-memory-lt-TABLE_WORDS-clause-memory_after : goal.returns-then-memory-lt-TABLE_WORDS-clause-memory_after
 returns-then-memory-lt-TABLE_WORDS-clause-memory_after c =
-    let z = into_short _ c.args.memory.now c.if-memory-lt-TABLE_WORDS.true in
-    let x = sym (ap (λ (y : Into). y.answer)
-    z) in
-    sym (ap (λ (y : Into). y.memory) z)
+    sym (ap (λ (y : Into). y.memory) (into_short _ c.args.memory.now c.if-memory-lt-TABLE_WORDS.true))
 
 pub returns-then-memory-lt-TABLE_WORDS-clause-bytes : goal.returns-then-memory-lt-TABLE_WORDS-clause-bytes
 returns-then-memory-lt-TABLE_WORDS-clause-bytes c = search all_bytes
@@ -46,27 +37,16 @@ fill-requires c =
 
 pub returns-clause-value : goal.returns-clause-value
 returns-clause-value c =
-    let z = into_whole _ c.args.memory.now c.if-memory-lt-TABLE_WORDS.false in
-    let x = c.fill.ensures.value ∙ sym (ap (λ
-    (y : Into). y.answer) z) in
-    let y = ap (λ (l : List ℕ). l ++ drop table_words c.args.memory.now) c.fill.ensures.memory_after ∙ sym (ap (λ (y : Into). y.memory) z) in
-    x
+    c.fill.ensures.value
+    ∙ sym (ap (λ (y : Into). y.answer) (into_whole _ c.args.memory.now c.if-memory-lt-TABLE_WORDS.false))
 
 pub returns-clause-report : goal.returns-clause-report
-returns-clause-report c =
-    let z = into_whole _ c.args.memory.now c.if-memory-lt-TABLE_WORDS.false in
-    let x = c.fill.ensures.value ∙ sym (ap (λ
-    (y : Into). y.answer) z) in
-    let y = ap (λ (l : List ℕ). l ++ drop table_words c.args.memory.now) c.fill.ensures.memory_after ∙ sym (ap (λ (y : Into). y.memory) z) in
-    ap answer_report x
+returns-clause-report c = ap answer_report (returns-clause-value c)
 
 pub returns-clause-memory_after : goal.returns-clause-memory_after
 returns-clause-memory_after c =
-    let z = into_whole _ c.args.memory.now c.if-memory-lt-TABLE_WORDS.false in
-    let x = c.fill.ensures.value ∙ sym (ap (λ
-    (y : Into). y.answer) z) in
-    let y = ap (λ (l : List ℕ). l ++ drop table_words c.args.memory.now) c.fill.ensures.memory_after ∙ sym (ap (λ (y : Into). y.memory) z) in
-    y
+    ap (λ (l : List ℕ). l ++ drop table_words c.args.memory.now) c.fill.ensures.memory_after
+    ∙ sym (ap (λ (y : Into). y.memory) (into_whole _ c.args.memory.now c.if-memory-lt-TABLE_WORDS.false))
 
 pub returns-clause-bytes : goal.returns-clause-bytes
 returns-clause-bytes c = c.fill.ensures.bytes

@@ -1,13 +1,9 @@
 -- By the kind.
-use Rattle.sizes.proofs.Leaves.{content_none, content_nested, content_key, content_shrouded}
-use Rattle.sizes.proofs.Leaves.{content_certificate, content_crl, content_secret}
+use Rattle.sizes.proofs.Leaves.{content_nothing, content_key, content_shrouded, content_typed}
 use Rattle.sizes.proofs.content.Goals as goal
 
 pub returns-in-None : goal.returns-in-None
-returns-in-None c = search content_none
-
-pub returns-in-Nested : goal.returns-in-Nested
-returns-in-Nested c = search content_nested
+returns-in-None c = search content_nothing
 
 pub returns-in-Key : goal.returns-in-Key
 returns-in-Key c = search content_key
@@ -16,10 +12,4 @@ pub returns-in-ShroudedKey : goal.returns-in-ShroudedKey
 returns-in-ShroudedKey c = search content_shrouded
 
 pub returns-in-Certificate : goal.returns-in-Certificate
-returns-in-Certificate c = search content_certificate
-
-pub returns-in-Crl : goal.returns-in-Crl
-returns-in-Crl c = search content_crl
-
-pub returns-in-Secret : goal.returns-in-Secret
-returns-in-Secret c = search content_secret
+returns-in-Certificate c = search content_typed

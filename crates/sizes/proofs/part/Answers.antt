@@ -4,4 +4,4 @@ use lib.ListN.{length}
 use Rattle.sizes.proofs.part.Goals as goal
 
 pub returns : goal.returns
-returns c = ap length c.part-named.ensures
+returns c = ap length c.part.ensures

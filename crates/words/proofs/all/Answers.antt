@@ -4,5 +4,5 @@ use Rattle.words.proofs.all.Goals as goal
 
 pub returns : goal.returns
 returns c =
-    table_stored c.args.table _ _ _ _ _ _ c.requires c.input.ensures c.safes.ensures c.bags.ensures
-    c.attributes.ensures c.finish.ensures
+    table_stored c.args.table _ _ _ _ _ _ c.requires c.input.ensures c.rows.ensures c.rows-2.ensures
+    c.rows-3.ensures c.finish.ensures

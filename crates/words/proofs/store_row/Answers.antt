@@ -30,4 +30,4 @@ returns-clause-report c = ap written_report (returns-clause-value c)
 pub returns-clause-out_after : goal.returns-clause-out_after
 returns-clause-out_after c =
     let x = c.args.row in
-    row_memory x _ (omega (arith, c.if-out-lt-ATTRIBUTE_WIDTH.false)) _ c.attribute.ensures
+    row_memory x _ (omega (arith, c.if-out-lt-ATTRIBUTE_WIDTH.false)) _ c.put.ensures

@@ -1,8 +1,8 @@
--- The two halves one behind another.
-use Rattle.buffer.specs.BigEndian.{u32_octets}
-use Rattle.buffer.proofs.Placing.{◌then◌}
+-- The bytes of the number, high first.
+use native.Mathlib.Omega.{arith}
+use Rattle.buffer.proofs.Placing.{placed_as}
+use Rattle.buffer.proofs.Writes.{four_octets}
 use Rattle.buffer.proofs.write.u32_be.Goals as goal
 
 pub returns : goal.returns
-unfolding u32_octets
-returns c = c.u16_be-third.ensures then c.u16_be.ensures
+returns c = placed_as (four_octets _ _ (omega arith) c.to_be_bytes-four.ensures) c.bytes.ensures

@@ -1,36 +1,51 @@
--- One test after another.
-use Rattle.der.proofs.Choices.{choices}
-use Rattle.cells.specs.Cells.{due_of}
+-- By the kind.
+use native.Mathlib.Omega.{arith}
+use mathlib.Core.Path.{refl}
+use Rattle.der.proofs.Choices.{at_ne}
+use Rattle.cells.specs.Cells.{due_of, refusal_of}
 use Rattle.cells.proofs.load.due_of.Goals as goal
 
-pub returns-then-kind-eq-TAG : goal.returns-then-kind-eq-TAG
-unfolding due_of
-returns-then-kind-eq-TAG c = search choices depth 14
+pub returns-in-1 : goal.returns-in-1
+unfolding due_of refusal_of
+returns-in-1 c = rw c.in-1.is
 
-pub returns-then-kind-eq-LENGTH : goal.returns-then-kind-eq-LENGTH
-unfolding due_of
-returns-then-kind-eq-LENGTH c = search choices depth 14
+pub returns-in-2 : goal.returns-in-2
+unfolding due_of refusal_of
+returns-in-2 c = rw c.in-2.is
 
-pub returns-then-kind-eq-ONE : goal.returns-then-kind-eq-ONE
-unfolding due_of
-returns-then-kind-eq-ONE c = search choices depth 14
+pub returns-in-3 : goal.returns-in-3
+unfolding due_of refusal_of
+returns-in-3 c = rw c.in-3.is
 
-pub returns-then-kind-eq-FIRST : goal.returns-then-kind-eq-FIRST
-unfolding due_of
-returns-then-kind-eq-FIRST c = search choices depth 14
+pub returns-in-4 : goal.returns-in-4
+unfolding due_of refusal_of
+returns-in-4 c = rw c.in-4.is
 
-pub returns-then-kind-eq-SECOND : goal.returns-then-kind-eq-SECOND
-unfolding due_of
-returns-then-kind-eq-SECOND c = search choices depth 14
+pub returns-in-5 : goal.returns-in-5
+unfolding due_of refusal_of
+returns-in-5 c = rw c.in-5.is
 
-pub returns-then-kind-eq-BODY : goal.returns-then-kind-eq-BODY
-unfolding due_of
-returns-then-kind-eq-BODY c = search choices depth 14
+pub returns-in-6 : goal.returns-in-6
+unfolding due_of refusal_of
+returns-in-6 c = rw c.in-6.is
 
-pub returns-then-kind-eq-NOTHING : goal.returns-then-kind-eq-NOTHING
-unfolding due_of
-returns-then-kind-eq-NOTHING c = search choices depth 14
+pub returns-in-7 : goal.returns-in-7
+unfolding due_of refusal_of
+returns-in-7 c = rw c.in-7.is
 
-pub returns : goal.returns
-unfolding due_of
-returns c = search choices depth 14
+pub returns-in-8 : goal.returns-in-8
+unfolding due_of refusal_of
+returns-in-8 c = rw c.in-8.is
+
+pub returns-in_default : goal.returns-in_default
+unfolding due_of refusal_of
+returns-in_default c =
+    let k = c.args.p.kind in
+    at_ne k 1 _ _ _ (λ h. omega arith)
+    (at_ne k 2 _ _ _ (λ h. omega arith)
+    (at_ne k 3 _ _ _ (λ h. omega arith)
+    (at_ne k 4 _ _ _ (λ h. omega arith)
+    (at_ne k 5 _ _ _ (λ h. omega arith)
+    (at_ne k 6 _ _ _ (λ h. omega arith)
+    (at_ne k 7 _ _ _ (λ h. omega arith)
+    (at_ne k 8 _ _ _ (λ h. omega arith) refl)))))))

@@ -1,46 +1,34 @@
--- For a tag of a good form the element is read back from its code.
-use Rattle.der.proofs.Dues.{good_tag, expect_told, expect_taken, due_header}
+-- The tag is compared once the element was found.
+use Rattle.der.proofs.Choices.{choices}
+use Rattle.der.specs.Element.{expect_at}
 use Rattle.der.proofs.Promised.{all_bytes}
 use Rattle.der.specs.Report.{element_report}
-use borrow.Author.Rules.{rules}
 use mathlib.Core.Path.{ap}
 use Rattle.der.proofs.Cursor.expect.Goals as goal
 
-pub returns-then-due-eq0-clause-value : goal.returns-then-due-eq0-clause-value
-returns-then-due-eq0-clause-value c = search rules
+pub returns-in_err-found-clause-value : goal.returns-in_err-found-clause-value
+unfolding expect_at
+returns-in_err-found-clause-value c = search (choices, c.in_err-found.was) depth 14
 
-pub returns-then-due-eq0-clause-report : goal.returns-then-due-eq0-clause-report
-returns-then-due-eq0-clause-report c = ap element_report (returns-then-due-eq0-clause-value c)
+pub returns-in_err-found-clause-report : goal.returns-in_err-found-clause-report
+returns-in_err-found-clause-report c = ap element_report (returns-in_err-found-clause-value c)
 
-pub returns-then-due-eq0-clause-bytes : goal.returns-then-due-eq0-clause-bytes
-returns-then-due-eq0-clause-bytes c = search all_bytes
+pub returns-in_err-found-clause-bytes : goal.returns-in_err-found-clause-bytes
+returns-in_err-found-clause-bytes c = search all_bytes
 
-pub returns-then-due-eq31-clause-value : goal.returns-then-due-eq31-clause-value
-returns-then-due-eq31-clause-value c = search rules
+pub returns-then-found-due-clause-value : goal.returns-then-found-due-clause-value
+unfolding expect_at
+returns-then-found-due-clause-value c = search (choices, c.in_ok-found.was) depth 14
 
-pub returns-then-due-eq31-clause-report : goal.returns-then-due-eq31-clause-report
-returns-then-due-eq31-clause-report c = ap element_report (returns-then-due-eq31-clause-value c)
+pub returns-then-found-due-clause-report : goal.returns-then-found-due-clause-report
+returns-then-found-due-clause-report c = ap element_report (returns-then-found-due-clause-value c)
 
-pub returns-then-due-eq31-clause-bytes : goal.returns-then-due-eq31-clause-bytes
-returns-then-due-eq31-clause-bytes c = search all_bytes
-
-pub scan_due-code-requires : goal.scan_due-code-requires
-scan_due-code-requires c = search good_tag
-
-pub returns-then-code-lt-CODES-clause-value : goal.returns-then-code-lt-CODES-clause-value
-returns-then-code-lt-CODES-clause-value c = search expect_told
-
-pub returns-then-code-lt-CODES-clause-report : goal.returns-then-code-lt-CODES-clause-report
-returns-then-code-lt-CODES-clause-report c = ap element_report (returns-then-code-lt-CODES-clause-value c)
-
-pub returns-then-code-lt-CODES-clause-bytes : goal.returns-then-code-lt-CODES-clause-bytes
-returns-then-code-lt-CODES-clause-bytes c = search all_bytes
-
-pub start_of-start-requires : goal.start_of-start-requires
-start_of-start-requires c = search due_header
+pub returns-then-found-due-clause-bytes : goal.returns-then-found-due-clause-bytes
+returns-then-found-due-clause-bytes c = search all_bytes
 
 pub returns-clause-value : goal.returns-clause-value
-returns-clause-value c = search expect_taken
+unfolding expect_at
+returns-clause-value c = search (choices, c.in_ok-found.was) depth 14
 
 pub returns-clause-report : goal.returns-clause-report
 returns-clause-report c = ap element_report (returns-clause-value c)

@@ -1,24 +1,38 @@
--- The identifier is read back from its code.
-use Rattle.der.proofs.Dues.{identifier_told, identifier_taken, due_header}
+-- The body is tested once the element was found.
+use Rattle.der.proofs.Choices.{choices, told_true, told_false}
+use Rattle.der.specs.Content.{identifier_at}
+use Rattle.der.proofs.Placed.{expected_inside}
 use Rattle.der.proofs.Promised.{all_bytes}
 use Rattle.der.specs.Report.{element_report}
 use mathlib.Core.Path.{ap}
 use Rattle.der.proofs.Cursor.identifier.Goals as goal
 
-pub returns-then-code-lt-CODES-clause-value : goal.returns-then-code-lt-CODES-clause-value
-returns-then-code-lt-CODES-clause-value c = search identifier_told
+pub returns-in_err-found-clause-value : goal.returns-in_err-found-clause-value
+unfolding identifier_at
+returns-in_err-found-clause-value c = search (choices, c.in_err-found.was) depth 14
 
-pub returns-then-code-lt-CODES-clause-report : goal.returns-then-code-lt-CODES-clause-report
-returns-then-code-lt-CODES-clause-report c = ap element_report (returns-then-code-lt-CODES-clause-value c)
+pub returns-in_err-found-clause-report : goal.returns-in_err-found-clause-report
+returns-in_err-found-clause-report c = ap element_report (returns-in_err-found-clause-value c)
 
-pub returns-then-code-lt-CODES-clause-bytes : goal.returns-then-code-lt-CODES-clause-bytes
-returns-then-code-lt-CODES-clause-bytes c = search all_bytes
+pub returns-in_err-found-clause-bytes : goal.returns-in_err-found-clause-bytes
+returns-in_err-found-clause-bytes c = search all_bytes
 
-pub start_of-start-requires : goal.start_of-start-requires
-start_of-start-requires c = search due_header
+pub is_identifier-requires : goal.is_identifier-requires
+is_identifier-requires c = search (expected_inside, c.in_ok-found.was)
+
+pub returns-then-is_identifier-clause-value : goal.returns-then-is_identifier-clause-value
+unfolding identifier_at
+returns-then-is_identifier-clause-value c = search (choices, told_true, c.in_ok-found.was) depth 14
+
+pub returns-then-is_identifier-clause-report : goal.returns-then-is_identifier-clause-report
+returns-then-is_identifier-clause-report c = ap element_report (returns-then-is_identifier-clause-value c)
+
+pub returns-then-is_identifier-clause-bytes : goal.returns-then-is_identifier-clause-bytes
+returns-then-is_identifier-clause-bytes c = search all_bytes
 
 pub returns-clause-value : goal.returns-clause-value
-returns-clause-value c = search identifier_taken
+unfolding identifier_at
+returns-clause-value c = search (choices, told_false, c.in_ok-found.was) depth 14
 
 pub returns-clause-report : goal.returns-clause-report
 returns-clause-report c = ap element_report (returns-clause-value c)

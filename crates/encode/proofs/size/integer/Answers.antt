@@ -9,5 +9,5 @@ returns-then-first-lt128 c = search integer_plain
 pub overflow_add-result : goal.overflow_add-result
 overflow_add-result c = omega (arith, count_few _ _ c.count-octets.ensures (omega arith))
 
-pub returns : goal.returns
-returns c = search integer_led
+pub returns-else-first-lt128 : goal.returns-else-first-lt128
+returns-else-first-lt128 c = search integer_led

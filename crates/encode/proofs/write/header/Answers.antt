@@ -13,8 +13,8 @@ returns-then-n-lt128 c =
 pub overflow_add-form : goal.overflow_add-form
 overflow_add-form c = omega (arith, count_few _ _ c.count-form.ensures (omega arith))
 
-pub overflow_cast-long : goal.overflow_cast-long
-overflow_cast-long c = omega (arith, count_few _ _ c.count-form.ensures (omega arith))
+pub overflow_cast-form : goal.overflow_cast-form
+overflow_cast-form c = omega (arith, count_few _ _ c.count-form.ensures (omega arith))
 
 pub returns : goal.returns
 returns c =

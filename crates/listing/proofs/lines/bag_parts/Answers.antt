@@ -2,11 +2,12 @@
 use Rattle.buffer.specs.Text.{ascii}
 use Rattle.listing.specs.Lines.{parts_text}
 use Rattle.buffer.proofs.Placing.{placed_nothing}
+use mathlib.Core.Logic.{inl, inr}
 use Rattle.listing.proofs.lines.bag_parts.Goals as goal
 
 pub returns-in-None : goal.returns-in-None
 unfolding parts_text
-returns-in-None c = rw c.in-None.is (placed_nothing _ _)
+returns-in-None c = elim c.in-None.is [ inl e ↦ rw e (placed_nothing _ _) | inr e ↦ rw e (placed_nothing _ _) ]
 
 pub returns-in-Key : goal.returns-in-Key
 unfolding ascii parts_text
@@ -18,16 +19,8 @@ returns-in-ShroudedKey c = rw c.in-ShroudedKey.is c.sealed.ensures
 
 pub returns-in-Certificate : goal.returns-in-Certificate
 unfolding parts_text
-returns-in-Certificate c = rw c.in-Certificate.is c.typed.ensures
-
-pub returns-in-Crl : goal.returns-in-Crl
-unfolding parts_text
-returns-in-Crl c = rw c.in-Crl.is c.typed-in-Crl.ensures
-
-pub returns-in-Secret : goal.returns-in-Secret
-unfolding parts_text
-returns-in-Secret c = rw c.in-Secret.is c.typed-in-Secret.ensures
-
-pub returns-in-Nested : goal.returns-in-Nested
-unfolding parts_text
-returns-in-Nested c = rw c.in-Nested.is (placed_nothing _ _)
+returns-in-Certificate c =
+    elim c.in-Certificate.is [
+      | inl e ↦ rw e c.typed.ensures
+      | inr o ↦ elim o [ inl e ↦ rw e c.typed.ensures | inr e ↦ rw e c.typed.ensures ]
+    ]

@@ -7,6 +7,6 @@ pub returns-then-has_set : goal.returns-then-has_set
 unfolding ascii set_text
 returns-then-has_set c = rw c.if-has_set.true c.number.ensures
 
-pub returns : goal.returns
+pub returns-else-has_set : goal.returns-else-has_set
 unfolding ascii set_text
-returns c = rw c.if-has_set.false c.bytes.ensures
+returns-else-has_set c = rw c.if-has_set.false c.bytes.ensures

@@ -7,6 +7,6 @@ pub returns-in-None : goal.returns-in-None
 unfolding ascii enclosing_text
 returns-in-None c = rw c.in-None.is c.bytes.ensures
 
-pub returns-in-Bag : goal.returns-in-Bag
+pub returns-in-Some : goal.returns-in-Some
 unfolding ascii enclosing_text
-returns-in-Bag c = rw c.in-Bag.is c.number.ensures
+returns-in-Some c = rw c.in-Some.is c.number.ensures

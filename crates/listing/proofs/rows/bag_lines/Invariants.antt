@@ -1,10 +1,6 @@
-use Prim.Native.Nat.{◌-◌}
 use Rattle.listing.specs.Lines.{bag_row_line}
 use Rattle.buffer.proofs.Rows.{Lined}
 use Rattle.listing.proofs.rows.bag_lines.Given as goal
 
 abbrev pub invariant-loop-i : goal.invariant-loop-i
-invariant-loop-i l = Lined (bag_row_line l.table) l.initial.out l.at l.n l.out l.to l.i
-
-abbrev pub decreases-loop-i : goal.decreases-loop-i
-decreases-loop-i l = l.n - l.i
+invariant-loop-i l = Lined (bag_row_line l.fn.table) l.initial.out l.at l.n l.out l.to l.i

@@ -1,18 +1,18 @@
--- The loop counts the rows that name the bag.
+-- The rows that name the bag are counted.
+use Prim.Native.Nat.{◌≤◌}
+use mathlib.Core.Path.{◌≡◌}
 use native.Mathlib.Omega.{arith}
-use Rattle.listing.proofs.Loops.{own_start, own_turn, own_end}
+use lib.Dec.{eqb}
+use lib.ListN.{length, take}
+use borrow.Author.Rules.{rules}
+use Rattle.std.specs.List.{count_by}
+use Rattle.std.proofs.lemmas.List.{length-take}
+use Rattle.pkcs12.specs.declared.row.AttributeRow.{AttributeRow}
+use Rattle.listing.proofs.Loops.{own_counted}
 use Rattle.listing.proofs.rows.own_attributes.Goals as goal
 
-pub loop-i-init : goal.loop-i-init
-loop-i-init c = own_start _ _ _
-
-pub overflow_add-own : goal.overflow_add-own
-overflow_add-own c =
-    omega (arith, (own_turn _ _ _ _ _ c.loop-i.invariant _ c.loop-i-test.true c.one_if_own-own.ensures).few)
-
-pub loop-i-preserved : goal.loop-i-preserved
-loop-i-preserved c =
-    own_turn _ _ _ _ _ c.loop-i.invariant _ c.loop-i-test.true c.one_if_own-own.ensures
-
 pub returns : goal.returns
-returns c = own_end _ _ _ _ _ c.loop-i.invariant _ c.fewer-n.ensures c.loop-i-test.false
+returns c =
+    let h : c.min-n.result ≤ length c.args.table.attributes = omega (arith, length-take c.min-n.result c.args.table.attributes) in
+    let k : c.count.result ≡ count_by (λ (r : AttributeRow). eqb r.bag c.args.bag) (take c.min-n.result c.args.table.attributes) = search rules in
+    own_counted _ _ _ _ _ h c.min-n.ensures k

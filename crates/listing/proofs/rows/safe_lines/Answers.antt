@@ -1,6 +1,9 @@
 -- The loop writes a line for each row.
 use Rattle.buffer.proofs.Rows.{lines_start, lines_turn, lines_end}
 use borrow.Author.Rules.{rules}
+use Prim.Native.Nat.{◌<◌, ◌≤◌}
+use native.Mathlib.Omega.{arith}
+use Rattle.std.proofs.lemmas.List.{length-take, get_or-take}
 use Rattle.listing.proofs.rows.safe_lines.Goals as goal
 
 pub loop-i-init : goal.loop-i-init
@@ -8,7 +11,10 @@ loop-i-init c = lines_start _ _ _ _
 
 pub loop-i-preserved : goal.loop-i-preserved
 loop-i-preserved c =
-    lines_turn _ _ _ _ _ _ _ c.loop-i.invariant _ _ c.loop-i-test.true (search rules) c.safe_line-to.ensures
+    let h : c.loop-i.i < c.min-n.result = omega (arith, length-take c.min-n.result c.args.table.safes) in
+    lines_turn _ _ _ _ _ _ _ c.loop-i.invariant _ _ h (search rules) (rw get_or-take at c.safe_line-to.ensures)
 
 pub returns : goal.returns
-returns c = lines_end _ _ _ _ _ _ _ c.loop-i.invariant _ c.fewer-n.ensures c.loop-i-test.false
+returns c =
+    let h : c.min-n.result ≤ c.loop-i.i = omega (arith, length-take c.min-n.result c.args.table.safes) in
+    lines_end _ _ _ _ _ _ _ c.loop-i.invariant _ c.min-n.ensures h

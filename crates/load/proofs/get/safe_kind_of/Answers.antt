@@ -1,16 +1,17 @@
--- One test after another.
+-- By the number.
+use mathlib.Core.Path.{refl}
 use Rattle.load.specs.Loaded.{safe_kind_of}
 use Rattle.der.proofs.Choices.{choices}
 use Rattle.load.proofs.get.safe_kind_of.Goals as goal
 
-pub returns-then-w-eq1 : goal.returns-then-w-eq1
+pub returns-in-1 : goal.returns-in-1
 unfolding safe_kind_of
-returns-then-w-eq1 c = search choices depth 14
+returns-in-1 c = rw c.in-1.is refl
 
-pub returns-then-w-eq2 : goal.returns-then-w-eq2
+pub returns-in-2 : goal.returns-in-2
 unfolding safe_kind_of
-returns-then-w-eq2 c = search choices depth 14
+returns-in-2 c = rw c.in-2.is refl
 
-pub returns : goal.returns
+pub returns-in_default : goal.returns-in_default
 unfolding safe_kind_of
-returns c = search choices depth 14
+returns-in_default c = search choices depth 14

@@ -7,16 +7,16 @@ use Rattle.parts.proofs.Rules.{rooms}
 use Rattle.parts.proofs.read.algorithm.Goals as goal
 
 pub parameters-requires : goal.parameters-requires
-parameters-requires c = search (rules, rooms)
+parameters-requires c = search (rules, rooms, c.in_ok-outer.was, c.in_ok-name.was)
 
-pub returns-in-Refused : goal.returns-in-Refused
+pub returns-in_err-outer : goal.returns-in_err-outer
 unfolding algorithm_at parameters_at some_parameters_at
-returns-in-Refused c = search choices depth 14
+returns-in_err-outer c = search (choices, c.in_err-outer.was) depth 14
 
-pub returns-in-Refused-identifier : goal.returns-in-Refused-identifier
+pub returns-in_err-name : goal.returns-in_err-name
 unfolding algorithm_at parameters_at some_parameters_at
-returns-in-Refused-identifier c = search choices depth 14
+returns-in_err-name c = search (choices, c.in_ok-outer.was, c.in_err-name.was) depth 14
 
-pub returns-in-Found-identifier : goal.returns-in-Found-identifier
+pub returns : goal.returns
 unfolding algorithm_at parameters_at some_parameters_at
-returns-in-Found-identifier c = search choices depth 14
+returns c = search (choices, c.in_ok-outer.was, c.in_ok-name.was) depth 14

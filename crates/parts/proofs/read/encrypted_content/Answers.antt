@@ -1,20 +1,20 @@
 -- Each way out is the definition's, by the tests and answers on the way; no sum overflows.
 use Rattle.der.proofs.Choices.{choices}
 use Rattle.parts.specs.Steps.{encrypted_content_at}
-use Rattle.parts.proofs.Rules.{answers, encrypted_info_fits}
+use Rattle.parts.proofs.Rules.{encrypted_info_fits}
 use Rattle.parts.proofs.read.encrypted_content.Goals as goal
 
-pub overflow_add-more : goal.overflow_add-more
-overflow_add-more c = search encrypted_info_fits
+pub overflow_add-result : goal.overflow_add-result
+overflow_add-result c = search (encrypted_info_fits, c.in_ok-found.was)
 
-pub returns-in-Refused : goal.returns-in-Refused
+pub returns-in_err-found : goal.returns-in_err-found
 unfolding encrypted_content_at
-returns-in-Refused c = search (choices, answers) depth 14
+returns-in_err-found c = search (choices, c.in_err-found.was) depth 14
 
-pub returns-in-Refused-finish : goal.returns-in-Refused-finish
+pub returns-in_err-finish : goal.returns-in_err-finish
 unfolding encrypted_content_at
-returns-in-Refused-finish c = search (choices, answers) depth 14
+returns-in_err-finish c = search (choices, c.in_ok-found.was, c.in_err-finish.was) depth 14
 
-pub returns-in-Passed : goal.returns-in-Passed
+pub returns : goal.returns
 unfolding encrypted_content_at
-returns-in-Passed c = search (choices, answers) depth 14
+returns c = search (choices, c.in_ok-found.was, c.in_ok-finish.was) depth 14

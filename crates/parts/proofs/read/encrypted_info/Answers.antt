@@ -12,16 +12,16 @@ named-requires c = search (rules, rooms)
 
 pub returns-then-named : goal.returns-then-named
 unfolding encrypted_info_at encrypted_parts_at sealed_value_at data_type
-returns-then-named c = search (choices, told_true, told_false) depth 14
+returns-then-named c = search (choices, told_true, c.in_ok-outer.was, c.in_ok-name.was) depth 14
 
-pub returns-in-Refused : goal.returns-in-Refused
+pub returns-in_err-outer : goal.returns-in_err-outer
 unfolding encrypted_info_at encrypted_parts_at sealed_value_at data_type
-returns-in-Refused c = search (choices, told_true, told_false) depth 14
+returns-in_err-outer c = search (choices, c.in_err-outer.was) depth 14
 
-pub returns-in-Refused-identifier : goal.returns-in-Refused-identifier
+pub returns-in_err-name : goal.returns-in_err-name
 unfolding encrypted_info_at encrypted_parts_at sealed_value_at data_type
-returns-in-Refused-identifier c = search (choices, told_true, told_false) depth 14
+returns-in_err-name c = search (choices, c.in_ok-outer.was, c.in_err-name.was) depth 14
 
-pub returns-else-named : goal.returns-else-named
+pub returns : goal.returns
 unfolding encrypted_info_at encrypted_parts_at sealed_value_at data_type
-returns-else-named c = search (choices, told_true, told_false) depth 14
+returns c = search (choices, told_false, c.in_ok-outer.was, c.in_ok-name.was) depth 14

@@ -5,17 +5,17 @@ use Rattle.pkcs12.specs.Walk.{key_at}
 use Rattle.parts.proofs.Rules.{answers, rooms}
 use Rattle.parts.proofs.read.key.Goals as goal
 
-pub range-value-requires : goal.range-value-requires
-range-value-requires c = search (rules, rooms)
+pub range-requires : goal.range-requires
+range-requires c = search (rules, rooms, c.in_ok-found.was)
 
-pub returns-in-Refused : goal.returns-in-Refused
+pub returns-in_err-expect : goal.returns-in_err-expect
 unfolding key_at
-returns-in-Refused c = search (choices, answers) depth 14
+returns-in_err-expect c = search (choices, answers, c.in_err-expect.was) depth 14
 
-pub returns-in-Refused-opaque : goal.returns-in-Refused-opaque
+pub returns-in_err-found : goal.returns-in_err-found
 unfolding key_at
-returns-in-Refused-opaque c = search (choices, answers) depth 14
+returns-in_err-found c = search (choices, answers, c.in_ok-expect.was, c.in_err-found.was) depth 14
 
-pub returns-in-Passed : goal.returns-in-Passed
+pub returns : goal.returns
 unfolding key_at
-returns-in-Passed c = search (choices, answers) depth 14
+returns c = search (choices, answers, c.in_ok-expect.was, c.in_ok-found.was) depth 14

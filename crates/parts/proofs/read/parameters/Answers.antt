@@ -4,9 +4,9 @@ use Rattle.parts.specs.Steps.{parameters_at}
 use Rattle.parts.proofs.Rules.{answers}
 use Rattle.parts.proofs.read.parameters.Goals as goal
 
-pub returns-then-from-end : goal.returns-then-from-end
+pub returns-then-m : goal.returns-then-m
 unfolding parameters_at
-returns-then-from-end c = search (choices, answers) depth 14
+returns-then-m c = search (choices, answers) depth 14
 
 pub returns : goal.returns
 unfolding parameters_at

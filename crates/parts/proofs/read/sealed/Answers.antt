@@ -2,20 +2,20 @@
 use Rattle.der.proofs.Choices.{choices}
 use Rattle.pkcs12.specs.Walk.{sealed_at}
 use Rattle.parts.specs.Steps.{sealed_value_at}
-use Rattle.parts.proofs.Rules.{answers, algorithm_fits}
+use Rattle.parts.proofs.Rules.{algorithm_fits}
 use Rattle.parts.proofs.read.sealed.Goals as goal
 
-pub overflow_add-more : goal.overflow_add-more
-overflow_add-more c = search algorithm_fits
+pub overflow_add-count : goal.overflow_add-count
+overflow_add-count c = search (algorithm_fits, c.in_ok-made.was)
 
-pub returns-in-Refused : goal.returns-in-Refused
+pub returns-in_err-outer : goal.returns-in_err-outer
 unfolding sealed_at sealed_value_at
-returns-in-Refused c = search (choices, answers) depth 14
+returns-in_err-outer c = search (choices, c.in_err-outer.was) depth 14
 
-pub returns-in-Refused-algorithm : goal.returns-in-Refused-algorithm
+pub returns-in_err-made : goal.returns-in_err-made
 unfolding sealed_at sealed_value_at
-returns-in-Refused-algorithm c = search (choices, answers) depth 14
+returns-in_err-made c = search (choices, c.in_ok-outer.was, c.in_err-made.was) depth 14
 
-pub returns-in-Found-algorithm : goal.returns-in-Found-algorithm
+pub returns : goal.returns
 unfolding sealed_at sealed_value_at
-returns-in-Found-algorithm c = search (choices, answers) depth 14
+returns c = search (choices, c.in_ok-outer.was, c.in_ok-made.was) depth 14

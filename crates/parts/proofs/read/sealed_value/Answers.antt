@@ -5,17 +5,17 @@ use Rattle.parts.specs.Steps.{sealed_value_at}
 use Rattle.parts.proofs.Rules.{answers, rooms}
 use Rattle.parts.proofs.read.sealed_value.Goals as goal
 
-pub range_of-value-requires : goal.range_of-value-requires
-range_of-value-requires c = search (rules, rooms)
+pub range_of-requires : goal.range_of-requires
+range_of-requires c = search (rules, rooms, c.in_ok-found.was)
 
-pub returns-in-Refused : goal.returns-in-Refused
+pub returns-in_err-found : goal.returns-in_err-found
 unfolding sealed_value_at
-returns-in-Refused c = search (choices, answers) depth 14
+returns-in_err-found c = search (choices, answers, c.in_err-found.was) depth 14
 
-pub returns-in-Refused-finish : goal.returns-in-Refused-finish
+pub returns-in_err-finish : goal.returns-in_err-finish
 unfolding sealed_value_at
-returns-in-Refused-finish c = search (choices, answers) depth 14
+returns-in_err-finish c = search (choices, answers, c.in_ok-found.was, c.in_err-finish.was) depth 14
 
-pub returns-in-Passed : goal.returns-in-Passed
+pub returns : goal.returns
 unfolding sealed_value_at
-returns-in-Passed c = search (choices, answers) depth 14
+returns c = search (choices, answers, c.in_ok-found.was, c.in_ok-finish.was) depth 14

@@ -6,20 +6,20 @@ use Rattle.parts.specs.Steps.{some_parameters_at}
 use Rattle.parts.proofs.Rules.{answers, rooms, opaque_fits}
 use Rattle.parts.proofs.read.some_parameters.Goals as goal
 
-pub range-parameters-requires : goal.range-parameters-requires
-range-parameters-requires c = search (rules, rooms)
-
-pub overflow_add-more : goal.overflow_add-more
-overflow_add-more c = search opaque_fits
-
-pub returns-in-Refused : goal.returns-in-Refused
+pub returns-in_err-found : goal.returns-in_err-found
 unfolding some_parameters_at
-returns-in-Refused c = search (choices, answers) depth 14
+returns-in_err-found c = search (choices, answers, c.in_err-found.was) depth 14
 
-pub returns-in-Refused-finish : goal.returns-in-Refused-finish
+pub returns-in_err-finish : goal.returns-in_err-finish
 unfolding some_parameters_at
-returns-in-Refused-finish c = search (choices, answers) depth 14
+returns-in_err-finish c = search (choices, answers, c.in_ok-found.was, c.in_err-finish.was) depth 14
 
-pub returns-in-Passed-finish : goal.returns-in-Passed-finish
+pub range-requires : goal.range-requires
+range-requires c = search (rules, rooms, c.in_ok-found.was)
+
+pub overflow_add-result : goal.overflow_add-result
+overflow_add-result c = search (opaque_fits, c.in_ok-found.was)
+
+pub returns : goal.returns
 unfolding some_parameters_at
-returns-in-Passed-finish c = search (choices, answers) depth 14
+returns c = search (choices, answers, c.in_ok-found.was, c.in_ok-finish.was) depth 14

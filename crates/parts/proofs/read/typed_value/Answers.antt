@@ -6,24 +6,25 @@ use Rattle.parts.specs.Steps.{typed_value_at}
 use Rattle.parts.proofs.Rules.{answers, rooms, value_fits}
 use Rattle.parts.proofs.read.typed_value.Goals as goal
 
-pub range-value-requires : goal.range-value-requires
-range-value-requires c = search (rules, rooms)
+pub range-requires : goal.range-requires
+range-requires c = search (rules, rooms, c.in_ok-found.was)
 
-pub overflow_add-more : goal.overflow_add-more
-overflow_add-more c = search value_fits
+pub overflow_add-result : goal.overflow_add-result
+overflow_add-result c = search (value_fits, c.in_ok-found.was)
 
-pub returns-in-Refused : goal.returns-in-Refused
+pub returns-in_err-found : goal.returns-in_err-found
 unfolding typed_value_at
-returns-in-Refused c = search (choices, answers) depth 14
+returns-in_err-found c = search (choices, answers, c.in_err-found.was) depth 14
 
-pub returns-in-Refused-finish : goal.returns-in-Refused-finish
+pub returns-in_err-finish : goal.returns-in_err-finish
 unfolding typed_value_at
-returns-in-Refused-finish c = search (choices, answers) depth 14
+returns-in_err-finish c = search (choices, answers, c.in_ok-found.was, c.in_err-finish.was) depth 14
 
-pub returns-in-Refused-finish-2 : goal.returns-in-Refused-finish-2
+pub returns-in_err-finish-2 : goal.returns-in_err-finish-2
 unfolding typed_value_at
-returns-in-Refused-finish-2 c = search (choices, answers) depth 14
+returns-in_err-finish-2 c =
+    search (choices, answers, c.in_ok-found.was, c.in_ok-finish.was, c.in_err-finish-2.was) depth 14
 
-pub returns-in-Passed-finish-2 : goal.returns-in-Passed-finish-2
+pub returns : goal.returns
 unfolding typed_value_at
-returns-in-Passed-finish-2 c = search (choices, answers) depth 14
+returns c = search (choices, answers, c.in_ok-found.was, c.in_ok-finish.was, c.in_ok-finish-2.was) depth 14

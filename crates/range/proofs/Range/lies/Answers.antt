@@ -1,12 +1,13 @@
--- Each way out is the definition's, by the tests and answers on the way.
+-- The two tests of the definition.
+use borrow.Author.Tests.{lt-leb}
 use Rattle.der.proofs.Choices.{choices}
 use Rattle.range.specs.Range.{lies}
 use Rattle.range.proofs.Range.lies.Goals as goal
 
-pub returns-then-end-start : goal.returns-then-end-start
+pub returns-then-self : goal.returns-then-self
 unfolding lies
-returns-then-end-start c = search choices depth 14
+returns-then-self c = search choices depth 14
 
-pub returns : goal.returns
+pub returns-else-self : goal.returns-else-self
 unfolding lies
-returns c = search choices depth 14
+returns-else-self c = search (choices, lt-leb) depth 14

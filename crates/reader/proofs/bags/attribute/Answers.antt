@@ -6,21 +6,21 @@ use Rattle.reader.specs.Steps.{attribute_parts_at}
 use Rattle.parts.proofs.Rules.{rooms}
 use Rattle.reader.proofs.bags.attribute.Goals as goal
 
+pub attribute_values-requires : goal.attribute_values-requires
+attribute_values-requires c = search (rules, rooms, c.in_ok-whole.was, c.in_ok-id.was)
+
+pub returns-in_err-whole : goal.returns-in_err-whole
+unfolding attribute_parts_at
+returns-in_err-whole c = search (choices, c.in_err-whole.was) depth 14
+
+pub returns-in_err-id : goal.returns-in_err-id
+unfolding attribute_parts_at
+returns-in_err-id c = search (choices, told_false, c.in_ok-whole.was, c.in_err-id.was) depth 14
+
 pub returns-then-full : goal.returns-then-full
 unfolding attribute_parts_at
-returns-then-full c = search (choices, told_true, told_false) depth 14
+returns-then-full c = search (choices, told_true, c.in_ok-whole.was) depth 14
 
-pub attribute_values-requires : goal.attribute_values-requires
-attribute_values-requires c = search (rules, rooms)
-
-pub returns-in-Refused : goal.returns-in-Refused
+pub returns : goal.returns
 unfolding attribute_parts_at
-returns-in-Refused c = search (choices, told_true, told_false) depth 14
-
-pub returns-in-Refused-identifier : goal.returns-in-Refused-identifier
-unfolding attribute_parts_at
-returns-in-Refused-identifier c = search (choices, told_true, told_false) depth 14
-
-pub returns-in-Found-identifier : goal.returns-in-Found-identifier
-unfolding attribute_parts_at
-returns-in-Found-identifier c = search (choices, told_true, told_false) depth 14
+returns c = search (choices, told_false, c.in_ok-whole.was, c.in_ok-id.was) depth 14

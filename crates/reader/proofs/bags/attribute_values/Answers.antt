@@ -1,48 +1,40 @@
 -- Each way out is the definition's, by the tests and answers on the way; offsets fit a range, and
 -- no sum overflows.
-use mathlib.Core.Path.{refl}
-use Rattle.der.proofs.Choices.{choices, element_found, checked_passed}
-use Rattle.reader.specs.Steps.{attribute_values_at}
-use Rattle.reader.proofs.Rules.{answers}
+use Rattle.der.proofs.Choices.{choices}
 use native.Mathlib.Omega.{arith}
+use Rattle.reader.specs.Steps.{attribute_values_at}
 use Rattle.parts.proofs.Rules.{made, expected_from, expected_to}
 use Rattle.reader.proofs.Heads.{elements_fits}
 use Rattle.reader.proofs.bags.attribute_values.Goals as goal
 
-pub range_of-identifier-requires : goal.range_of-identifier-requires
-range_of-identifier-requires c =
+pub range_of-requires : goal.range_of-requires
+range_of-requires c =
     let p = c.requires in
-    (omega (arith, p), omega (arith, p))
+    let l = c.args.s.fits in
+    (omega (arith, p, l), omega (arith, p, l))
 
-pub range_of-value-requires : goal.range_of-value-requires
-range_of-value-requires c =
-    let p = c.requires in
+pub range_of-requires-2 : goal.range_of-requires-2
+range_of-requires-2 c =
     let e = c.expect.ensures.value in
-    let f = c.in-Found.is in
-    (expected_from _ _ _ _ _ _ _ e f p.0, expected_to _ _ _ _ _ _ _ e f p.0)
+    let f = c.in_ok-set.was in
+    let l = c.args.s.fits in
+    (expected_from _ _ _ _ _ e f l, expected_to _ _ _ _ _ e f l)
 
-pub overflow_add-more : goal.overflow_add-more
-overflow_add-more c = search elements_fits
+pub overflow_add-result : goal.overflow_add-result
+overflow_add-result c = search (elements_fits, c.in_ok-set.was, c.in_ok-values.was)
 
-pub returns-in-Refused : goal.returns-in-Refused
+pub returns-in_err-set : goal.returns-in_err-set
 unfolding attribute_values_at
-returns-in-Refused c = search (choices, answers) depth 14
+returns-in_err-set c = search (choices, c.in_err-set.was) depth 14
 
-pub returns-in-Refused-elements : goal.returns-in-Refused-elements
+pub returns-in_err-values : goal.returns-in_err-values
 unfolding attribute_values_at
-returns-in-Refused-elements c = search (choices, answers) depth 14
+returns-in_err-values c = search (choices, c.in_ok-set.was, c.in_err-values.was) depth 14
 
-pub returns-in-Refused-finish : goal.returns-in-Refused-finish
+pub returns-in_err-finish : goal.returns-in_err-finish
 unfolding attribute_values_at
-returns-in-Refused-finish c = search (choices, answers) depth 14
+returns-in_err-finish c = search (choices, c.in_ok-set.was, c.in_ok-values.was, c.in_err-finish.was) depth 14
 
-pub returns-in-Passed-finish : goal.returns-in-Passed-finish
+pub returns : goal.returns
 unfolding attribute_values_at
-returns-in-Passed-finish c =
-    let p = c.requires in
-    let e = c.expect.ensures.value in
-    let f = c.in-Found.is in
-    element_found _ _ _ _ _ _ _ _ e f
-    (checked_passed _ _ _ _ _ _ _ c.elements.ensures.value c.in-Passed.is
-    (checked_passed _ _ _ _ _ _ _ c.finish.ensures.value c.in-Passed-finish.is
-    (made _ _ _ _ _ _ _ _ c.range_of-identifier.ensures refl c.range_of-value.ensures)))
+returns c = search (choices, made, c.in_ok-set.was, c.in_ok-values.was, c.in_ok-finish.was) depth 14

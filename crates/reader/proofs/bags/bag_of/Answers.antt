@@ -6,12 +6,12 @@ use Rattle.reader.proofs.bags.bag_of.Goals as goal
 
 pub returns-then-is_none : goal.returns-then-is_none
 unfolding bag_of_at
-returns-then-is_none c = search (choices, kind_none, kind_some, kind_given) depth 14
+returns-then-is_none c = search (choices, kind_none) depth 14
 
-pub returns-in-Refused : goal.returns-in-Refused
+pub returns-in_err-found : goal.returns-in_err-found
 unfolding bag_of_at
-returns-in-Refused c = search (choices, kind_none, kind_some, kind_given) depth 14
+returns-in_err-found c = search (choices, kind_some, c.in_err-found.was) depth 14
 
-pub returns-in-Found : goal.returns-in-Found
+pub returns : goal.returns
 unfolding bag_of_at
-returns-in-Found c = search (choices, kind_none, kind_some, kind_given) depth 14
+returns c = search (choices, kind_some, kind_given, c.in_ok-found.was) depth 14

@@ -1,18 +1,25 @@
--- Each way out is the definition's, by what is expected at c.
-use Rattle.reader.proofs.Heads.{set_head_found, set_head_refused, set_head_left, set_head_none, set_head_stop}
+-- Each way out is the definition's, by the tests and answers on the way.
+use Rattle.der.proofs.Choices.{choices}
+use Rattle.reader.specs.Steps.{set_head_at}
+use Rattle.reader.proofs.Rules.{given_eq, given_ne}
 use Rattle.reader.proofs.bags.set_at.Goals as goal
 
+pub returns-in_err-finish : goal.returns-in_err-finish
+unfolding set_head_at
+returns-in_err-finish c = search (choices, c.in_err-finish.was) depth 14
+
+pub returns-in_err-found : goal.returns-in_err-found
+unfolding set_head_at
+returns-in_err-found c = search (choices, given_eq, c.in_ok-finish.was, c.in_err-found.was) depth 14
+
 pub returns-then-tag-eq-SET : goal.returns-then-tag-eq-SET
-returns-then-tag-eq-SET c = search set_head_refused
+unfolding set_head_at
+returns-then-tag-eq-SET c = search (choices, given_eq, c.in_ok-finish.was, c.in_ok-found.was) depth 14
 
-pub returns-in-Refused : goal.returns-in-Refused
-returns-in-Refused c = search set_head_stop
+pub returns-in_err-finish-2 : goal.returns-in_err-finish-2
+unfolding set_head_at
+returns-in_err-finish-2 c = search (choices, given_ne, c.in_ok-finish.was, c.in_err-finish-2.was) depth 14
 
-pub returns-in-Found : goal.returns-in-Found
-returns-in-Found c = search set_head_found
-
-pub returns-in-Refused-finish : goal.returns-in-Refused-finish
-returns-in-Refused-finish c = search set_head_left
-
-pub returns-in-Passed-finish : goal.returns-in-Passed-finish
-returns-in-Passed-finish c = search set_head_none
+pub returns : goal.returns
+unfolding set_head_at
+returns c = search (choices, given_ne, c.in_ok-finish.was, c.in_ok-finish-2.was) depth 14

@@ -3,10 +3,10 @@ use Rattle.der.proofs.Choices.{choices}
 use Rattle.reader.specs.Steps.{close_at}
 use Rattle.reader.proofs.file.close.Goals as goal
 
-pub returns-in-Refused : goal.returns-in-Refused
+pub returns-in_err-closed : goal.returns-in_err-closed
 unfolding close_at
-returns-in-Refused c = search choices depth 14
+returns-in_err-closed c = search (choices, c.in_err-closed.was) depth 14
 
-pub returns-in-Passed : goal.returns-in-Passed
+pub returns : goal.returns
 unfolding close_at
-returns-in-Passed c = search choices depth 14
+returns c = search (choices, c.in_ok-closed.was) depth 14

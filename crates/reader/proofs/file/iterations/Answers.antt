@@ -7,12 +7,12 @@ use Rattle.reader.proofs.file.iterations.Goals as goal
 
 pub returns-then-tag-eq-INTEGER : goal.returns-then-tag-eq-INTEGER
 unfolding iterations_at stated_at
-returns-then-tag-eq-INTEGER c = search (choices, given_eq, given_ne) depth 14
+returns-then-tag-eq-INTEGER c = search (choices, given_eq) depth 14
 
-pub returns-in-Refused : goal.returns-in-Refused
+pub returns-in_err-finish : goal.returns-in_err-finish
 unfolding iterations_at stated_at
-returns-in-Refused c = search (choices, given_eq, given_ne) depth 14
+returns-in_err-finish c = search (choices, given_ne, c.in_err-finish.was) depth 14
 
-pub returns-in-Passed : goal.returns-in-Passed
+pub returns : goal.returns
 unfolding iterations_at stated_at
-returns-in-Passed c = search (choices, given_eq, given_ne) depth 14
+returns c = search (choices, given_ne, c.in_ok-finish.was) depth 14

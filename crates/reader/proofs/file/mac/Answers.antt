@@ -4,21 +4,20 @@ use Rattle.der.proofs.Choices.{choices}
 use Rattle.pkcs12.specs.Walk.{mac_at}
 use Rattle.reader.specs.Steps.{salted_at}
 use Rattle.parts.proofs.Rules.{in-files}
-use Rattle.reader.proofs.Rules.{answers}
 use Rattle.reader.proofs.Heads.{sealed_count_lem}
 use Rattle.reader.proofs.file.mac.Goals as goal
 
 pub salted-requires : goal.salted-requires
-salted-requires c = search (rules, sealed_count_lem)
+salted-requires c = search (rules, sealed_count_lem, c.in_ok-whole.was, c.in_ok-digest.was)
 
-pub returns-in-Refused : goal.returns-in-Refused
+pub returns-in_err-whole : goal.returns-in_err-whole
 unfolding mac_at salted_at
-returns-in-Refused c = search (choices, answers, in-files) depth 14
+returns-in_err-whole c = search (choices, in-files, c.in_err-whole.was) depth 14
 
-pub returns-in-Refused-sealed : goal.returns-in-Refused-sealed
+pub returns-in_err-digest : goal.returns-in_err-digest
 unfolding mac_at salted_at
-returns-in-Refused-sealed c = search (choices, answers, in-files) depth 14
+returns-in_err-digest c = search (choices, in-files, c.in_ok-whole.was, c.in_err-digest.was) depth 14
 
-pub returns-in-Found-sealed : goal.returns-in-Found-sealed
+pub returns : goal.returns
 unfolding mac_at salted_at
-returns-in-Found-sealed c = search (choices, answers, in-files) depth 14
+returns c = search (choices, in-files, c.in_ok-whole.was, c.in_ok-digest.was) depth 14

@@ -1,13 +1,12 @@
 -- Each way out is the definition's, by the tests and answers on the way.
 use Rattle.der.proofs.Choices.{choices}
 use Rattle.reader.specs.Steps.{open_at}
-use Rattle.reader.proofs.Heads.{heads}
 use Rattle.reader.proofs.file.open.Goals as goal
 
-pub returns-in-Refused : goal.returns-in-Refused
+pub returns-in_err-outer : goal.returns-in_err-outer
 unfolding open_at
-returns-in-Refused c = search (choices, heads) depth 14
+returns-in_err-outer c = search (choices, c.in_err-outer.was) depth 14
 
-pub returns-in-Found : goal.returns-in-Found
+pub returns : goal.returns
 unfolding open_at
-returns-in-Found c = search (choices, heads) depth 14
+returns c = search (choices, c.in_ok-outer.was) depth 14

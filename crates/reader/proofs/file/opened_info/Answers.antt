@@ -7,16 +7,16 @@ use Rattle.parts.proofs.Rules.{rooms}
 use Rattle.reader.proofs.file.opened_info.Goals as goal
 
 pub opened_value-requires : goal.opened_value-requires
-opened_value-requires c = search (rules, rooms)
+opened_value-requires c = search (rules, rooms, c.in_ok-whole.was, c.in_ok-id.was)
 
-pub returns-in-Refused : goal.returns-in-Refused
+pub returns-in_err-whole : goal.returns-in_err-whole
 unfolding opened_info_at
-returns-in-Refused c = search choices depth 14
+returns-in_err-whole c = search (choices, c.in_err-whole.was) depth 14
 
-pub returns-in-Refused-identifier : goal.returns-in-Refused-identifier
+pub returns-in_err-id : goal.returns-in_err-id
 unfolding opened_info_at
-returns-in-Refused-identifier c = search choices depth 14
+returns-in_err-id c = search (choices, c.in_ok-whole.was, c.in_err-id.was) depth 14
 
-pub returns-in-Found-identifier : goal.returns-in-Found-identifier
+pub returns : goal.returns
 unfolding opened_info_at
-returns-in-Found-identifier c = search choices depth 14
+returns c = search (choices, c.in_ok-whole.was, c.in_ok-id.was) depth 14

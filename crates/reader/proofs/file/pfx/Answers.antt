@@ -3,18 +3,18 @@ use Rattle.der.proofs.Choices.{choices}
 use Rattle.reader.specs.Steps.{pfx_head_at}
 use Rattle.reader.proofs.file.pfx.Goals as goal
 
-pub returns-then-value-eq-PFX_VERSION : goal.returns-then-value-eq-PFX_VERSION
+pub returns-in_err-whole : goal.returns-in_err-whole
 unfolding pfx_head_at
-returns-then-value-eq-PFX_VERSION c = search choices depth 14
+returns-in_err-whole c = search (choices, c.in_err-whole.was) depth 14
 
-pub returns-in-Refused : goal.returns-in-Refused
+pub returns-in_err-version : goal.returns-in_err-version
 unfolding pfx_head_at
-returns-in-Refused c = search choices depth 14
+returns-in_err-version c = search (choices, c.in_ok-whole.was, c.in_err-version.was) depth 14
 
-pub returns-in-Refused-integer : goal.returns-in-Refused-integer
+pub returns-then-version-eq-PFX_VERSION : goal.returns-then-version-eq-PFX_VERSION
 unfolding pfx_head_at
-returns-in-Refused-integer c = search choices depth 14
+returns-then-version-eq-PFX_VERSION c = search (choices, c.in_ok-whole.was, c.in_ok-version.was) depth 14
 
-pub returns-else-value-eq-PFX_VERSION : goal.returns-else-value-eq-PFX_VERSION
+pub returns : goal.returns
 unfolding pfx_head_at
-returns-else-value-eq-PFX_VERSION c = search choices depth 14
+returns c = search (choices, c.in_ok-whole.was, c.in_ok-version.was) depth 14

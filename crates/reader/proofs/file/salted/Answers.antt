@@ -9,14 +9,15 @@ use Rattle.reader.proofs.file.salted.Goals as goal
 pub of-salt-requires : goal.of-salt-requires
 of-salt-requires c = search (rules, rooms)
 
-pub returns-in-Refused : goal.returns-in-Refused
+pub returns-in_err-octets : goal.returns-in_err-octets
 unfolding salted_at
-returns-in-Refused c = search (choices, salted_refused, salted_found, in-files, rooms) depth 14
+returns-in_err-octets c = search (choices, c.in_err-octets.was) depth 14
 
-pub returns-in-Refused-iterations : goal.returns-in-Refused-iterations
+pub returns-in_err-found : goal.returns-in_err-found
 unfolding salted_at
-returns-in-Refused-iterations c = search (choices, salted_refused, salted_found, in-files, rooms) depth 14
+returns-in_err-found c =
+    search (choices, salted_refused, in-files, rooms, c.in_ok-octets.was, c.in_err-found.was) depth 14
 
-pub returns-in-Found-iterations : goal.returns-in-Found-iterations
+pub returns : goal.returns
 unfolding salted_at
-returns-in-Found-iterations c = search (choices, salted_refused, salted_found, in-files, rooms) depth 14
+returns c = search (choices, salted_found, in-files, rooms, c.in_ok-octets.was, c.in_ok-found.was) depth 14

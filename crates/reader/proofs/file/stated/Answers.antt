@@ -3,18 +3,18 @@ use Rattle.der.proofs.Choices.{choices}
 use Rattle.reader.specs.Steps.{stated_at}
 use Rattle.reader.proofs.file.stated.Goals as goal
 
-pub returns-then-value-le-DEFAULT_ITERATIONS : goal.returns-then-value-le-DEFAULT_ITERATIONS
+pub returns-in_err-found : goal.returns-in_err-found
 unfolding stated_at
-returns-then-value-le-DEFAULT_ITERATIONS c = search choices depth 14
+returns-in_err-found c = search (choices, c.in_err-found.was) depth 14
 
-pub returns-in-Refused : goal.returns-in-Refused
+pub returns-in_err-finish : goal.returns-in_err-finish
 unfolding stated_at
-returns-in-Refused c = search choices depth 14
+returns-in_err-finish c = search (choices, c.in_ok-found.was, c.in_err-finish.was) depth 14
 
-pub returns-in-Refused-finish : goal.returns-in-Refused-finish
+pub returns-then-found-le-DEFAULT_ITERATIONS : goal.returns-then-found-le-DEFAULT_ITERATIONS
 unfolding stated_at
-returns-in-Refused-finish c = search choices depth 14
+returns-then-found-le-DEFAULT_ITERATIONS c = search (choices, c.in_ok-found.was) depth 14
 
-pub returns-in-Passed : goal.returns-in-Passed
+pub returns : goal.returns
 unfolding stated_at
-returns-in-Passed c = search choices depth 14
+returns c = search (choices, c.in_ok-found.was, c.in_ok-finish.was) depth 14

@@ -18,8 +18,10 @@ decreases-safe_contents l = 3 * l.level
 
 abbrev pub invariant-safe_contents-loop-at : goal.invariant-safe_contents-loop-at
 invariant-safe_contents-loop-at l =
-    Rowing l.s (bag_in l.level l.s (owner l.safe l.enclosing)) l.end
-    (run (bag_in l.level l.s (owner l.safe l.enclosing)) (rows_at l.initial.m l.initial.so_far) (cursor l.initial.at l.end)) (length l.initial.m) l.m l.so_far l.at
+    Rowing (bag_in l.level l.s.bytes.now (owner l.safe l.enclosing)) l.end
+    (run (bag_in l.level l.s.bytes.now (owner l.safe l.enclosing)) (rows_at l.initial.m l.initial.so_far)
+    (cursor l.initial.at l.end))
+    (length l.initial.m) l.m l.so_far l.at
 
 abbrev pub decreases-safe_contents-loop-at : goal.decreases-safe_contents-loop-at
 decreases-safe_contents-loop-at l = l.end - l.at

@@ -8,16 +8,9 @@ use Rattle.reader.proofs.rows.set_body.Given as goal
 
 abbrev pub invariant-loop-at : goal.invariant-loop-at
 invariant-loop-at l =
-    Rowing l.s (attribute_at l.s l.number) l.end
-    (run (attribute_at l.s l.number) (rows_at l.initial.m (record {
-      safes =
-          l.safes;
-      bags = l.bags;
-      attributes = l.initial.row;
-      elements = l.initial.elements;
-    })) (cursor l.initial.at l.end)) (length l.initial.m) l.m
-    (record { safes = l.safes; bags = l.bags; attributes = l.row; elements = l.elements }) l.at
+    Rowing (attribute_at l.s.bytes.now l.number) l.end
+    (run (attribute_at l.s.bytes.now l.number) (rows_at l.initial.m l.initial.all) (cursor l.initial.at l.end))
+    (length l.initial.m) l.m l.all l.at
 
 abbrev pub decreases-loop-at : goal.decreases-loop-at
-decreases-loop-at l =
-    l.end - l.at
+decreases-loop-at l = l.end - l.at

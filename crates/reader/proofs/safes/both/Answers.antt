@@ -3,10 +3,10 @@ use Rattle.der.proofs.Choices.{choices}
 use Rattle.reader.specs.Steps.{both_at}
 use Rattle.reader.proofs.safes.both.Goals as goal
 
-pub returns-in-Refused : goal.returns-in-Refused
+pub returns-in_err-finish : goal.returns-in_err-finish
 unfolding both_at
-returns-in-Refused c = search choices depth 14
+returns-in_err-finish c = search (choices, c.in_err-finish.was) depth 14
 
-pub returns-in-Passed : goal.returns-in-Passed
+pub returns : goal.returns
 unfolding both_at
-returns-in-Passed c = search choices depth 14
+returns c = search (choices, c.in_ok-finish.was) depth 14

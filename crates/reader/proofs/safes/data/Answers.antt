@@ -3,14 +3,14 @@ use Rattle.der.proofs.Choices.{choices}
 use Rattle.reader.specs.Steps.{data_head_at}
 use Rattle.reader.proofs.safes.data.Goals as goal
 
-pub returns-in-Refused : goal.returns-in-Refused
+pub returns-in_err-outer : goal.returns-in_err-outer
 unfolding data_head_at
-returns-in-Refused c = search choices depth 14
+returns-in_err-outer c = search (choices, c.in_err-outer.was) depth 14
 
-pub returns-in-Refused-octet_string : goal.returns-in-Refused-octet_string
+pub returns-in_err-inner : goal.returns-in_err-inner
 unfolding data_head_at
-returns-in-Refused-octet_string c = search choices depth 14
+returns-in_err-inner c = search (choices, c.in_ok-outer.was, c.in_err-inner.was) depth 14
 
-pub returns-in-Found-octet_string : goal.returns-in-Found-octet_string
+pub returns : goal.returns
 unfolding data_head_at
-returns-in-Found-octet_string c = search choices depth 14
+returns c = search (choices, c.in_ok-outer.was, c.in_ok-inner.was) depth 14

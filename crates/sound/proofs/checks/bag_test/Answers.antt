@@ -23,10 +23,6 @@ pub returns-in-Crl : goal.returns-in-Crl
 unfolding bag_test
 returns-in-Crl c = search by_kind
 
-pub returns-in-Secret : goal.returns-in-Secret
-unfolding bag_test
-returns-in-Secret c = search by_kind
-
 pub returns-in-Nested : goal.returns-in-Nested
 unfolding bag_test
 returns-in-Nested c = search by_kind

@@ -1,12 +1,12 @@
 -- Each way out is the definition's, by the tests and answers on the way.
+use Rattle.der.proofs.Choices.{told_true, told_false}
 use Rattle.pkcs12.specs.Checks.{holds_tagged}
-use Rattle.der.proofs.Choices.{denied, granted}
 use Rattle.sound.proofs.checks.holds_tagged.Goals as goal
 
-pub returns-then-not-holds_opaque : goal.returns-then-not-holds_opaque
+pub returns-then-holds_opaque : goal.returns-then-holds_opaque
 unfolding holds_tagged
-returns-then-not-holds_opaque c = search denied
+returns-then-holds_opaque c = search told_true
 
-pub returns : goal.returns
+pub returns-else-holds_opaque : goal.returns-else-holds_opaque
 unfolding holds_tagged
-returns c = search granted
+returns-else-holds_opaque c = search told_false

@@ -3,8 +3,8 @@
 use Rattle.sound.proofs.Rules.{one_refused, one_passed}
 use Rattle.sound.proofs.checks.one_opaque.Goals as goal
 
-pub returns-in-Refused : goal.returns-in-Refused
-returns-in-Refused c = search one_refused
+pub returns-in-Ok : goal.returns-in-Ok
+returns-in-Ok c = search one_passed
 
-pub returns-in-Passed : goal.returns-in-Passed
-returns-in-Passed c = search one_passed
+pub returns-in-Err : goal.returns-in-Err
+returns-in-Err c = search one_refused

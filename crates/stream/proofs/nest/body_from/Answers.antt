@@ -6,7 +6,7 @@ use Rattle.stream.proofs.nest.body_from.Goals as goal
 
 pub returns-then-is_refused : goal.returns-then-is_refused
 unfolding body_before
-returns-then-is_refused c = search (choices, told_true, told_false, body_before_lem) depth 14
+returns-then-is_refused c = search (choices, told_true, body_before_lem) depth 14
 
 pub returns-then-start-stop : goal.returns-then-start-stop
 unfolding body_before

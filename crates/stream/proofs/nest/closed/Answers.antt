@@ -8,9 +8,9 @@ pub returns-then-depth-gt0 : goal.returns-then-depth-gt0
 unfolding closed_to
 returns-then-depth-gt0 c = search (choices, closed_to_lem) depth 14
 
-pub returns-then-p-total : goal.returns-then-p-total
+pub returns-then-p-u : goal.returns-then-p-u
 unfolding closed_to
-returns-then-p-total c = search (choices, closed_to_lem) depth 14
+returns-then-p-u c = search (choices, closed_to_lem) depth 14
 
 pub returns : goal.returns
 unfolding closed_to

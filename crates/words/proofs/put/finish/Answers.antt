@@ -9,5 +9,6 @@ returns-then-memory-lt-TABLE_WORDS c = kept_short _ _ c.if-memory-lt-TABLE_WORDS
 
 pub returns : goal.returns
 returns c =
-    end_stored _ _ _ _ _ _ c.if-memory-lt-TABLE_WORDS.false c.fewer-safes.ensures c.fewer-bags.ensures c.fewer-attributes.ensures
+    end_stored _ _ _ _ _ _ c.if-memory-lt-TABLE_WORDS.false
+    c.min-safes.ensures c.min-bags.ensures c.min-attributes.ensures
     c.count_words.ensures c.mac.ensures c.zeros.ensures c.zeros-2.ensures c.zeros-3.ensures

@@ -1,4 +1,5 @@
 -- By the kind.
+use mathlib.Core.Logic.{inl, inr}
 use Rattle.pkcs12.specs.Encode.{leaf_bytes}
 use Rattle.pkcs12.specs.declared.kind.BagKind.{BagKind}
 use Rattle.pkcs12.specs.declared.kind.BagKind.TheVariants.{Key, ShroudedKey, Certificate, Crl, Secret, Nested}
@@ -9,11 +10,10 @@ use Rattle.writer.proofs.parts.content.Goals as goal
 
 pub returns-in-None : goal.returns-in-None
 unfolding content_of
-returns-in-None c = content_of_lem _ BagKind.None c.in-None.is _ _ _ _ _ _ (put_nothing _ _)
-
-pub returns-in-Nested : goal.returns-in-Nested
-unfolding content_of
-returns-in-Nested c = content_of_lem _ Nested c.in-Nested.is _ _ _ _ _ _ (put_nothing _ _)
+returns-in-None c = elim c.in-None.is [
+  | inl e ↦ content_of_lem _ BagKind.None e _ _ _ _ _ _ (put_nothing _ _)
+  | inr e ↦ content_of_lem _ Nested e _ _ _ _ _ _ (put_nothing _ _)
+]
 
 pub returns-in-Key : goal.returns-in-Key
 unfolding content_of leaf_bytes
@@ -27,15 +27,8 @@ returns-in-ShroudedKey c =
 
 pub returns-in-Certificate : goal.returns-in-Certificate
 unfolding content_of leaf_bytes typed_body
-returns-in-Certificate c =
-    content_of_lem _ Certificate c.in-Certificate.is _ _ _ _ _ _ c.typed.ensures
-
-pub returns-in-Crl : goal.returns-in-Crl
-unfolding content_of leaf_bytes typed_body
-returns-in-Crl c =
-    content_of_lem _ Crl c.in-Crl.is _ _ _ _ _ _ c.typed-in-Crl.ensures
-
-pub returns-in-Secret : goal.returns-in-Secret
-unfolding content_of leaf_bytes typed_body
-returns-in-Secret c =
-    content_of_lem _ Secret c.in-Secret.is _ _ _ _ _ _ c.typed-in-Secret.ensures
+returns-in-Certificate c = elim c.in-Certificate.is [
+  | inl e ↦ content_of_lem _ Certificate e _ _ _ _ _ _ c.typed.ensures
+  | inr (inl e) ↦ content_of_lem _ Crl e _ _ _ _ _ _ c.typed.ensures
+  | inr (inr e) ↦ content_of_lem _ Secret e _ _ _ _ _ _ c.typed.ensures
+]

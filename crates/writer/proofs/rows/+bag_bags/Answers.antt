@@ -1,25 +1,26 @@
 -- A bag is written with the bags in it: the level falls. Each writes what its definition takes
 -- (Rowing).
-use mathlib.Core.Path.{refl}
+use mathlib.Core.Path.{refl, sym, ap, ◌∙◌}
+use Rattle.std.specs.Prelude.{Some}
 use native.Mathlib.Omega.{arith}
 use borrow.Author.Rules.{rules}
-use Rattle.writer.proofs.Rowing.{leaf_form, bag_nothing, bag_of_leaf, bag_deep, nest_body, nest_put}
+use Rattle.writer.proofs.Rowing.{bag_nothing, bag_of_leaf, bag_deep, nest_body, nest_put}
 use Rattle.writer.proofs.Rowing.{bags_begin, bags_done, bags_other_place, bags_no_bag}
 use Rattle.writer.proofs.Rowing.{bags_one_more}
 use Rattle.writer.proofs.rows.+bag_bags.Goals as goal
 
 pub bag-leaf-requires : goal.bag-leaf-requires
 bag-leaf-requires t c =
-    (c.requires.0, leaf_form _ c.args.row.kind c.form_of.ensures.value c.in-Leaf.is)
+    (c.requires.0, sym c.form_of.ensures.value ∙ c.in-Some-Leaf.is ∙ ap Some c.in-Some-Leaf.field-0-is)
 
-pub bag-returns-then-level-eq0 : goal.bag-returns-then-level-eq0
-bag-returns-then-level-eq0 t c =
-    bag_deep _ _ _ _ _ _ _ c.requires.1 _ c.form_of.ensures.value c.in-Nested.is _ _
-    c.if-level-eq0.true
+pub bag-returns-in_default : goal.bag-returns-in_default
+bag-returns-in_default t c =
+    bag_deep _ _ _ _ _ _ _ c.requires.1 _ c.form_of.ensures.value (c.in-Some-Nested.is ∙ ap Some c.in-Some-Nested.field-0-is) _ _
+    (omega (arith, c.in_default.ensures))
 
 pub bag-set-end-requires : goal.bag-set-end-requires
 bag-set-end-requires t c =
-    nest_body _ _ _ _ _ _ _ c.requires.1 _ c.form_of.ensures.value c.in-Nested.is _ c.bags-inner.ensures _
+    nest_body _ _ c.args.level _ _ _ _ c.requires.1 _ c.form_of.ensures.value (c.in-Some-Nested.is ∙ ap Some c.in-Some-Nested.field-0-is) c.in-Some.below (omega (arith, c.in-Some.ensures)) _ c.bags-inner.ensures _
     c.set-owned.ensures _ _ _ _ c.bags-all.ensures
 
 pub bag-returns-in-None : goal.bag-returns-in-None
@@ -27,19 +28,19 @@ bag-returns-in-None t c =
     bag_nothing _ _ c.args.level c.args.safe _ _ _ c.requires.1 _ c.form_of.ensures.value _ _
     c.in-None.is
 
-pub bag-returns-in-Leaf : goal.bag-returns-in-Leaf
-bag-returns-in-Leaf t c =
+pub bag-returns-in-Some-Leaf : goal.bag-returns-in-Some-Leaf
+bag-returns-in-Some-Leaf t c =
     bag_of_leaf _ _ c.args.level c.args.safe _ _ _ c.requires.1 _ c.form_of.ensures.value _ _ _ _
-    c.in-Leaf.is c.leaf.ensures
+    (c.in-Some-Leaf.is ∙ ap Some c.in-Some-Leaf.field-0-is) c.leaf.ensures
 
-pub bag-returns-else-level-eq0 : goal.bag-returns-else-level-eq0
-bag-returns-else-level-eq0 t c =
-    nest_put _ _ _ _ _ _ _ c.requires.1 _ c.form_of.ensures.value c.in-Nested.is _ c.bags-inner.ensures _
-    c.set-owned.ensures _ _ _ _ c.bags-all.ensures _ _ _ _ _ _ _ c.if-level-eq0.false c.element-content.ensures
+pub bag-returns-in-Some : goal.bag-returns-in-Some
+bag-returns-in-Some t c =
+    nest_put _ _ _ _ _ _ _ c.requires.1 _ c.form_of.ensures.value (c.in-Some-Nested.is ∙ ap Some c.in-Some-Nested.field-0-is) c.in-Some.below (omega (arith, c.in-Some.ensures)) _ c.bags-inner.ensures _
+    c.set-owned.ensures _ _ _ _ c.bags-all.ensures _ _ _ _ _ _ _ c.element-content.ensures
     c.bag_head-head.ensures c.header-body.ensures c.set-end.ensures
 
 pub bags-loop-so_far-init : goal.bags-loop-so_far-init
-bags-loop-so_far-init t c = bags_begin _ _ _ _ _ _ _ _ _ _ c.fewer-end.ensures
+bags-loop-so_far-init t c = bags_begin _ _ _ _ _ _ _ _ _ _ c.min-end.ensures
 
 pub bags-returns-then-not-belongs : goal.bags-returns-then-not-belongs
 bags-returns-then-not-belongs t c =

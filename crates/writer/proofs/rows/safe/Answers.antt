@@ -12,4 +12,4 @@ returns-in-Plain c =
 
 pub returns-in-Encrypted : goal.returns-in-Encrypted
 returns-in-Encrypted c =
-    encrypted_safe_put _ _ _ _ _ _ c.requires _ _ _ _ c.in-Encrypted.is c.encrypted_safe-end.ensures
+    encrypted_safe_put _ _ _ _ _ _ c.requires _ _ _ _ c.in-Encrypted.is c.encrypted_safe.ensures

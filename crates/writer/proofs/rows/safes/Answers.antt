@@ -4,7 +4,7 @@ use Rattle.writer.proofs.RowingSafes.{safes_begin, safes_done, safes_no_safe, sa
 use Rattle.writer.proofs.rows.safes.Goals as goal
 
 pub loop-k-init : goal.loop-k-init
-loop-k-init c = safes_begin _ _ _ _ _ c.fewer-end.ensures
+loop-k-init c = safes_begin _ _ _ _ _ c.min-end.ensures
 
 pub returns-then-is_empty_safe : goal.returns-then-is_empty_safe
 returns-then-is_empty_safe c =

@@ -1,10 +1,6 @@
-use Prim.Native.Nat.{◌-◌}
 use Rattle.writer.proofs.RowingSafes.{SafesPutting}
 use Rattle.writer.proofs.rows.safes.Given as goal
 
 abbrev pub invariant-loop-k : goal.invariant-loop-k
 invariant-loop-k l =
     SafesPutting l.table l.bytes l.end l.initial.out l.initial.so_far.at l.out l.so_far l.k
-
-abbrev pub decreases-loop-k : goal.decreases-loop-k
-decreases-loop-k l = l.end - l.k

@@ -1,4 +1,7 @@
--- The loop writes the attributes that it sees, behind the header of their set.
+-- The loop writes the attributes that it sees, behind the header of their set. It ends at the row
+-- that it began at, or at the end of the rows.
+use mathlib.Core.Path.{◌≡◌}
+use native.Mathlib.Omega.{arith}
 use borrow.Author.Rules.{rules}
 use Rattle.writer.proofs.Rowing.{set_nothing, set_begins, set_more, set_all, set_leave}
 use Rattle.writer.proofs.rows.set.Goals as goal
@@ -7,20 +10,22 @@ pub returns-then-not-has_set : goal.returns-then-not-has_set
 returns-then-not-has_set c = set_nothing _ _ _ _ _ _ _ c.if-not-has_set.true
 
 pub loop-next-init : goal.loop-next-init
-loop-next-init c =
-    set_begins _ _ c.args.has_set _ _ _ _ _ c.fewer-end.ensures
+loop-next-init c = (set_begins _ _ c.args.has_set _ _ _ _ _ c.min-end.ensures, omega arith)
 
-pub returns-then-owner-bag : goal.returns-then-owner-bag
-returns-then-owner-bag c =
-    set_leave _ _ _ _ _ _ _ _ _ _ _ c.loop-next.invariant _ _ _ c.if-not-has_set.false c.requires c.header-to.ensures
-    c.loop-next-test.true c.if-owner-bag.true
+pub returns-then-from-bag : goal.returns-then-from-bag
+returns-then-from-bag c =
+    set_leave _ _ _ _ _ _ _ _ _ _ _ c.loop-next.invariant.0 _ _ _ c.if-not-has_set.false c.requires c.header-to.ensures
+    c.loop-next-test.true (rw c.from.ensures at c.if-from-bag.true)
 
 pub loop-next-preserved : goal.loop-next-preserved
-loop-next-preserved c =
-    set_more _ _ c.args.has_set _ _ _ _ _ _ _ _ c.loop-next.invariant _ _ (search rules) c.loop-next-test.true
-    c.if-owner-bag.false c.attribute-to.ensures
+loop-next-preserved c = (
+  set_more _ _ c.args.has_set _ _ _ _ _ _ _ _ c.loop-next.invariant.0 _ _ (search rules) c.loop-next-test.true
+      (rw c.from.ensures at c.if-from-bag.false) c.attribute-to.ensures,
+  omega (arith, c.loop-next-test.true),
+)
 
 pub returns : goal.returns
 returns c =
-    set_all _ _ _ _ _ _ _ _ _ _ _ c.loop-next.invariant _ _ _ c.if-not-has_set.false c.requires c.header-to.ensures
-    c.loop-next-test.false
+    let stop : c.max.result ≡ c.loop-next.next = omega (arith, c.loop-next.invariant.1) in
+    rw stop (set_all _ _ _ _ _ _ _ _ _ _ _ c.loop-next.invariant.0 _ _ _ c.if-not-has_set.false c.requires c.header-to.ensures
+    c.loop-next-test.false)

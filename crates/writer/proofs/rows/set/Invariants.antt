@@ -1,10 +1,9 @@
-use Prim.Native.Nat.{◌-◌}
+use Prim.Native.Nat.{◌≤◌}
+use Rattle.std.specs.Prelude.{max}
 use Rattle.writer.proofs.Rowing.{SetPutting}
 use Rattle.writer.proofs.rows.set.Given as goal
 
 abbrev pub invariant-loop-next : goal.invariant-loop-next
 invariant-loop-next l =
     SetPutting l.table l.bytes l.bag l.from l.end l.initial.out l.initial.to l.out l.to l.next
-
-abbrev pub decreases-loop-next : goal.decreases-loop-next
-decreases-loop-next l = l.end - l.next
+    × (l.next ≤ max l.from l.end)

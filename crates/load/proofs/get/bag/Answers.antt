@@ -1,7 +1,0 @@
--- Its parts, each at its offset.
-use Rattle.load.specs.Loaded.{bag_loaded}
-use Rattle.load.proofs.get.bag.Goals as goal
-
-pub returns : goal.returns
-unfolding bag_loaded
-returns c = cc

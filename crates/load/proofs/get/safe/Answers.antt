@@ -1,7 +1,0 @@
--- Its parts, each at its offset.
-use Rattle.load.specs.Loaded.{safe_loaded}
-use Rattle.load.proofs.get.safe.Goals as goal
-
-pub returns : goal.returns
-unfolding safe_loaded
-returns c = cc

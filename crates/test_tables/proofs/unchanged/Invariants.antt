@@ -1,6 +1,0 @@
--- Less of the buffer is left each time.
-use Rattle.std.proofs.Common.{◌-◌, length}
-use Rattle.test_tables.proofs.unchanged.Given as goal
-
-abbrev pub decreases-loop-i : goal.decreases-loop-i
-decreases-loop-i l = length l.initial.out - l.i
