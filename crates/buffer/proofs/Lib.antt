@@ -1,5 +1,6 @@
 -- Laws of writing into a buffer.
 pub mod Placing
+pub mod Wrote
 pub mod Rows
 pub mod Writes
 pub mod Outcomes

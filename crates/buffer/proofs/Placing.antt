@@ -7,7 +7,7 @@ use native.Mathlib.Numerals.{add-one}
 use native.Mathlib.Omega.{arith}
 use lib.ListN.{length, set, take, drop, length-append, length-set, length-take}
 use lib.Seq.{sets, set_out, length-sets, sets-eq, take_all, take-nil}
-use Rattle.buffer.specs.Placed.{greatest, counted, behind, Placed, Put, Short, each}
+use Rattle.buffer.specs.Placed.{greatest, counted, behind, Placed, Short, each}
 
 -- ---- a run of stores
 
@@ -100,20 +100,6 @@ short_parted =
       front = λ x y h. record { short = omega (arith, h.short, length-append x y) };
       back = λ x y h. record { short = omega (arith, h.short, length-append x y) };
     }
-
--- what needs no condition
-pub sure : {C : List ℕ → Type 0} {d : List ℕ} {at : ℕ} {x e : List ℕ} {r : ℕ} → Placed d at x e r → Put C d at x e r
-sure p = record { done = λ h. p }
-
-pub put_nothing : {C : List ℕ → Type 0} (d : List ℕ) (at : ℕ) → Put C d at [] d at
-put_nothing d at = sure (placed_nothing d at)
-
-pub put_as : {C : List ℕ → Type 0} {d : List ℕ} {at : ℕ} {x y e : List ℕ} {r : ℕ} → x ≡ y → Put C d at x e r → Put C d at y e r
-put_as q p = rw (← q) p
-
-pub put_then : {C : List ℕ → Type 0} → Parted C → {d : List ℕ} {at : ℕ} {x m : List ℕ} {p : ℕ} {y e : List ℕ} {r : ℕ}
-    → Put C d at x m p → Put C m p y e r → Put C d at (x ++ y) e r
-put_then c {x = x} {y = y} f g = record { done = λ h. f.done (c.front x y h) then g.done (c.back x y h) }
 
 -- ---- rows
 

@@ -14,8 +14,11 @@ use Rattle.buffer.specs.BigEndian.{u16_octets, u32_octets}
 use borrow.Author.Tests.{lt-ltb, le-ltb}
 use Rattle.der.proofs.Choices.{either}
 use Rattle.buffer.specs.Placed.{greatest, behind, Placed}
+use Rattle.buffer.specs.declared.write.Out.{Out}
+use Rattle.buffer.specs.Wrote.{Wrote}
 use Rattle.buffer.specs.Text.{digit, digits}
-use Rattle.buffer.proofs.Placing.{sets_out, sets_cut, placed_nothing, placed_of, ◌then◌}
+use Rattle.buffer.proofs.Placing.{sets_out, sets_cut, placed_of}
+use Rattle.buffer.proofs.Wrote.{wrote_nothing, ◌then◌}
 
 -- ---- one byte
 
@@ -72,21 +75,21 @@ four_octets n x h e =
 
 -- ---- numbers in decimal
 
-pub digits_none : (n : ℕ) (d : List ℕ) (at k : ℕ) → k ≡ 0 → Placed d at (digits k n) d at
+pub digits_none : (n : ℕ) (d : Out) (k : ℕ) → k ≡ 0 → Wrote d (digits k n) d
 unfolding digits
-digits_none n d at zero h = placed_nothing d at
-digits_none n d at (suc k) h = absurd (omega (arith, h))
+digits_none n d zero h = wrote_nothing d
+digits_none n d (suc k) h = absurd (omega (arith, h))
 
-module _ (n : ℕ) (d : List ℕ) (at : ℕ) (e : List ℕ) (r : ℕ) where
-  pub digits_last : (k : ℕ) → (k ≡ 0 → ⊥) → n < 10 → Placed d at (digit (n % 10)) e r → Placed d at (digits k n) e r
+module _ (n : ℕ) (d e : Out) where
+  pub digits_last : (k : ℕ) → (k ≡ 0 → ⊥) → n < 10 → Wrote d (digit (n % 10)) e → Wrote d (digits k n) e
   unfolding digits
   digits_last zero p h w = absurd (p refl)
   digits_last (suc k) p h w = let z : n % 10 ≡ n = omega (arith, h) in rw (lt-ltb n 10 h) (rw z at w)
 
-  pub digits_more : (k : ℕ) (m : List ℕ) (p : ℕ) → (k ≡ 0 → ⊥) → 10 ≤ n
-      → Placed d at (digits (k - 1) (n / 10)) m p → Placed m p (digit (n % 10)) e r → Placed d at (digits k n) e r
+  pub digits_more : (k : ℕ) (m : Out) → (k ≡ 0 → ⊥) → 10 ≤ n
+      → Wrote d (digits (k - 1) (n / 10)) m → Wrote m (digit (n % 10)) e → Wrote d (digits k n) e
   unfolding digits
-  digits_more zero m p c h v w = absurd (c refl)
-  digits_more (suc k) m p c h v w =
+  digits_more zero m c h v w = absurd (c refl)
+  digits_more (suc k) m c h v w =
       let z : suc k - 1 ≡ k = omega arith in
       rw (le-ltb n 10 h) ((rw z at v) then w)

@@ -2,6 +2,7 @@
 pub mod Numbers
 pub mod Numbered
 pub mod Placed
+pub mod Wrote
 pub mod BigEndian
 pub mod Text
 pub mod Decimal

@@ -21,10 +21,6 @@ pub record Placed (d : List ℕ) (at : ℕ) (x e : List ℕ) (r : ℕ) : Type 0 
   pub bytes : e ≡ sets d at (counted at x)
   pub next : r ≡ behind at (length x)
 
--- The same where a condition on x holds.
-pub record Put (C : List ℕ → Type 0) (d : List ℕ) (at : ℕ) (x e : List ℕ) (r : ℕ) : Type 0 where
-  pub done : C x → Placed d at x e r
-
 -- the condition that sizes which are capped need: x is no longer than a file
 pub record Short (x : List ℕ) : Type 0 where
   pub short : length x ≤ file_bytes

@@ -1,8 +1,8 @@
-// Writes into a caller's buffer at an offset, and returns the offset behind what was written. What
-// lies past the end of the buffer is not written, but counted: so the same functions measure, on an
-// empty buffer.
+// Writes into a caller's buffer at an offset, which moves behind what was written. What lies past the
+// end of the buffer is not written, but counted: so the same methods measure, on an empty buffer.
 ghost use Rattle.std.specs.Prelude.{◌≡◌, [], ◌∷◌};
-ghost use Rattle.buffer.specs.Placed.{behind, Placed};
+ghost use Rattle.buffer.specs.Placed.{behind};
+ghost use Rattle.buffer.specs.Wrote.{Wrote};
 ghost use Rattle.buffer.specs.Text.{decimal, digits};
 ghost use Rattle.buffer.specs.BigEndian.{u16_octets, u32_octets};
 
@@ -18,61 +18,68 @@ pub fn after(at: usize, n: usize) -> usize
     at.saturating_add(n)
 }
 
-// One byte.
-pub fn byte(out: &mut [u8], at: usize, b: u8) -> usize
-    ensures { Placed out.old at (b ∷ []) out.new result }
-{
-    if at < out.len() {
-        out[at] = b;
+// A caller's buffer, and the offset of the next byte.
+#[derive(Drop)]
+pub struct Out<'a> {
+    pub buffer: &'a mut [u8],
+    pub at: usize,
+}
+
+impl<'a> Out<'a> {
+    // One byte.
+    pub fn byte(&mut self, b: u8)
+        ensures { Wrote self.old (b ∷ []) self.new }
+    {
+        if self.at < self.buffer.len() {
+            self.buffer[self.at] = b;
+        }
+        self.at = after(self.at, 1);
     }
-    after(at, 1)
-}
 
-// The bytes x.
-pub fn bytes(out: &mut [u8], at: usize, x: &[u8]) -> usize
-    ensures { Placed out.old at x.now out.new result }
-{
-    if at < out.len() {
-        let count = x.len().min(out.len() - at);
-        out[at..at + count].copy_from_slice(&x[..count]);
+    // The bytes x.
+    pub fn bytes(&mut self, x: &[u8])
+        ensures { Wrote self.old x.now self.new }
+    {
+        if self.at < self.buffer.len() {
+            let count = x.len().min(self.buffer.len() - self.at);
+            self.buffer[self.at..self.at + count].copy_from_slice(&x[..count]);
+        }
+        self.at = after(self.at, x.len());
     }
-    after(at, x.len())
-}
 
-// A number of two bytes, high first.
-pub fn u16_be(out: &mut [u8], at: usize, n: u16) -> usize
-    ensures { Placed out.old at (u16_octets n) out.new result }
-{
-    let two = n.to_be_bytes();
-    bytes(out, at, &two)
-}
-
-// A number of four bytes, high first.
-pub fn u32_be(out: &mut [u8], at: usize, n: u32) -> usize
-    ensures { Placed out.old at (u32_octets n) out.new result }
-{
-    let four = n.to_be_bytes();
-    bytes(out, at, &four)
-}
-
-// The last digits of a number in decimal, so many at most.
-fn digits(out: &mut [u8], at: usize, places: usize, n: usize) -> usize
-    ensures { Placed out.old at (digits places n) out.new result }
-{
-    if places == 0 {
-        return at;
+    // A number of two bytes, high first.
+    pub fn u16_be(&mut self, n: u16)
+        ensures { Wrote self.old (u16_octets n) self.new }
+    {
+        let two = n.to_be_bytes();
+        self.bytes(&two);
     }
-    let digit = ZERO + (n % 10) as u8;
-    if n < 10 {
-        return byte(out, at, digit);
-    }
-    let next = digits(out, at, places - 1, n / 10);
-    byte(out, next, digit)
-}
 
-// A number in decimal.
-pub fn decimal(out: &mut [u8], at: usize, n: usize) -> usize
-    ensures { Placed out.old at (decimal n) out.new result }
-{
-    digits(out, at, PLACES, n)
+    // A number of four bytes, high first.
+    pub fn u32_be(&mut self, n: u32)
+        ensures { Wrote self.old (u32_octets n) self.new }
+    {
+        let four = n.to_be_bytes();
+        self.bytes(&four);
+    }
+
+    // The last digits of a number in decimal, so many at most.
+    fn digits(&mut self, places: usize, n: usize)
+        ensures { Wrote self.old (digits places n) self.new }
+    {
+        if places == 0 {
+            return;
+        }
+        if 10 <= n {
+            self.digits(places - 1, n / 10);
+        }
+        self.byte(ZERO + (n % 10) as u8);
+    }
+
+    // A number in decimal.
+    pub fn decimal(&mut self, n: usize)
+        ensures { Wrote self.old (decimal n) self.new }
+    {
+        self.digits(PLACES, n);
+    }
 }

@@ -7,8 +7,9 @@ use lib.ListN.{length, get_or, length-append, get_or-append}
 use Rattle.der.specs.Octets.{digits, tlv, integer_octets}
 use Rattle.der.proofs.Choices.{chosen_lt, chosen_le, either}
 use Rattle.der.proofs.Octets.{digits_small, digits_more, digits_some, octets_short, octets_long}
-use Rattle.buffer.specs.Placed.{Placed}
-use Rattle.buffer.proofs.Placing.{◌then◌}
+use Rattle.buffer.specs.declared.write.Out.{Out}
+use Rattle.buffer.specs.Wrote.{Wrote}
+use Rattle.buffer.proofs.Wrote.{◌then◌}
 use Rattle.encode.specs.Header.{header}
 
 -- ---- how many digits a number has, and the first of them
@@ -49,34 +50,33 @@ count_few r n e h = omega (arith, e, few 7 n h)
 
 -- ---- written
 
-module _ (n : ℕ) (d : List ℕ) (at : ℕ) (e : List ℕ) (r : ℕ) where
-  pub digits_last : n < 256 → Placed d at (n % 256 ∷ []) e r → Placed d at (digits n) e r
+module _ (n : ℕ) (d e : Out) where
+  pub digits_last : n < 256 → Wrote d (n % 256 ∷ []) e → Wrote d (digits n) e
   digits_last h f = let z : n % 256 ≡ n = omega (arith, h) in rw (digits_small n h) (rw z at f)
 
-  pub digits_then : (m : List ℕ) (p : ℕ) → 256 ≤ n → Placed d at (digits (n / 256)) m p → Placed m p (n % 256 ∷ []) e r
-      → Placed d at (digits n) e r
-  digits_then m p h f g = rw (digits_more n h) (f then g)
+  pub digits_then : (m : Out) → 256 ≤ n → Wrote d (digits (n / 256)) m → Wrote m (n % 256 ∷ []) e → Wrote d (digits n) e
+  digits_then m h f g = rw (digits_more n h) (f then g)
 
-module _ (d : List ℕ) (at t n : ℕ) (m : List ℕ) (p : ℕ) (f : Placed d at (t ∷ []) m p) (e : List ℕ) (r : ℕ) where
-  pub header_short : n < 128 → Placed m p (n ∷ []) e r → Placed d at (header t n) e r
+module _ (d : Out) (t n : ℕ) (m : Out) (f : Wrote d (t ∷ []) m) (e : Out) where
+  pub header_short : n < 128 → Wrote m (n ∷ []) e → Wrote d (header t n) e
   unfolding header
   header_short h g = rw (octets_short n h) (f then g)
 
-  pub header_long : (k : ℕ) (m2 : List ℕ) (p2 : ℕ) → 128 ≤ n → k ≡ length (digits n) → Placed m p ((128 + k) ∷ []) m2 p2
-      → Placed m2 p2 (digits n) e r → Placed d at (header t n) e r
+  pub header_long : (k : ℕ) (m2 : Out) → 128 ≤ n → k ≡ length (digits n) → Wrote m ((128 + k) ∷ []) m2
+      → Wrote m2 (digits n) e → Wrote d (header t n) e
   unfolding header
-  header_long k m2 p2 h c g w = rw (octets_long n h) (f then ((rw c at g) then w))
+  header_long k m2 h c g w = rw (octets_long n h) (f then ((rw c at g) then w))
 
 -- an element is its header and its body
-pub element_then : (d : List ℕ) (at t : ℕ) (m : List ℕ) (p : ℕ) (b e : List ℕ) (r : ℕ)
-    → Placed d at (header t (length b)) m p → Placed m p b e r → Placed d at (tlv t b) e r
+pub element_then : (d : Out) (t : ℕ) (m : Out) (b : List ℕ) (e : Out)
+    → Wrote d (header t (length b)) m → Wrote m b e → Wrote d (tlv t b) e
 unfolding tlv header
-element_then d at t m p b e r f g = f then g
+element_then d t m b e f g = f then g
 
 -- the same by a size that is the body's
-pub element_by : (n : ℕ) (d : List ℕ) (at t : ℕ) (m : List ℕ) (p : ℕ) (b e : List ℕ) (r : ℕ) → n ≡ length b
-    → Placed d at (header t n) m p → Placed m p b e r → Placed d at (tlv t b) e r
-element_by n d at t m p b e r q f g = element_then d at t m p b e r (rw q at f) g
+pub element_by : (n : ℕ) (d : Out) (t : ℕ) (m : Out) (b : List ℕ) (e : Out) → n ≡ length b
+    → Wrote d (header t n) m → Wrote m b e → Wrote d (tlv t b) e
+element_by n d t m b e q f g = element_then d t m b e (rw q at f) g
 
 -- ---- an INTEGER, by its first digit
 
@@ -95,10 +95,9 @@ module _ (n k : ℕ) (h : k ≡ get_or (digits n) 0 0) where
   pub integer_led : (r : ℕ) → 128 ≤ k → r ≡ length (digits n) → r + 1 ≡ length (integer_octets n)
   integer_led r l e = rw (led l) (omega (arith, e))
 
-  module _ (d : List ℕ) (at : ℕ) (e : List ℕ) (r : ℕ) where
-    pub octets_plain : k < 128 → Placed d at (digits n) e r → Placed d at (integer_octets n) e r
+  module _ (d e : Out) where
+    pub octets_plain : k < 128 → Wrote d (digits n) e → Wrote d (integer_octets n) e
     octets_plain l f = rw (plain l) f
 
-    pub octets_led : (m : List ℕ) (p : ℕ) → 128 ≤ k → Placed d at (0 ∷ []) m p → Placed m p (digits n) e r
-        → Placed d at (integer_octets n) e r
-    octets_led m p l f g = rw (led l) (f then g)
+    pub octets_led : (m : Out) → 128 ≤ k → Wrote d (0 ∷ []) m → Wrote m (digits n) e → Wrote d (integer_octets n) e
+    octets_led m l f g = rw (led l) (f then g)

@@ -1,68 +1,66 @@
-// Writes into a caller's buffer at an offset, and returns the offset behind what was written, as
-// `buffer::write` does.
+// Writes into a caller's buffer at an offset, which moves behind what was written, as the methods of
+// `buffer::write::Out` do.
 ghost use Rattle.der.specs.Octets.{digits, integer_octets, tlv, integer};
-ghost use Rattle.buffer.specs.Placed.{Placed};
+ghost use Rattle.buffer.specs.Wrote.{Wrote};
 ghost use Rattle.range.specs.Range.{bytes_in};
 ghost use Rattle.encode.specs.Header.{header};
 
-use buffer::write;
+use buffer::write::Out;
 use range::Range;
 
 // A number to the base 256, high first.
-fn digits(out: &mut [u8], at: usize, n: usize) -> usize
-    ensures { Placed out.old at (digits n) out.new result }
+fn digits(out: &mut Out, n: usize)
+    ensures { Wrote out.old (digits n) out.new }
 {
-    let low = (n % 256) as u8;
-    if n < 256 {
-        return write::byte(out, at, low);
+    if 256 <= n {
+        digits(out, n / 256);
     }
-    let next = digits(out, at, n / 256);
-    write::byte(out, next, low)
+    out.byte((n % 256) as u8);
 }
 
 // The header of an element whose body has n bytes.
-pub fn header(out: &mut [u8], at: usize, tag: u8, n: usize) -> usize
-    ensures { Placed out.old at (header tag n) out.new result }
+pub fn header(out: &mut Out, tag: u8, n: usize)
+    ensures { Wrote out.old (header tag n) out.new }
 {
-    let second = write::byte(out, at, tag);
+    out.byte(tag);
     if n < 0x80 {
-        return write::byte(out, second, n as u8);
+        out.byte(n as u8);
+        return;
     }
     let form = 0x80 + crate::count(n);
-    let third = write::byte(out, second, form as u8);
-    digits(out, third, n)
+    out.byte(form as u8);
+    digits(out, n);
 }
 
 // The element with the body x.
-pub fn element(out: &mut [u8], at: usize, tag: u8, x: &[u8]) -> usize
-    ensures { Placed out.old at (tlv tag x.now) out.new result }
+pub fn element(out: &mut Out, tag: u8, x: &[u8])
+    ensures { Wrote out.old (tlv tag x.now) out.new }
 {
-    let body = header(out, at, tag, x.len());
-    write::bytes(out, body, x)
+    header(out, tag, x.len());
+    out.bytes(x);
 }
 
 // The element with the body that a range names.
-pub fn named(out: &mut [u8], at: usize, tag: u8, bytes: &[u8], range: Range) -> usize
-    ensures { Placed out.old at (tlv tag (bytes_in bytes.now range)) out.new result }
+pub fn named(out: &mut Out, tag: u8, bytes: &[u8], range: Range)
+    ensures { Wrote out.old (tlv tag (bytes_in bytes.now range)) out.new }
 {
-    element(out, at, tag, range.part(bytes))
+    element(out, tag, range.part(bytes));
 }
 
 // The body of the INTEGER n.
-fn octets(out: &mut [u8], at: usize, n: usize) -> usize
-    ensures { Placed out.old at (integer_octets n) out.new result }
+fn octets(out: &mut Out, n: usize)
+    ensures { Wrote out.old (integer_octets n) out.new }
 {
-    if crate::first(n) < 0x80 {
-        return digits(out, at, n);
+    if 0x80 <= crate::first(n) {
+        out.byte(0x00);
     }
-    let next = write::byte(out, at, 0x00);
-    digits(out, next, n)
+    digits(out, n);
 }
 
 // The INTEGER n.
-pub fn integer(out: &mut [u8], at: usize, n: u32) -> usize
-    ensures { Placed out.old at (integer n) out.new result }
+pub fn integer(out: &mut Out, n: u32)
+    ensures { Wrote out.old (integer n) out.new }
 {
-    let body = header(out, at, der::INTEGER, crate::size::integer(n));
-    octets(out, body, n as usize)
+    header(out, der::INTEGER, crate::size::integer(n));
+    octets(out, n as usize);
 }

@@ -6,42 +6,43 @@ ghost use Rattle.std.specs.Prelude.{◌≡◌, length};
 ghost use Rattle.buffer.specs.Report.{written_report};
 ghost use Rattle.listing.specs.Lines.{head_lines, accepted_lines, answered, listing};
 ghost use Rattle.listing.specs.Listed.{listed};
-ghost use Rattle.buffer.specs.Placed.{Placed};
+ghost use Rattle.buffer.specs.Wrote.{Wrote};
 
 mod lines;
 mod out;
 mod rows;
 
+use buffer::write::Out;
 use der::Fault;
 use pkcs12::{ATTRIBUTE_ROWS, BAG_ROWS, Reading, SAFE_ROWS, Table};
 
 // The three lines that every accepted file has.
-fn head(out: &mut [u8], at: usize, size: usize, table: Table) -> usize
-    ensures { Placed out.old at (head_lines size table) out.new result }
+fn head(out: &mut Out, size: usize, table: Table)
+    ensures { Wrote out.old (head_lines size table) out.new }
 {
     let safes = table.safe_count.min(SAFE_ROWS);
     let bags = table.bag_count.min(BAG_ROWS);
     let attributes = table.attribute_count.min(ATTRIBUTE_ROWS);
-    let first = lines::file_line(out, at, size, table.elements);
-    let second = lines::counts_line(out, first, safes, bags, attributes);
-    lines::mac_line(out, second, table.mac_input, table.mac)
+    lines::file_line(out, size, table.elements);
+    lines::counts_line(out, safes, bags, attributes);
+    lines::mac_line(out, table.mac_input, table.mac);
 }
 
-fn accepted(out: &mut [u8], at: usize, size: usize, table: Table) -> usize
-    ensures { Placed out.old at (accepted_lines size table) out.new result }
+fn accepted(out: &mut Out, size: usize, table: Table)
+    ensures { Wrote out.old (accepted_lines size table) out.new }
 {
-    let safes = head(out, at, size, table);
-    let bags = rows::safe_lines(out, safes, table);
-    let attributes = rows::bag_lines(out, bags, table);
-    rows::attribute_lines(out, attributes, table)
+    head(out, size, table);
+    rows::safe_lines(out, table);
+    rows::bag_lines(out, table);
+    rows::attribute_lines(out, table);
 }
 
-fn answered(out: &mut [u8], answer: Result<(), Fault>, size: usize, table: Table) -> usize
-    ensures { Placed out.old 0 (answered answer size table) out.new result }
+fn answered(out: &mut Out, answer: Result<(), Fault>, size: usize, table: Table)
+    ensures { Wrote out.old (answered answer size table) out.new }
 {
     match answer {
-        Ok(()) => accepted(out, 0, size, table),
-        Err(f) => text::refused(out, 0, f),
+        Ok(()) => accepted(out, size, table),
+        Err(f) => text::refused(out, f),
     }
 }
 
@@ -49,7 +50,12 @@ fn answered(out: &mut [u8], answer: Result<(), Fault>, size: usize, table: Table
 fn measured(size: usize, reading: Reading) -> usize
     ensures { result ≡ length (listing size reading) }
 {
-    answered(&mut [], reading.answer, size, reading.table)
+    let mut out = Out {
+        buffer: &mut [],
+        at: 0,
+    };
+    answered(&mut out, reading.answer, size, reading.table);
+    out.at
 }
 
 // Writes the listing of a file of this size. Nothing is written before it is known that the buffer
@@ -66,6 +72,7 @@ pub fn list(size: usize, reading: Reading, out: &mut [u8]) -> Result<usize, Faul
             offset: 0,
         });
     }
-    answered(out, reading.answer, size, reading.table);
+    let mut to = Out { buffer: out, at: 0 };
+    answered(&mut to, reading.answer, size, reading.table);
     Ok(n)
 }

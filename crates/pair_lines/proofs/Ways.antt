@@ -13,7 +13,10 @@ use Rattle.pkcs12.specs.declared.answers.Reading.{Reading}
 use Rattle.der.specs.declared.Fault.{Fault}
 use Rattle.std.specs.Prelude.{Err, Ok, Result}
 use Rattle.buffer.specs.Placed.{greatest, Placed}
-use Rattle.buffer.proofs.Placing.{placed_nothing, placed_end, placed_whole}
+use Rattle.buffer.proofs.Placing.{placed_end, placed_whole}
+use Rattle.buffer.proofs.Wrote.{wrote_nothing}
+use Rattle.buffer.specs.Wrote.{Wrote}
+use Rattle.buffer.specs.declared.write.Out.{Out}
 use Rattle.buffer.proofs.Outcomes.{too_short, written}
 use Rattle.pairing.specs.Pairs.{is_key}
 use Rattle.pair_lines.specs.Lines.{pair_line, bag_line, pairs_text}
@@ -21,44 +24,47 @@ use Rattle.pair_lines.specs.Listed.{pairs_bytes, pairs_listed}
 use Rattle.pair_lines.proofs.Short.{short}
 
 -- the line of one bag
-module _ (d : List ℕ) (at : ℕ) (kind : BagKind) (u : Bool) (e : u ≡ is_key kind) where
-  pub is_line : (z : List ℕ) (r : ℕ) → u ≡ true → (i : ℕ) (p q : Result ℕ Fault) → p ≡ q → Placed d at (pair_line i p) z r
-      → Placed d at (bag_line kind i q) z r
+module _ (d : Out) (kind : BagKind) (u : Bool) (e : u ≡ is_key kind) where
+  pub is_line : (m : Out) → u ≡ true → (i : ℕ) (p q : Result ℕ Fault) → p ≡ q → Wrote d (pair_line i p) m
+      → Wrote d (bag_line kind i q) m
   unfolding bag_line
-  is_line z r t i p q w h = rw (sym e ∙ t) (rw w at h)
+  is_line m t i p q w h = rw (sym e ∙ t) (rw w at h)
 
-  pub no_line : u ≡ false → (i : ℕ) (p : Result ℕ Fault) → Placed d at (bag_line kind i p) d at
+  pub no_line : u ≡ false → (i : ℕ) (p : Result ℕ Fault) → Wrote d (bag_line kind i p) d
   unfolding bag_line
-  no_line t i p = rw (sym e ∙ t) (placed_nothing d at)
+  no_line t i p = rw (sym e ∙ t) (wrote_nothing d)
 
--- the text of a file's pairs, which was made in a buffer d that holds any
-module _ (s : List ℕ) (r : Reading) (d text : List ℕ) (n : ℕ) (made : Placed d 0 (pairs_text s r) text n) where
+-- the text of a file's pairs, which was made in a buffer that holds any
+module _ (s : List ℕ) (r : Reading) (d e : Out) (w : Wrote d (pairs_text s r) e) (a : d.at ≡ 0) where
+  made : Placed d.buffer.now 0 (pairs_text s r) e.buffer.now e.at
+  made = rw a at w.put
+
   below : length (pairs_text s r) ≤ greatest
   below = omega (arith, short s r)
 
-  made_length : n ≡ length (pairs_text s r)
+  made_length : e.at ≡ length (pairs_text s r)
   made_length = placed_end made below
 
-  pub made_most : n ≤ pairs_bytes
+  pub made_most : e.at ≤ pairs_bytes
   made_most = omega (arith, made_length, short s r)
 
-  -- its first n bytes
-  made_whole : pairs_bytes ≡ length d → take n text ≡ pairs_text s r
-  made_whole e =
+  -- its first bytes
+  made_whole : pairs_bytes ≡ length d.buffer.now → take e.at e.buffer.now ≡ pairs_text s r
+  made_whole h =
       let x : List ℕ = pairs_text s r in
-      rw (placed_whole made (omega (arith, short s r, e)) below) (take_at x (drop (length x) d) n (sym made_length))
+      rw (placed_whole made (omega (arith, short s r, h)) below) (take_at x (drop (length x) d.buffer.now) e.at (sym made_length))
 
   module _ (buffer : List ℕ) where
     -- the answer and the buffer afterwards are those of `list`
     abbrev pub Left : Result ℕ Fault → List ℕ → Type 0
-    Left w z = (w ≡ (pairs_listed s r buffer).answer) × (z ≡ (pairs_listed s r buffer).buffer)
+    Left v z = (v ≡ (pairs_listed s r buffer).answer) × (z ≡ (pairs_listed s r buffer).buffer)
 
-    pub list_refused : length buffer < n → Left (Err (fault short_buffer 0)) buffer
-    list_refused h = too_short (pairs_text s r) buffer n made_length h
+    pub list_refused : length buffer < e.at → Left (Err (fault short_buffer 0)) buffer
+    list_refused h = too_short (pairs_text s r) buffer e.at made_length h
 
-    pub list_wrote : n ≤ length buffer → pairs_bytes ≡ length d → (z : List ℕ) → z ≡ take n text
-        → Left (Ok n) (z ++ drop n buffer)
-    list_wrote h e z w =
+    pub list_wrote : e.at ≤ length buffer → pairs_bytes ≡ length d.buffer.now → (text : List ℕ) → text ≡ e.buffer.now
+        → (z : List ℕ) → z ≡ take e.at text → Left (Ok e.at) (z ++ drop e.at buffer)
+    list_wrote h l text t z q =
         let x : List ℕ = pairs_text s r in
-        rw (w, made_whole e, written x buffer (omega (arith, h, made_length)))
+        rw (q, t, made_whole l, written x buffer (omega (arith, h, made_length)))
         (ap {B = Result ℕ Fault} Ok made_length, ap {B = List ℕ} (λ (k : ℕ). x ++ drop k buffer) made_length)

@@ -6,72 +6,63 @@
 ghost use Rattle.std.specs.Prelude.{◌≡◌};
 ghost use Rattle.der.specs.Span.{Bytes};
 ghost use Rattle.buffer.specs.Report.{written_report};
-ghost use Rattle.buffer.specs.Placed.{Placed};
+ghost use Rattle.buffer.specs.Wrote.{Wrote};
 ghost use Rattle.identities.specs.Identities.{certificate_for};
 ghost use Rattle.pair_lines.specs.Lines.{answer_text, pair_line, bag_line, pair_lines, answered};
 ghost use Rattle.pair_lines.specs.Listed.{pairs_listed};
 
+use buffer::write::Out;
 use der::Fault;
-use pkcs12::{BagKind, Reading, Table};
+use pkcs12::{BAG_ROWS, BagKind, Reading, Table};
 
 // No text is longer: 67 bytes a line, and a line for each bag row.
 pub const PAIRS_BYTES: usize = 4288;
 
 // The row of a certificate, or the number of a refusal.
-fn answer_text(out: &mut [u8], at: usize, paired: Result<usize, Fault>) -> usize
-    ensures { Placed out.old at (answer_text paired) out.new result }
+fn answer_text(out: &mut Out, paired: Result<usize, Fault>)
+    ensures { Wrote out.old (answer_text paired) out.new }
 {
     match paired {
-        Ok(row) => text::number(out, at, b": certificate bag ", row),
-        Err(f) => text::number(out, at, b": refused ", f.number as usize),
+        Ok(row) => text::number(out, b": certificate bag ", row),
+        Err(f) => text::number(out, b": refused ", f.number as usize),
     }
 }
 
-fn pair_line(out: &mut [u8], at: usize, key: usize, paired: Result<usize, Fault>) -> usize
-    ensures { Placed out.old at (pair_line key paired) out.new result }
+fn pair_line(out: &mut Out, key: usize, paired: Result<usize, Fault>)
+    ensures { Wrote out.old (pair_line key paired) out.new }
 {
-    let number = text::number(out, at, b"key bag ", key);
-    let answer = answer_text(out, number, paired);
-    buffer::write::bytes(out, answer, b"\n")
+    text::number(out, b"key bag ", key);
+    answer_text(out, paired);
+    out.bytes(b"\n");
 }
 
 // The line of a bag, if it is a key's.
-fn bag_line(
-    out: &mut [u8],
-    at: usize,
-    table: Table,
-    file: &[u8],
-    bag: usize,
-    kind: BagKind,
-) -> usize
-    ensures { Placed out.old at (bag_line kind bag (certificate_for table file.now bag))
-        out.new result }
+fn bag_line(out: &mut Out, table: Table, file: &[u8], bag: usize, kind: BagKind)
+    ensures { Wrote out.old (bag_line kind bag (certificate_for table file.now bag)) out.new }
 {
     if !pairing::is_key(kind) {
-        return at;
+        return;
     }
     let paired = identities::certificate_for(table, file, bag);
-    pair_line(out, at, bag, paired)
+    pair_line(out, bag, paired);
 }
 
 // A line for each key bag, in the order of the rows.
-fn bag_lines(out: &mut [u8], table: Table, file: &[u8]) -> usize
-    ensures { Placed out.old 0 (pair_lines table file.now) out.new result }
+fn bag_lines(out: &mut Out, table: Table, file: &[u8])
+    ensures { Wrote out.old (pair_lines table file.now) out.new }
 {
-    let n = range::fewer(table.bag_count, pkcs12::BAG_ROWS);
-    let mut to = 0;
-    for i in 0..n {
-        to = bag_line(out, to, table, file, i, table.bags[i].kind);
+    let n = table.bag_count.min(BAG_ROWS);
+    for (i, row) in table.bags[..n].iter().enumerate() {
+        bag_line(out, table, file, i, row.kind);
     }
-    to
 }
 
-fn answered(out: &mut [u8], answer: Result<(), Fault>, table: Table, file: &[u8]) -> usize
-    ensures { Placed out.old 0 (answered answer table file.now) out.new result }
+fn answered(out: &mut Out, answer: Result<(), Fault>, table: Table, file: &[u8])
+    ensures { Wrote out.old (answered answer table file.now) out.new }
 {
     match answer {
         Ok(()) => bag_lines(out, table, file),
-        Err(f) => text::refused(out, 0, f),
+        Err(f) => text::refused(out, f),
     }
 }
 
@@ -84,7 +75,12 @@ pub fn list(file: &[u8], reading: Reading, out: &mut [u8]) -> Result<usize, Faul
     ensures bytes { Bytes file.now }
 {
     let mut text = [0u8; PAIRS_BYTES];
-    let n = answered(&mut text, reading.answer, reading.table, file);
+    let mut made = Out {
+        buffer: &mut text,
+        at: 0,
+    };
+    answered(&mut made, reading.answer, reading.table, file);
+    let n = made.at;
     if out.len() < n {
         return Err(Fault {
             number: buffer::SHORT_BUFFER,

@@ -6,7 +6,9 @@ use native.Mathlib.Omega.{arith}
 use lib.ListN.{length, length-take}
 use lib.Seq.{slice}
 use Rattle.der.specs.declared.Fault.{Fault}
-use Rattle.buffer.specs.Placed.{behind}
+use Rattle.buffer.specs.declared.write.Out.{Out}
+use Rattle.buffer.specs.Wrote.{Wrote}
+use Rattle.buffer.proofs.Placing.{placed_end, placed_length}
 use Rattle.buffer.specs.Text.{ascii}
 use Rattle.std.specs.Prelude.{Err, Ok, Result, MatchResult, IsErrAnd}
 use Rattle.text.proofs.Short.{Short, word, number, ◌and◌}
@@ -36,8 +38,12 @@ line_short : (n : ℕ) → Short 72 (unwrapped_line n)
 unfolding unwrapped_line ascii
 line_short n = number (ascii "unwrapped ") n and word (ascii " bytes of text: ranges are of these bytes\n")
 
--- of a buffer of 128 bytes the line is handed on whole
-pub whole_line : (n end r : ℕ) (part buffer : List ℕ) → part ≡ slice 0 end buffer → 128 ≡ length buffer
-    → end ≡ behind 0 (length (unwrapped_line n)) → r ≡ length part → r ≡ length (unwrapped_line n)
-whole_line n end r part buffer p b e q =
-    omega (arith, q, ap length p, length-take end buffer, b, e, (line_short n).most)
+-- z is what the line leaves of a buffer of 128 bytes: it is handed on whole
+pub whole_line : (n r : ℕ) (d e : Out) (part z : List ℕ) → Wrote d (unwrapped_line n) e → d.at ≡ 0
+    → 128 ≡ length d.buffer.now → z ≡ e.buffer.now → part ≡ slice 0 e.at z → r ≡ length part
+    → r ≡ length (unwrapped_line n)
+whole_line n r d e part z w a b t p q =
+    let long : length z ≡ length d.buffer.now = ap length t ∙ placed_length w.put in
+    let end : e.at ≡ length (unwrapped_line n) =
+    placed_end (rw a at w.put) (omega (arith, (line_short n).most)) in
+    omega (arith, q, ap length p, length-take e.at z, b, long, end, (line_short n).most)

@@ -3,11 +3,11 @@
 #![tactic(auto)]
 
 ghost use Rattle.std.specs.Prelude.{◌≡◌, length, IfOk};
-ghost use Rattle.buffer.specs.Placed.{Placed};
+ghost use Rattle.buffer.specs.Wrote.{Wrote};
 ghost use Rattle.buffer.specs.Report.{written_report};
 ghost use Rattle.source.specs.Source.{file_in, unwrapped_line, so_far, imported_so_far};
 
-use buffer::write;
+use buffer::write::Out;
 use der::Fault;
 use std::io;
 use std::io::Stderr;
@@ -16,11 +16,11 @@ use std::io::Stderr;
 pub const READ_BYTES: usize = pem::TEXT_BYTES + 1;
 
 // The line that says how many bytes were unwrapped.
-fn unwrapped_line(out: &mut [u8], at: usize, n: usize) -> usize
-    ensures { Placed out.old at (unwrapped_line n) out.new result }
+fn unwrapped_line(out: &mut Out, n: usize)
+    ensures { Wrote out.old (unwrapped_line n) out.new }
 {
-    let next = text::number(out, at, b"unwrapped ", n);
-    write::bytes(out, next, b" bytes of text: ranges are of these bytes\n")
+    text::number(out, b"unwrapped ", n);
+    out.bytes(b" bytes of text: ranges are of these bytes\n");
 }
 
 // Writes the line to standard error. Returns the number of bytes handed on.
@@ -28,7 +28,12 @@ fn say_unwrapped(errors: &mut Stderr, n: usize) -> io::Result<usize>
     ensures { IfOk result (λ k. k ≡ length (unwrapped_line n)) }
 {
     let mut line = [0u8; 128];
-    let end = unwrapped_line(&mut line, 0, n);
+    let mut out = Out {
+        buffer: &mut line,
+        at: 0,
+    };
+    unwrapped_line(&mut out, n);
+    let end = out.at;
     stdio::write_error(errors, range::part(&line, 0, end))
 }
 

@@ -5,23 +5,22 @@ use mathlib.Core.List.{List}
 use Prim.Native.Nat.{ℕ, ◌≤◌, ◌<◌, ◌^◌, ◌-◌}
 use native.Mathlib.Nat.{pow-le-pow_right}
 use native.Mathlib.Omega.{arith}
-use lib.Dec.{ltb}
 use lib.ListN.{length}
 use borrow.Author.Tests.{le-ltb}
-use Rattle.std.specs.Prelude.{if◌then◌else◌}
 use Rattle.der.specs.declared.Fault.{Fault}
 use Rattle.der.proofs.Choices.{either}
-use Rattle.buffer.specs.Placed.{behind}
 use Rattle.text.specs.Text.{refused_line}
 use Rattle.text.proofs.Short.{refused_line_lem}
 use Rattle.std.specs.Prelude.{Result, Ok, Err, IfOk}
 use Rattle.io.specs.Digits.{IsDigitCount}
 use Rattle.std.specs.Prelude.{Option, OnErr, OnOk, take}
 use Rattle.std.specs.Io.KnownBytes.{Appends}
-use Rattle.std.proofs.Common.{drop, ◌++◌, ap, take_all, ◌+◌}
-use Rattle.std.proofs.lemmas.List.Edits.{sets, sets-eq}
+use Rattle.std.proofs.Common.{drop, ◌++◌}
 use lib.Seq.{take-append_seam}
 use Rattle.buffer.specs.Placed.{Placed}
+use Rattle.buffer.specs.Wrote.{Wrote}
+use Rattle.buffer.specs.declared.write.Out.{Out}
+use Rattle.buffer.proofs.Placing.{placed_end, placed_length, placed_whole}
 use Rattle.stdio.specs.Handed.{Begun, front, handed, handed_bytes}
 
 -- what follows of a value follows of the value that a call returned, if it did
@@ -47,34 +46,31 @@ module _ (buffer : List ℕ) (result : Result ℕ Fault) where
   unfolding handed
   of_refusal f r e p = rw e p
 
--- of a buffer of 64 bytes the line of a refusal is handed on whole
-pub whole_line : (f : Fault) (size n r : ℕ) → 64 ≡ size → n ≡ behind 0 (length (refused_line f))
-    → r ≡ (if ltb size n then 0 else n) → r ≡ length (refused_line f)
-whole_line f size n r b p e = e ∙ rw (le-ltb size n (omega (arith, b, all, (refused_line_lem f).most))) all
-  where
-    all : n ≡ length (refused_line f)
-    all = omega (arith, p, (refused_line_lem f).most)
+-- z is what the line of a refusal leaves of a buffer of 64 bytes
+module _ (f : Fault) (q e : Out) (z : List ℕ) (w : Wrote q (refused_line f) e) (a : q.at ≡ 0)
+    (b : 64 ≡ length q.buffer.now) (s : z ≡ e.buffer.now) where
+  put : Placed q.buffer.now 0 (refused_line f) z e.at
+  put = rw s (rw a at w.put)
 
--- of a buffer of 64 bytes the line of a refusal is handed on as it is
-pub whole_text : (f : Fault) (before buffer : List ℕ) (n : ℕ) → 64 ≡ length before → 64 ≡ length buffer
-    → Placed before 0 (refused_line f) buffer n → take (front buffer n) buffer ≡ refused_line f
-whole_text f before buffer n b l p =
-    rw (le-ltb (length buffer) n (omega (arith, l, all, short)))
-    (ap (λ k. take k buffer) all ∙ ap (take (length x)) is ∙ take-append_seam x (drop (0 + length x) before))
-  where
-    x : List ℕ
-    x = refused_line f
+  short : length (refused_line f) ≤ 53
+  short = (refused_line_lem f).most
 
-    short : length x ≤ 53
-    short = (refused_line_lem f).most
+  all : e.at ≡ length (refused_line f)
+  all = placed_end put (omega (arith, short))
 
-    all : n ≡ length x
-    all = omega (arith, p.next, short)
+  handed_on : front z e.at ≡ e.at
+  handed_on = rw (le-ltb (length z) e.at (omega (arith, b, placed_length put, all, short))) refl
 
-    is : buffer ≡ x ++ drop (0 + length x) before
-    is =
-        p.bytes ∙ ap (sets before 0) (take_all 0xFFFFFFFFFFFFFFFF x (omega (arith, short)))
-        ∙ sets-eq x before 0 (omega (arith, b, short))
+  -- the line is handed on whole
+  pub whole_line : (r : ℕ) → r ≡ front z e.at → r ≡ length (refused_line f)
+  whole_line r h = h ∙ handed_on ∙ all
+
+  -- and as it is
+  pub whole_text : take (front z e.at) z ≡ refused_line f
+  whole_text =
+      let x : List ℕ = refused_line f in
+      let is : z ≡ x ++ drop (length x) q.buffer.now = placed_whole put (omega (arith, b, short)) (omega (arith, short)) in
+      rw (handed_on, all, is) (take-append_seam x (drop (length x) q.buffer.now))
 
 -- what is handed on is equal, so it is what the output gets
 pub equal_bytes : {E : Type 0} (r : Result ℕ E) (before after : Option (List ℕ)) (x y : List ℕ) → x ≡ y

@@ -14,6 +14,7 @@ ghost use Rattle.stdio.specs.Handed.{Begun, front, handed, handed_bytes};
 ghost use Rattle.stdio.specs.Taken.{AtFront, TakenFrame};
 ghost use Rattle.text.specs.Text.{refused_line};
 
+use buffer::write::Out;
 use der::Fault;
 use std::io::{Error, ErrorKind, Read, Result, Stderr, Write};
 
@@ -110,7 +111,12 @@ pub fn write_refused<W: Write>(output: &mut W, fault: Fault) -> Result<usize>
     ensures err { OnErr result (Begun (W.contents output.old) (W.contents output.new) (refused_line fault)) }
 {
     let mut line = [0u8; 64];
-    let n = text::refused(&mut line, 0, fault);
+    let mut out = Out {
+        buffer: &mut line,
+        at: 0,
+    };
+    text::refused(&mut out, fault);
+    let n = out.at;
     write_front(output, &line, n)
 }
 

@@ -1,27 +1,27 @@
-// Text in lines, into a caller's buffer at an offset; each function returns the offset behind what
-// was written. What lies past the end of the buffer is not written, but counted: so the same
-// functions measure, on an empty buffer.
+// Text in lines, into a caller's buffer at an offset, which moves behind what was written. What lies
+// past the end of the buffer is not written, but counted: so the same functions measure, on an empty
+// buffer.
 #![tactic(auto)]
 
-ghost use Rattle.buffer.specs.Placed.{Placed};
+ghost use Rattle.buffer.specs.Wrote.{Wrote};
 ghost use Rattle.text.specs.Text.{number_text, refused_line};
 
-use buffer::write;
+use buffer::write::Out;
 use der::Fault;
 
 // A name and a number.
-pub fn number(out: &mut [u8], at: usize, name: &[u8], n: usize) -> usize
-    ensures { Placed out.old at (number_text name.now n) out.new result }
+pub fn number(out: &mut Out, name: &[u8], n: usize)
+    ensures { Wrote out.old (number_text name.now n) out.new }
 {
-    let next = write::bytes(out, at, name);
-    write::decimal(out, next, n)
+    out.bytes(name);
+    out.decimal(n);
 }
 
 // The line of a refusal.
-pub fn refused(out: &mut [u8], at: usize, f: Fault) -> usize
-    ensures { Placed out.old at (refused_line f) out.new result }
+pub fn refused(out: &mut Out, f: Fault)
+    ensures { Wrote out.old (refused_line f) out.new }
 {
-    let first = number(out, at, b"refused ", f.number as usize);
-    let second = number(out, first, b" at ", f.offset);
-    write::bytes(out, second, b"\n")
+    number(out, b"refused ", f.number as usize);
+    number(out, b" at ", f.offset);
+    out.bytes(b"\n");
 }

@@ -29,28 +29,29 @@ use Rattle.sizes.specs.declared.rows.Safes.{Safes}
 use Rattle.encode.proofs.Capped.{sized_told}
 use Rattle.sizes.proofs.Loops.{SafesSeen, SafesAll, safes_start, safes_end_lem, safes_not, safes_turn}
 use Rattle.sizes.proofs.Taken.{taken_sized_lem, safe_is_empty, safe_is_plain, safe_is_encrypted}
-use Rattle.buffer.specs.Placed.{Placed, Put, Short}
-use Rattle.buffer.proofs.Placing.{put_nothing, put_as}
+use Rattle.buffer.specs.declared.write.Out.{Out}
+use Rattle.buffer.specs.Wrote.{Wrote}
 use Rattle.encode.specs.Header.{header}
 use Rattle.writer.specs.Heads.{data_head}
 use Rattle.writer.specs.Rows.{RowsPut, bags_part, safe_part, is_empty_safe, reading_at}
+use Rattle.writer.specs.Wrote.{WroteIf, WroteShort}
 use Rattle.writer.specs.declared.rows.RowsEnd.{RowsEnd}
-use Rattle.writer.proofs.Puts.{short_then}
+use Rattle.writer.proofs.Puts.{short_nothing, short_as, short_then}
 use Rattle.writer.proofs.Elements.{data_put, file_put}
 
 module _ (t : Table) (s : List ℕ) (k first from : ℕ) (row : SafeRow) (e : row ≡ get_or t.safes k no_safe) where
-  pub safe_nothing : (d : List ℕ) (at : ℕ) → row.kind ≡ SafeKind.None
-      → RowsPut d at (safe_part (safe_picked t s k first from) first from) d
-      (record { at = at; bag = first; attribute = from })
+  pub safe_nothing : (d : Out) → row.kind ≡ SafeKind.None
+      → RowsPut d (safe_part (safe_picked t s k first from) first from) d
+      (record { bag = first; attribute = from })
   unfolding safe_part
-  safe_nothing d at h = rw (safe_is_empty t s k first from row e h) record { put = put_nothing d at; bag = refl; attribute = refl }
+  safe_nothing d h = rw (safe_is_empty t s k first from row e h) record { put = short_nothing d; bag = refl; attribute = refl }
 
-  pub plain_put : (inner : Taken) (d : List ℕ) (at : ℕ) (m : List ℕ) (p : ℕ) (z : List ℕ) (r : RowsEnd) → row.kind ≡ Plain
+  pub plain_put : (inner : Taken) (d m z : Out) (r : RowsEnd) → row.kind ≡ Plain
       → inner ≡ taken_sized (bags_picked t s 7 k None first from)
-      → (data_size inner.size ≤ file_bytes → Placed d at (data_head data_type inner.size) m p)
-      → RowsPut m p (bags_part (bags_picked t s 7 k None first from)) z r → RowsPut d at (safe_part (safe_picked t s k first from) first from) z r
+      → WroteIf (data_size inner.size ≤ file_bytes) d (data_head data_type inner.size) m
+      → RowsPut m (bags_part (bags_picked t s 7 k None first from)) z r → RowsPut d (safe_part (safe_picked t s k first from) first from) z r
   unfolding safe_part bags_part safe_bytes
-  plain_put inner d at m p z r h i f w =
+  plain_put inner d m z r h i f w =
       let picked : Picked = bags_picked t s 7 k None first from in
       rw (safe_is_plain t s k first from row e h) record {
         put = data_put (bags_bytes picked.bags) inner.size (taken_sized_lem picked inner i) f w.put;
@@ -58,11 +59,11 @@ module _ (t : Table) (s : List ℕ) (k first from : ℕ) (row : SafeRow) (e : ro
         attribute = w.attribute;
       }
 
-  pub encrypted_safe_put : (d : List ℕ) (at : ℕ) (z : List ℕ) (r : ℕ) → row.kind ≡ Encrypted
-      → Put Short d at (safe_bytes (encrypted (sealed_in s row.parts))) z r
-      → RowsPut d at (safe_part (safe_picked t s k first from) first from) z (record { at = r; bag = first; attribute = from })
+  pub encrypted_safe_put : (d z : Out) → row.kind ≡ Encrypted
+      → WroteShort d (safe_bytes (encrypted (sealed_in s row.parts))) z
+      → RowsPut d (safe_part (safe_picked t s k first from) first from) z (record { bag = first; attribute = from })
   unfolding safe_part
-  encrypted_safe_put d at z r h w = rw (safe_is_encrypted t s k first from row e h) record { put = w; bag = refl; attribute = refl }
+  encrypted_safe_put d z h w = rw (safe_is_encrypted t s k first from row e h) record { put = w; bag = refl; attribute = refl }
 
 -- a row that is a safe, and one that isn't
 module _ (t : Table) (s : List ℕ) (k first from : ℕ) where
@@ -76,64 +77,61 @@ module _ (t : Table) (s : List ℕ) (k first from : ℕ) where
   some_row Plain h e = (_, safe_is_plain t s k first from (get_or t.safes k no_safe) refl h)
   some_row Encrypted h e = (_, safe_is_encrypted t s k first from (get_or t.safes k no_safe) refl h)
 
--- the loop of `safes`, from the offset p of the buffer m on
-pub record SafesPutting (t : Table) (s : List ℕ) (end : ℕ) (m : List ℕ) (p : ℕ) (z : List ℕ) (r : RowsEnd) (k : ℕ) : Type 0 where
+-- the loop of `safes`: the safes seen so far are written
+pub record SafesPutting (t : Table) (s : List ℕ) (end : ℕ) (m z : Out) (r : RowsEnd) (k : ℕ) : Type 0 where
   pub seen_bytes : List ℕ
   pub seen : SafesSeen t s k r.bag r.attribute seen_bytes
-  pub put : Put Short m p seen_bytes z r.at
+  pub put : WroteShort m seen_bytes z
   pub end_is : end ≡ safe_end t
   pub within : end ≤ safe_rows
-  pub long : length z ≡ length m
 
 -- what writing a safe did
-safe_gave : (d : List ℕ) (at : ℕ) (p : SafePicked) (n m : ℕ) (z : List ℕ) (r : RowsEnd) → RowsPut d at (safe_part (some p) n m) z r
-    → (Put Short d at (safe_bytes p.safe) z r.at) × (r.bag ≡ p.bag) × (r.attribute ≡ p.attribute)
+safe_gave : (d : Out) (p : SafePicked) (n m : ℕ) (z : Out) (r : RowsEnd) → RowsPut d (safe_part (some p) n m) z r
+    → (WroteShort d (safe_bytes p.safe) z) × (r.bag ≡ p.bag) × (r.attribute ≡ p.attribute)
 unfolding safe_part
-safe_gave d at p n m z r w = (w.put, w.bag, w.attribute)
+safe_gave d p n m z r w = (w.put, w.bag, w.attribute)
 
 module _ (t : Table) (s : List ℕ) where
-  pub safes_begin : (end : ℕ) (m : List ℕ) (p : ℕ) → end ≡ safe_end t → SafesPutting t s end m p m (record { at = p; bag = 0; attribute = 0 }) 0
-  safes_begin end m p h =
-      record { seen_bytes = []; seen = safes_start t s; put = put_nothing m p; end_is = h; within = omega (arith, h); long = refl }
+  pub safes_begin : (end : ℕ) (m : Out) → end ≡ safe_end t → SafesPutting t s end m m (record { bag = 0; attribute = 0 }) 0
+  safes_begin end m h =
+      record { seen_bytes = []; seen = safes_start t s; put = short_nothing m; end_is = h; within = omega (arith, h) }
 
-  module _ (end : ℕ) (m : List ℕ) (p : ℕ) (z : List ℕ) (r : RowsEnd) (k : ℕ) (g : SafesPutting t s end m p z r k) where
-    all_put : SafesAll t s k r.bag r.attribute g.seen_bytes → Put Short m p (safes_bytes (safes_picked t s 0 0 0).safes) z r.at
-    all_put a = put_as (sym a.bytes) g.put
+  module _ (end : ℕ) (m z : Out) (r : RowsEnd) (k : ℕ) (g : SafesPutting t s end m z r k) where
+    all_put : SafesAll t s k r.bag r.attribute g.seen_bytes → WroteShort m (safes_bytes (safes_picked t s 0 0 0).safes) z
+    all_put a = short_as (sym a.bytes) g.put
 
-    pub safes_done : end ≤ k → Put Short m p (safes_bytes (safes_picked t s 0 0 0).safes) z r.at
+    pub safes_done : end ≤ k → WroteShort m (safes_bytes (safes_picked t s 0 0 0).safes) z
     safes_done h = all_put (safes_end_lem t s k r.bag r.attribute g.seen_bytes g.seen (rw g.end_is at h))
 
     module _ (h : k < end) (u : Bool) (b : u ≡ is_empty_safe (get_or t.safes k no_safe).kind) where
-      pub safes_no_safe : u ≡ true → Put Short m p (safes_bytes (safes_picked t s 0 0 0).safes) z r.at
+      pub safes_no_safe : u ≡ true → WroteShort m (safes_bytes (safes_picked t s 0 0 0).safes) z
       safes_no_safe y =
           all_put (safes_not t s k r.bag r.attribute g.seen_bytes g.seen (rw g.end_is at h)
           (empty_row t s k r.bag r.attribute _ refl (sym b ∙ y)))
 
-      pub safes_one_more : (f : List ℕ) (x : RowsEnd) → u ≡ false
-          → RowsPut z r.at (safe_part (safe_picked t s k r.bag r.attribute) r.bag r.attribute) f x
-          → length f ≡ length z → SafesPutting t s end m p f x (k + 1)
-      safes_one_more f x y w c =
+      pub safes_one_more : (f : Out) (x : RowsEnd) → u ≡ false
+          → RowsPut z (safe_part (safe_picked t s k r.bag r.attribute) r.bag r.attribute) f x
+          → SafesPutting t s end m f x (k + 1)
+      safes_one_more f x y w =
           let o = some_row t s k r.bag r.attribute _ refl (sym b ∙ y) in
-          let a = safe_gave z r.at o.0 r.bag r.attribute f x (rw o.1 at w) in
+          let a = safe_gave z o.0 r.bag r.attribute f x (rw o.1 at w) in
           record {
             seen_bytes = g.seen_bytes ++ safe_bytes o.0.safe;
             seen = rw (a.1, a.2) (safes_turn t s k r.bag r.attribute g.seen_bytes g.seen o.0 (rw g.end_is at h) o.1);
             put = short_then g.put a.0;
             end_is = g.end_is;
             within = g.within;
-            long = c ∙ g.long;
           }
 
   -- the whole file
-  pub all_put_file : (all : Safes) (mac size : ℕ) (d : List ℕ) (at : ℕ) (m : List ℕ) (p : ℕ) (m2 : List ℕ) (p2 : ℕ)
-      (m3 : List ℕ) (p3 : ℕ) (m4 : List ℕ) (p4 : ℕ) (e : List ℕ) (r : ℕ)
+  pub all_put_file : (all : Safes) (mac size : ℕ) {d m m2 m3 m4 e : Out}
       → all ≡ safes_sized (safes_picked t s 0 0 0) → mac ≡ capped (length (mac_body (mac_shown s t.mac))) → size ≡ capped (pfx_size all.size mac)
-      → Placed d at (header sequence_tag size) m p → Placed m p (integer pfx_version) m2 p2
-      → (data_size all.size ≤ file_bytes → Placed m2 p2 (data_head data_type all.size) m3 p3)
-      → Put Short m3 p3 (safes_bytes (safes_picked t s 0 0 0).safes) m4 p4
-      → Put Short m4 p4 (mac_bytes (mac_shown s t.mac)) e r → Put Short d at (encode (reading_at t s)) e r
+      → Wrote d (header sequence_tag size) m → Wrote m (integer pfx_version) m2
+      → WroteIf (data_size all.size ≤ file_bytes) m2 (data_head data_type all.size) m3
+      → WroteShort m3 (safes_bytes (safes_picked t s 0 0 0).safes) m4
+      → WroteShort m4 (mac_bytes (mac_shown s t.mac)) e → WroteShort d (encode (reading_at t s)) e
   unfolding reading_at safes_sized
-  all_put_file all mac size d at m p m2 p2 m3 p3 m4 p4 e r a b c f g h k w =
+  all_put_file all mac size a b c f g h k w =
       let bytes : List ℕ = safes_bytes (safes_picked t s 0 0 0).safes in
       file_put (record { safes = (safes_picked t s 0 0 0).safes; mac = mac_shown s t.mac }) all.size mac size
       (sized_told all.size bytes (ap (λ (x : Safes). x.size) a)) (sized_told mac (mac_body (mac_shown s t.mac)) b) c f g h k w

@@ -25,8 +25,9 @@ use Rattle.encode.proofs.Capped.{capped_told, by_size}
 use Rattle.sizes.proofs.Reading.{CountsFit, reading_law}
 use Rattle.sound.specs.Measured.{measured}
 use Rattle.sound.proofs.Whole.{Arrays, fits}
-use Rattle.buffer.specs.Placed.{Put, Short}
+use Rattle.buffer.specs.declared.write.Out.{Out}
 use Rattle.writer.specs.Rows.{reading_at}
+use Rattle.writer.specs.Wrote.{WroteShort}
 use Rattle.writer.proofs.Puts.{whole_put}
 
 some_same : {A : Type 0} (x y : A) → some x ≡ some y → x ≡ y
@@ -127,8 +128,10 @@ module _ (t : Table) (s buffer : List ℕ) (r : Maybe ℕ) (p : r ≡ measured t
         pub written_answer : Ok n ≡ (write_file t s buffer).answer
         written_answer = ap Ok (sym size_is) ∙ sym (ap (λ (o : Outcome). o.answer) written)
 
-        pub written_buffer : Arrays t → (z : List ℕ) (at : ℕ) → Put Short buffer 0 (encode (reading_at t s)) z at → z ≡ (write_file t s buffer).buffer
-        written_buffer a z at w =
+        -- what `to` leaves is what the caller's buffer is afterwards
+        pub written_buffer : Arrays t → {q y : Out} {z : List ℕ} → WroteShort q (encode (reading_at t s)) y → q.buffer.now ≡ buffer → q.at ≡ 0
+            → z ≡ y.buffer.now → z ≡ (write_file t s buffer).buffer
+        written_buffer a w b c d =
             let f : List ℕ = (a_file n e).0 in
-            whole_put (rw (file_at t s f a (a_file n e).1) at w) (omega (arith, k, size_is)) (omega (arith, h, size_is))
+            d ∙ whole_put (rw (file_at t s f a (a_file n e).1) at w) b c (omega (arith, k, size_is)) (omega (arith, h, size_is))
             ∙ sym (ap (λ (o : Outcome). o.buffer) written)

@@ -1,3 +1,4 @@
 -- What writing does to the buffer.
 pub mod Heads
+pub mod Wrote
 pub mod Rows

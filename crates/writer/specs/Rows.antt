@@ -11,13 +11,13 @@ use Rattle.pkcs12.specs.declared.row.BagRow.{BagRow}
 use Rattle.pkcs12.specs.declared.table.Table.{Table}
 use Rattle.sizes.specs.Bodies.{content_of}
 use Rattle.sizes.specs.Picked.{SetPicked, Picked, OnePicked, SafePicked, set_picked, safes_picked}
-use Rattle.buffer.specs.Placed.{Put, Short}
-use Rattle.writer.specs.declared.rows.SetEnd.{SetEnd}
+use Rattle.buffer.specs.declared.write.Out.{Out}
 use Rattle.writer.specs.declared.rows.RowsEnd.{RowsEnd}
+use Rattle.writer.specs.Wrote.{WroteShort}
 
-pub record SetPut (d : List ℕ) (at : ℕ) (p : SetPicked) (e : List ℕ) (r : SetEnd) : Type 0 where
-  pub put : Put Short d at (set_bytes p.set) e r.at
-  pub next : r.next ≡ p.next
+pub record SetPut (d : Out) (p : SetPicked) (e : Out) (r : ℕ) : Type 0 where
+  pub put : WroteShort d (set_bytes p.set) e
+  pub next : r ≡ p.next
 
 -- bytes, and the rows behind those that they are written from
 pub record Part : Type 0 where
@@ -25,8 +25,8 @@ pub record Part : Type 0 where
   pub bag : ℕ
   pub attribute : ℕ
 
-pub record RowsPut (d : List ℕ) (at : ℕ) (p : Part) (e : List ℕ) (r : RowsEnd) : Type 0 where
-  pub put : Put Short d at p.bytes e r.at
+pub record RowsPut (d : Out) (p : Part) (e : Out) (r : RowsEnd) : Type 0 where
+  pub put : WroteShort d p.bytes e
   pub bag : r.bag ≡ p.bag
   pub attribute : r.attribute ≡ p.attribute
 

@@ -10,6 +10,7 @@ ghost use Rattle.pkcs12.specs.Written.{write_file};
 mod parts;
 mod rows;
 
+use buffer::write::Out;
 use der::Fault;
 use pkcs12::Table;
 
@@ -38,6 +39,7 @@ pub fn write(table: Table, bytes: &[u8], out: &mut [u8]) -> Result<usize, Fault>
     if out.len() < size {
         return refused(buffer::SHORT_BUFFER);
     }
-    rows::file(out, table, bytes);
+    let mut to = Out { buffer: out, at: 0 };
+    rows::file(&mut to, table, bytes);
     Ok(size)
 }

@@ -8,84 +8,65 @@ ghost use Rattle.sizes.specs.Picked.{form_of, set_picked, bag_picked, bags_picke
 ghost use Rattle.sizes.specs.Sizes.{set_body};
 ghost use Rattle.encode.specs.Sizes.{capped};
 ghost use Rattle.sizes.specs.declared.rows.Form.{Form};
-ghost use Rattle.buffer.specs.Placed.{Put, Short};
 ghost use Rattle.writer.specs.Rows.{SetPut, RowsPut, leaf_part, one_part, bags_part, safe_part, reading_at};
 ghost use Rattle.writer.specs.Rows.{is_empty_safe};
+ghost use Rattle.writer.specs.Wrote.{WroteShort};
 
 use crate::parts;
-use encode::write;
+use buffer::write::Out;
+use encode::{size, write};
 use pkcs12::{BagRow, SafeKind, SafeRow, Table};
 use sizes::rows::Form;
 
-// The offset behind what was written, and the next attribute row.
-#[derive(Clone, Copy, Debug, PartialEq, Eq)]
-pub(crate) struct SetEnd {
-    pub(crate) at: usize,
-    pub(crate) next: usize,
-}
-
-// The offset behind what was written, and the next bag and attribute rows.
+// The next bag and attribute rows.
 #[derive(Clone, Copy, Debug, PartialEq, Eq)]
 pub(crate) struct RowsEnd {
-    pub(crate) at: usize,
     pub(crate) bag: usize,
     pub(crate) attribute: usize,
 }
 
-// The set of a bag, if it has one, by the size of its attributes.
+// The set of a bag, if it has one, by the size of its attributes; the next attribute row is
+// returned.
 fn set(
-    out: &mut [u8],
-    at: usize,
+    out: &mut Out,
     table: Table,
     bytes: &[u8],
     has_set: bool,
     bag: usize,
     from: usize,
     body: usize,
-) -> SetEnd
+) -> usize
     requires { body ≡ capped (length (set_body (set_picked table bytes.now has_set bag from).set)) }
-    ensures { SetPut out.old at (set_picked table bytes.now has_set bag from) out.new result }
+    ensures { SetPut out.old (set_picked table bytes.now has_set bag from) out.new result }
 {
     if !has_set {
-        return SetEnd { at, next: from };
+        return from;
     }
     let end = table.attribute_count.min(pkcs12::ATTRIBUTE_ROWS);
-    let mut to = write::header(out, at, der::SET, body);
+    write::header(out, der::SET, body);
     for next in from..end {
         let row = table.attributes[next];
         if usize::from(row.bag) != bag {
-            return SetEnd { at: to, next };
+            return next;
         }
-        to = parts::attribute(out, to, bytes, row);
+        parts::attribute(out, bytes, row);
     }
-    SetEnd {
-        at: to,
-        next: from.max(end),
-    }
+    from.max(end)
 }
 
 // Bag n, which holds no bags.
-fn leaf(
-    out: &mut [u8],
-    at: usize,
-    table: Table,
-    bytes: &[u8],
-    row: BagRow,
-    n: usize,
-    from: usize,
-) -> RowsEnd
+fn leaf(out: &mut Out, table: Table, bytes: &[u8], row: BagRow, n: usize, from: usize) -> RowsEnd
     requires { (n < bag_rows) × (form_of row.kind ≡ Some Form.Leaf) }
-    ensures { RowsPut out.old at (leaf_part table bytes.now row n from) out.new result }
+    ensures { RowsPut out.old (leaf_part table bytes.now row n from) out.new result }
 {
     let content = sizes::content(bytes, row.kind, row.parts);
     let owned = sizes::rows::set(table, bytes, row.has_set, n, from);
-    let head = parts::bag_head(out, at, row.kind, content, owned.size);
-    let value = parts::content(out, head, bytes, row.kind, row.parts);
-    let end = set(out, value, table, bytes, row.has_set, n, from, owned.body);
+    parts::bag_head(out, row.kind, content, owned.size);
+    parts::content(out, bytes, row.kind, row.parts);
+    let next = set(out, table, bytes, row.has_set, n, from, owned.body);
     RowsEnd {
-        at: end.at,
         bag: n + 1,
-        attribute: end.next,
+        attribute: next,
     }
 }
 
@@ -93,8 +74,7 @@ fn leaf(
 // nothing is written.
 #[cycle(bag_bags)]
 fn bag(
-    out: &mut [u8],
-    at: usize,
+    out: &mut Out,
     table: Table,
     bytes: &[u8],
     row: BagRow,
@@ -104,16 +84,15 @@ fn bag(
     level: u8,
 ) -> RowsEnd
     requires { (n < bag_rows) × (row ≡ get_or table.bags n no_bag) }
-    ensures { RowsPut out.old at (one_part (bag_picked table bytes.now level safe n from) n from) out.new result }
+    ensures { RowsPut out.old (one_part (bag_picked table bytes.now level safe n from) n from) out.new result }
 {
     let nothing = RowsEnd {
-        at,
         bag: n,
         attribute: from,
     };
     match sizes::rows::form_of(row.kind) {
         None => nothing,
-        Some(Form::Leaf) => leaf(out, at, table, bytes, row, n, from),
+        Some(Form::Leaf) => leaf(out, table, bytes, row, n, from),
         Some(Form::Nested) => {
             let Some(below) = level.checked_sub(1) else {
                 return nothing;
@@ -121,25 +100,14 @@ fn bag(
             let number = Some(n as u16);
             let next = n + 1;
             let inner = sizes::rows::bags(table, bytes, safe, number, next, from, below);
-            let content = encode::size::element(inner.size);
             let owned = sizes::rows::set(table, bytes, row.has_set, n, inner.attribute);
-            let head = parts::bag_head(out, at, row.kind, content, owned.size);
-            let body = write::header(out, head, der::SEQUENCE, inner.size);
-            let all = bags(out, body, table, bytes, safe, number, next, from, below);
-            let end = set(
-                out,
-                all.at,
-                table,
-                bytes,
-                row.has_set,
-                n,
-                all.attribute,
-                owned.body,
-            );
+            parts::bag_head(out, row.kind, size::element(inner.size), owned.size);
+            write::header(out, der::SEQUENCE, inner.size);
+            let all = bags(out, table, bytes, safe, number, next, from, below);
+            let end = set(out, table, bytes, row.has_set, n, all.attribute, owned.body);
             RowsEnd {
-                at: end.at,
                 bag: all.bag,
-                attribute: end.next,
+                attribute: end,
             }
         }
     }
@@ -148,8 +116,7 @@ fn bag(
 // The bags in a safe and an enclosing bag, from a bag row and an attribute row on.
 #[cycle(bag_bags)]
 fn bags(
-    out: &mut [u8],
-    at: usize,
+    out: &mut Out,
     table: Table,
     bytes: &[u8],
     safe: usize,
@@ -158,11 +125,10 @@ fn bags(
     from: usize,
     level: u8,
 ) -> RowsEnd
-    ensures { RowsPut out.old at (bags_part (bags_picked table bytes.now level safe enclosing first from)) out.new result }
+    ensures { RowsPut out.old (bags_part (bags_picked table bytes.now level safe enclosing first from)) out.new result }
 {
     let end = table.bag_count.min(pkcs12::BAG_ROWS);
     let mut so_far = RowsEnd {
-        at,
         bag: first,
         attribute: from,
     };
@@ -172,17 +138,7 @@ fn bags(
         if !sizes::rows::belongs(row, safe, enclosing) {
             return so_far;
         }
-        so_far = bag(
-            out,
-            so_far.at,
-            table,
-            bytes,
-            row,
-            safe,
-            n,
-            so_far.attribute,
-            level,
-        );
+        so_far = bag(out, table, bytes, row, safe, n, so_far.attribute, level);
         if so_far.bag <= n {
             return so_far;
         }
@@ -198,8 +154,7 @@ fn is_empty_safe(kind: SafeKind) -> bool
 
 // Safe k; its bags from a bag row and an attribute row on.
 fn safe(
-    out: &mut [u8],
-    at: usize,
+    out: &mut Out,
     table: Table,
     bytes: &[u8],
     row: SafeRow,
@@ -208,78 +163,53 @@ fn safe(
     from: usize,
 ) -> RowsEnd
     requires { row ≡ get_or table.safes k no_safe }
-    ensures { RowsPut out.old at (safe_part (safe_picked table bytes.now k first from) first from) out.new result }
+    ensures { RowsPut out.old (safe_part (safe_picked table bytes.now k first from) first from) out.new result }
 {
+    let nothing = RowsEnd {
+        bag: first,
+        attribute: from,
+    };
     match row.kind {
-        SafeKind::None => RowsEnd {
-            at,
-            bag: first,
-            attribute: from,
-        },
+        SafeKind::None => nothing,
         SafeKind::Plain => {
             let inner = sizes::rows::bags(table, bytes, k, None, first, from, sizes::rows::BELOW);
-            let head = parts::data_head(out, at, inner.size);
-            bags(
-                out,
-                head,
-                table,
-                bytes,
-                k,
-                None,
-                first,
-                from,
-                sizes::rows::BELOW,
-            )
+            parts::data_head(out, inner.size);
+            bags(out, table, bytes, k, None, first, from, sizes::rows::BELOW)
         }
         SafeKind::Encrypted => {
-            RowsEnd {
-                at: parts::encrypted_safe(out, at, bytes, row.parts),
-                bag: first,
-                attribute: from,
-            }
+            parts::encrypted_safe(out, bytes, row.parts);
+            nothing
         }
     }
 }
 
 // The safes, from the first row of each kind on.
-fn safes(out: &mut [u8], at: usize, table: Table, bytes: &[u8]) -> usize
-    ensures { Put Short out.old at (safes_bytes (safes_picked table bytes.now 0 0 0).safes) out.new result }
+fn safes(out: &mut Out, table: Table, bytes: &[u8])
+    ensures { WroteShort out.old (safes_bytes (safes_picked table bytes.now 0 0 0).safes) out.new }
 {
     let end = table.safe_count.min(pkcs12::SAFE_ROWS);
     let mut so_far = RowsEnd {
-        at,
         bag: 0,
         attribute: 0,
     };
     for k in 0..end {
         let row = table.safes[k];
         if is_empty_safe(row.kind) {
-            return so_far.at;
+            return;
         }
-        so_far = safe(
-            out,
-            so_far.at,
-            table,
-            bytes,
-            row,
-            k,
-            so_far.bag,
-            so_far.attribute,
-        );
+        so_far = safe(out, table, bytes, row, k, so_far.bag, so_far.attribute);
     }
-    so_far.at
 }
 
 // The whole file.
-pub(crate) fn file(out: &mut [u8], table: Table, bytes: &[u8]) -> usize
-    ensures { Put Short out.old 0 (encode (reading_at table bytes.now)) out.new result }
+pub(crate) fn file(out: &mut Out, table: Table, bytes: &[u8])
+    ensures { WroteShort out.old (encode (reading_at table bytes.now)) out.new }
 {
     let all = sizes::rows::all_safes(table, bytes);
     let mac = sizes::mac(bytes, table.mac);
-    let size = sizes::pfx(all.size, mac);
-    let body = write::header(out, 0, der::SEQUENCE, size);
-    let content = write::integer(out, body, pkcs12::PFX_VERSION);
-    let head = parts::data_head(out, content, all.size);
-    let end = safes(out, head, table, bytes);
-    parts::mac(out, end, bytes, table.mac)
+    write::header(out, der::SEQUENCE, sizes::pfx(all.size, mac));
+    write::integer(out, pkcs12::PFX_VERSION);
+    parts::data_head(out, all.size);
+    safes(out, table, bytes);
+    parts::mac(out, bytes, table.mac);
 }

@@ -6,4 +6,4 @@ use Rattle.listing.proofs.measured.Goals as goal
 
 pub returns : goal.returns
 unfolding listing
-returns c = placed_end c.answered.ensures (counted _ _)
+returns c = placed_end c.answered.ensures.put (counted _ _)

@@ -3,4 +3,4 @@ use Rattle.pair_lines.specs.Lines.{pair_row_line}
 use Rattle.pair_lines.proofs.bag_lines.Given as goal
 
 abbrev pub invariant-loop-i : goal.invariant-loop-i
-invariant-loop-i l = Lined (pair_row_line l.table l.file) l.initial.out 0 l.n l.out l.to l.i
+invariant-loop-i l = Lined (pair_row_line l.fn.table l.file) l.initial.out l.n l.out l.i

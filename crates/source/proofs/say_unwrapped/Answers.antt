@@ -1,4 +1,5 @@
 -- The whole line is handed on: it is shorter than the buffer.
+use mathlib.Core.Path.{refl}
 use Rattle.std.proofs.Common.{rules}
 use Rattle.source.proofs.Sources.{whole_line}
 use Rattle.stdio.proofs.Handed.{at_ok}
@@ -8,6 +9,6 @@ pub returns : goal.returns
 returns c =
     at_ok c.write_error.result _ _
     (λ k e.
-    whole_line c.args.n c.unwrapped_line-end.result k _ c.unwrapped_line-end.new.out c.part.ensures
-    (search rules) c.unwrapped_line-end.ensures.next e)
+    whole_line c.args.n k _ _ _ _ c.unwrapped_line.ensures refl (search rules)
+    (search (rules, c.unwrapped_line.ensures.same)) c.part.ensures e)
     c.write_error.ensures

@@ -3,7 +3,8 @@ use Rattle.buffer.specs.Report.{written_report}
 use Rattle.buffer.proofs.Outcomes.{refusal_answer, refusal_buffer}
 use Rattle.sound.proofs.Whole.{arrays}
 use Rattle.writer.proofs.Whole.{refused_unsound, refused_long, refused_short, written_answer, written_buffer}
-use mathlib.Core.Path.{ap}
+use borrow.Author.Rules.{rules}
+use mathlib.Core.Path.{refl, ap}
 use native.Mathlib.Omega.{arith}
 use Rattle.der.proofs.Promised.{all_bytes}
 use Rattle.writer.proofs.write.Goals as goal
@@ -67,7 +68,7 @@ pub returns-clause-out_after : goal.returns-clause-out_after
 returns-clause-out_after c =
     written_buffer _ _ _ _ c.measure.ensures.value _ c.in-Some.is c.if-size-gt-FILE_BYTES.false c.if-out-size.false
     (arrays c.args.table (omega arith) (omega arith) (omega arith))
-    _ _ c.file.ensures
+    c.file.ensures refl refl (search (rules, c.file.ensures.same))
 
 pub returns-clause-bytes : goal.returns-clause-bytes
 returns-clause-bytes c = search all_bytes

@@ -1,13 +1,13 @@
 -- By the kind.
 use Rattle.buffer.specs.Text.{ascii}
 use Rattle.listing.specs.Lines.{parts_text}
-use Rattle.buffer.proofs.Placing.{placed_nothing}
+use Rattle.buffer.proofs.Wrote.{wrote_nothing}
 use mathlib.Core.Logic.{inl, inr}
 use Rattle.listing.proofs.lines.bag_parts.Goals as goal
 
 pub returns-in-None : goal.returns-in-None
 unfolding parts_text
-returns-in-None c = elim c.in-None.is [ inl e ↦ rw e (placed_nothing _ _) | inr e ↦ rw e (placed_nothing _ _) ]
+returns-in-None c = elim c.in-None.is [ inl e ↦ rw e (wrote_nothing _) | inr e ↦ rw e (wrote_nothing _) ]
 
 pub returns-in-Key : goal.returns-in-Key
 unfolding ascii parts_text

@@ -1,7 +1,7 @@
 -- By the kind.
 use Rattle.buffer.specs.Text.{ascii}
 use Rattle.listing.specs.Lines.{safe_text}
-use Rattle.buffer.proofs.Placing.{◌then◌}
+use Rattle.buffer.proofs.Wrote.{◌then◌}
 use Rattle.listing.proofs.lines.safe_kind.Goals as goal
 
 pub returns-in-None : goal.returns-in-None
@@ -16,4 +16,4 @@ returns-in-Plain c =
 pub returns-in-Encrypted : goal.returns-in-Encrypted
 unfolding ascii safe_text
 returns-in-Encrypted c =
-    rw c.in-Encrypted.is (c.bytes-next.ensures then c.sealed.ensures)
+    rw c.in-Encrypted.is (c.bytes-in-Encrypted.ensures then c.sealed.ensures)

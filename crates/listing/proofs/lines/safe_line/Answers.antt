@@ -1,10 +1,10 @@
 -- The parts one behind another.
 use Rattle.buffer.specs.Text.{ascii}
 use Rattle.listing.specs.Lines.{safe_line}
-use Rattle.buffer.proofs.Placing.{◌then◌}
+use Rattle.buffer.proofs.Wrote.{◌then◌}
 use Rattle.listing.proofs.lines.safe_line.Goals as goal
 
 pub returns : goal.returns
 unfolding ascii safe_line
 returns c =
-    c.number-number.ensures then c.safe_kind-end.ensures then c.bytes.ensures
+    c.number.ensures then c.safe_kind.ensures then c.bytes.ensures

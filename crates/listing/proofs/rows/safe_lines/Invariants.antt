@@ -3,4 +3,4 @@ use Rattle.buffer.proofs.Rows.{Lined}
 use Rattle.listing.proofs.rows.safe_lines.Given as goal
 
 abbrev pub invariant-loop-i : goal.invariant-loop-i
-invariant-loop-i l = Lined (safe_row_line l.fn.table) l.initial.out l.at l.n l.out l.to l.i
+invariant-loop-i l = Lined (safe_row_line l.fn.table) l.initial.out l.n l.out l.i

@@ -4,5 +4,4 @@ use Rattle.writer.proofs.parts.bag_head.Goals as goal
 
 pub returns : goal.returns
 returns c =
-    bag_head_put _ _ _ _ _ _ _ _ _ _ _ _ c.bag-size.ensures c.header-body.ensures c.bag_id-next.ensures
-    c.header.ensures
+    bag_head_put _ _ _ _ c.bag.ensures c.header.ensures c.bag_id.ensures c.header-2.ensures

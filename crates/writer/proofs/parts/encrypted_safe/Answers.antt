@@ -6,5 +6,5 @@ use Rattle.writer.proofs.parts.encrypted_safe.Goals as goal
 pub returns : goal.returns
 unfolding encrypted_type
 returns c =
-    encrypted_put _ _ _ c.encrypted_data-size.ensures c.element-content.ensures c.info_head-next.ensures
+    encrypted_put _ _ _ c.encrypted_data-size.ensures c.element.ensures c.info_head.ensures
     c.encrypted_data.ensures

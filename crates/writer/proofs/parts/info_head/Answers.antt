@@ -4,5 +4,4 @@ use Rattle.writer.proofs.parts.info_head.Goals as goal
 
 pub returns : goal.returns
 returns c =
-    info_head_put _ _ _ _ _ _ _ _ _ _ _ c.content_info-size.ensures c.header-body.ensures c.element-next.ensures
-    c.header.ensures
+    info_head_put _ _ _ c.content_info.ensures c.header.ensures c.element.ensures c.header-2.ensures

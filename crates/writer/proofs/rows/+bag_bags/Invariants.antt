@@ -10,7 +10,7 @@ decreases-bags l = 2 * l.level + 1
 
 abbrev pub invariant-bags-loop-so_far : goal.invariant-bags-loop-so_far
 invariant-bags-loop-so_far l =
-    BagsPutting l.table l.bytes l.level l.safe l.enclosing l.first l.from l.end l.initial.out l.initial.so_far.at l.out l.so_far
+    BagsPutting l.table l.bytes l.level l.safe l.enclosing l.first l.from l.end l.initial.out l.out l.so_far
 
 abbrev pub decreases-bags-loop-so_far : goal.decreases-bags-loop-so_far
 decreases-bags-loop-so_far l = l.end - l.so_far.bag

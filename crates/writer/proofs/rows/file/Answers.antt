@@ -4,5 +4,5 @@ use Rattle.writer.proofs.rows.file.Goals as goal
 
 pub returns : goal.returns
 returns c =
-    all_put_file _ _ _ _ _ _ _ _ _ _ _ _ _ _ _ _ _ c.all_safes-all.ensures c.mac-mac.ensures c.pfx-size.ensures
-    c.header-body.ensures c.integer-content.ensures c.data_head-head.ensures c.safes-end.ensures c.mac.ensures
+    all_put_file _ _ _ _ _ c.all_safes-all.ensures c.mac-mac.ensures c.pfx.ensures c.header.ensures
+    c.integer.ensures c.data_head.ensures c.safes.ensures c.mac.ensures

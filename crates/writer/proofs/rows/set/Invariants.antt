@@ -5,5 +5,5 @@ use Rattle.writer.proofs.rows.set.Given as goal
 
 abbrev pub invariant-loop-next : goal.invariant-loop-next
 invariant-loop-next l =
-    SetPutting l.table l.bytes l.bag l.from l.end l.initial.out l.initial.to l.out l.to l.next
+    SetPutting l.table l.bytes l.bag l.from l.end l.initial.out l.out l.next
     × (l.next ≤ max l.from l.end)

@@ -1,6 +1,6 @@
 -- All digits of the number.
 use Rattle.buffer.specs.Text.{decimal}
-use Rattle.buffer.proofs.write.decimal.Goals as goal
+use Rattle.buffer.proofs.write.Out.decimal.Goals as goal
 
 pub returns : goal.returns
 unfolding decimal

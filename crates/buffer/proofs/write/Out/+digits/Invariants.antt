@@ -1,4 +1,4 @@
-use Rattle.buffer.proofs.write.+digits.Given as goal
+use Rattle.buffer.proofs.write.Out.+digits.Given as goal
 
 abbrev pub decreases-digits : goal.decreases-digits
 decreases-digits l = l.places

@@ -1,8 +1,0 @@
--- The bytes of the number, high first.
-use native.Mathlib.Omega.{arith}
-use Rattle.buffer.proofs.Placing.{placed_as}
-use Rattle.buffer.proofs.Writes.{four_octets}
-use Rattle.buffer.proofs.write.u32_be.Goals as goal
-
-pub returns : goal.returns
-returns c = placed_as (four_octets _ _ (omega arith) c.to_be_bytes-four.ensures) c.bytes.ensures
