@@ -19,7 +19,9 @@ bag-returns-in_default t c =
 
 pub bag-set-end-requires : goal.bag-set-end-requires
 bag-set-end-requires t c =
-    nest_body _ _ c.args.level _ _ _ _ c.requires.1 _ c.form_of.ensures.value (c.in-Some-Nested.is ∙ ap Some c.in-Some-Nested.field-0-is) c.in-Some.below (omega (arith, c.in-Some.ensures)) _ c.bags-inner.ensures _
+    let nested = c.in-Some-Nested.is ∙ ap Some c.in-Some-Nested.field-0-is in
+    nest_body _ _ c.args.level _ _ _ _ c.requires.1 _ c.form_of.ensures.value nested c.in-Some.below
+    (omega (arith, c.in-Some.ensures)) _ c.bags-inner.ensures _
     c.set-owned.ensures _ _ _ c.bags-all.ensures
 
 pub bag-returns-in-None : goal.bag-returns-in-None
@@ -34,7 +36,9 @@ bag-returns-in-Some-Leaf t c =
 
 pub bag-returns-in-Some : goal.bag-returns-in-Some
 bag-returns-in-Some t c =
-    nest_put _ _ _ _ _ _ _ c.requires.1 _ c.form_of.ensures.value (c.in-Some-Nested.is ∙ ap Some c.in-Some-Nested.field-0-is) c.in-Some.below (omega (arith, c.in-Some.ensures)) _ c.bags-inner.ensures _
+    let nested = c.in-Some-Nested.is ∙ ap Some c.in-Some-Nested.field-0-is in
+    nest_put _ _ _ _ _ _ _ c.requires.1 _ c.form_of.ensures.value nested c.in-Some.below
+    (omega (arith, c.in-Some.ensures)) _ c.bags-inner.ensures _
     c.set-owned.ensures _ _ _ c.bags-all.ensures _ _ _ _ _ c.element.ensures
     c.bag_head.ensures c.header.ensures c.set-end.ensures
 
