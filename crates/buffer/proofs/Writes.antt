@@ -1,14 +1,11 @@
 -- What the functions that write do, by the ways through their code.
-use mathlib.Core.Path.{◌≡◌, refl, sym, ◌∙◌}
-use mathlib.Core.List.{List, [], ◌∷◌, append_assoc}
+use mathlib.Core.Path.{◌≡◌, refl, ap, ◌∙◌}
+use mathlib.Core.List.{List, [], ◌∷◌}
 use Prim.Native.Nat.{ℕ, zero, suc, ◌+◌, ◌-◌, ◌/◌, ◌%◌, ◌≤◌, ◌<◌, min}
 use native.Mathlib.Omega.{arith}
-use lib.ListN.{length, set, take, length-take}
-use lib.Seq.{sets, set_out, take_all}
-use borrow.Rule.Slice.PartMut.{put_mid}
+use lib.ListN.{length, get_or, set, take, length-take}
+use lib.Seq.{sets, set_out, length-sets, take-suc, take_all}
 use mir.Syntax.{w16, w32}
-use lib.Seq.{sets-eq}
-use Rattle.std.proofs.lemmas.List.{drop-drop}
 use Rattle.std.specs.Int.{to_be_bytes}
 use Rattle.buffer.specs.BigEndian.{u16_octets, u32_octets}
 use borrow.Author.Tests.{lt-ltb, le-ltb}
@@ -17,7 +14,7 @@ use Rattle.buffer.specs.Placed.{greatest, behind, Placed}
 use Rattle.buffer.specs.declared.write.Out.{Out}
 use Rattle.buffer.specs.Wrote.{Wrote}
 use Rattle.buffer.specs.Text.{digit, digits}
-use Rattle.buffer.proofs.Placing.{sets_out, sets_cut, placed_of}
+use Rattle.buffer.proofs.Placing.{sets_out, sets_cut, sets_then, placed_of}
 use Rattle.buffer.proofs.Wrote.{wrote_nothing, ◌then◌}
 
 -- ---- one byte
@@ -38,26 +35,37 @@ module _ (d : List ℕ) (at : ℕ) (x : List ℕ) where
   pub bytes_past : (r : ℕ) → length d ≤ greatest → length d ≤ at → r ≡ behind at (length x) → Placed d at x d r
   bytes_past r f h e = placed_of d at x d r f (rw (sets_out x d at h) refl) e
 
-  -- those that the buffer has are copied into their place
+  -- the first i bytes are stored
+  pub record Storing (e : List ℕ) (i : ℕ) : Type 0 where
+    pub bytes : e ≡ sets d at (take i x)
+    pub long : length e ≡ length d
+
+  pub storing_start : Storing d 0
+  storing_start = record { bytes = refl; long = refl }
+
+  module _ (e : List ℕ) (i : ℕ) (g : Storing e i) where
+    pub storing_turn : i < length x → Storing (set e (at + i) (get_or x i 0)) (i + 1)
+    storing_turn h =
+        let l : length (take i x) ≡ i = length-take i x ∙ omega (arith, h) in
+        let s : i + 1 ≡ suc i = omega arith in
+        let b : set e (at + i) (get_or x i 0) ≡ sets d at (take (suc i) x) =
+        rw (take-suc x i 0 h, sets_then (take i x) (get_or x i 0 ∷ []) d at, l, ← g.bytes) refl in
+        record { bytes = rw s b; long = ap length b ∙ length-sets d at (take (suc i) x) }
+
+    pub storing_end : length x ≤ i → e ≡ sets d at x
+    storing_end h = g.bytes ∙ rw (take_all i x h) refl
+
+  -- those that the buffer has are stored
   module _ (count : ℕ) (h : at < length d) (c : count ≡ min (length x) (length d - at)) where
-    front : length (take count x) ≡ count
-    front = length-take count x ∙ omega (arith, c)
-
-    stored : put_mid at (at + count - at) d (take count x) ≡ sets d at (take count x)
-    stored =
-        let k : at + count - at ≡ count = omega arith in
-        let p : at + length (take count x) ≡ at + count = omega (arith, front) in
-        rw (k, drop-drop count at d) (sym (rw (p, append_assoc) at (sets-eq (take count x) d at (omega (arith, front, c, h)))))
-
     all_kept : sets d at (take count x) ≡ sets d at x
     all_kept =
         either (length d - at) (length x)
         (λ l. sets_cut count x d at (omega (arith, c, l, h)))
         (λ l. rw (take_all count x (omega (arith, c, l))) refl)
 
-    pub bytes_put : (y : List ℕ) (r : ℕ) → length d ≤ greatest → y ≡ take count x → r ≡ behind at (length x)
-        → Placed d at x (put_mid at (at + count - at) d y) r
-    bytes_put y r f q e = placed_of d at x (put_mid at (at + count - at) d y) r f (rw q (stored ∙ all_kept)) e
+    pub bytes_put : (e : List ℕ) (r : ℕ) → length d ≤ greatest → e ≡ sets d at (take count x)
+        → r ≡ behind at (length x) → Placed d at x e r
+    bytes_put e r f q p = placed_of d at x e r f (q ∙ all_kept) p
 
 -- ---- numbers of two and four bytes
 

@@ -3,7 +3,6 @@ use mathlib.Core.Path.{◌≡◌, refl, ◌∙◌}
 use mathlib.Core.List.{List, [], ◌++◌}
 use Prim.Native.Nat.{ℕ}
 use Rattle.buffer.specs.declared.write.Out.{Out}
-use Rattle.buffer.specs.Placed.{Placed}
 use Rattle.buffer.specs.Wrote.{Wrote}
 use Rattle.buffer.proofs.Placing.{placed_nothing, ◌then◌ as ◌behind◌}
 

@@ -1,6 +1,7 @@
 // Writes into a caller's buffer at an offset, which moves behind what was written. What lies past the
 // end of the buffer is not written, but counted: so the same methods measure, on an empty buffer.
-ghost use Rattle.std.specs.Prelude.{◌≡◌, [], ◌∷◌};
+ghost use Rattle.std.specs.Prelude.{◌≡◌, ◌≤◌, ◌+◌, [], ◌∷◌, length};
+ghost use Rattle.std.proofs.lemmas.List.Edits.{sets};
 ghost use Rattle.buffer.specs.Placed.{behind};
 ghost use Rattle.buffer.specs.Wrote.{Wrote};
 ghost use Rattle.buffer.specs.Text.{decimal, digits};
@@ -16,6 +17,17 @@ pub fn after(at: usize, n: usize) -> usize
     ensures { result ≡ behind at n }
 {
     at.saturating_add(n)
+}
+
+// The bytes x, which the buffer has place for. (`copy_from_slice` would call memmove, which the library
+// for C doesn't need from outside.)
+fn store(out: &mut [u8], at: usize, x: &[u8])
+    requires { at + length x.now ≤ length out.old }
+    ensures { out.new ≡ sets out.old at x.now }
+{
+    for i in 0..x.len() {
+        out[at + i] = x[i];
+    }
 }
 
 // A caller's buffer, and the offset of the next byte.
@@ -42,7 +54,7 @@ impl<'a> Out<'a> {
     {
         if self.at < self.buffer.len() {
             let count = x.len().min(self.buffer.len() - self.at);
-            self.buffer[self.at..self.at + count].copy_from_slice(&x[..count]);
+            store(self.buffer, self.at, &x[..count]);
         }
         self.at = after(self.at, x.len());
     }

@@ -1,6 +1,7 @@
 -- The laws of the opaque check that the code leans on: how far it goes, how many elements it
 -- counts, and its loop over siblings.
-use mathlib.Core.Path.{◌≡◌, refl, sym, ◌∙◌}
+use mathlib.Core.Bool.{true, false}
+use mathlib.Core.Path.{◌≡◌, refl, sym, ap, ◌∙◌}
 use mathlib.Core.List.{List}
 use Prim.Native.Nat.{ℕ, zero, suc, ◌+◌, ◌*◌, ◌-◌, ◌/◌, ◌%◌, ◌^◌, ◌≤◌, ◌<◌}
 use native.Mathlib.Omega.{arith}
@@ -9,17 +10,18 @@ use lib.ListN.{length}
 use mir.Val.{Fits}
 use mir.Syntax.{w64}
 use Rattle.std.specs.Prelude.{if◌then◌else◌}
-use Rattle.der.specs.Element.{cursor, fault, element_at, on_element}
-use Rattle.der.specs.Numbers.{too_many}
-use Rattle.der.specs.Opaque.{on_checked, counted, go_on, at_end, run, opaque_at, elements_at}
+use borrow.Author.Tests.{eq-eqb, ne_eqb}
+use Rattle.der.specs.Element.{cursor, fault, element_at, on_element, on_result}
+use Rattle.der.specs.Numbers.{missing, too_many}
+use Rattle.der.specs.Opaque.{on_checked, counted, go_on, at_end, run, opaque_at, elements_at, number_at}
 use Rattle.der.specs.declared.Fault.{Fault}
 use Rattle.der.specs.declared.Cursor.{Cursor}
 use Rattle.der.specs.Element.{checked}
 use Rattle.der.specs.declared.Checked.{Checked}
 use Rattle.der.specs.declared.Element.{Element}
 use Rattle.std.specs.Prelude.{Err, Ok, Result}
-use Rattle.der.proofs.Choices.{by_eq}
-use Rattle.der.proofs.Placed.{OfElement, element_of_lem, by_element, found}
+use Rattle.der.proofs.Choices.{by_eq, never}
+use Rattle.der.proofs.Placed.{OfElement, element_of_lem, element_missing, by_element}
 use Rattle.der.proofs.Many.{many_holds, Going, going_start, going_on, going_end}
 
 -- one element checked: m elements from c on, up to n
@@ -130,6 +132,53 @@ opaque_step_lem (suc l) s c r e =
     let d : suc l - 1 ≡ l = omega arith in
     e ∙ simp (eqb-suc-zero, d)
 
+-- a refusal is no value, and a value is one
+never_ok : {A T : Type 0} {f : Fault} {y : T} → Err f ≡ Ok y → A
+never_ok e = never (ap (λ x. on_result x (λ g. false) (λ z. true)) e)
+
+err_fault : {f g : Fault} → ◌≡◌ {A = Result ℕ Fault} (Err f) (Err g) → f ≡ g
+err_fault {f} e = ap (λ x. on_result x (λ h. h) (λ z. f)) e
+
+ok_value : {m k : ℕ} → ◌≡◌ {A = Result ℕ Fault} (Ok m) (Ok k) → m ≡ k
+ok_value e = ap (λ x. on_result x (λ g. 0) (λ z. z)) e
+
+same_check : {m : ℕ} {y : Checked} {a : ℕ} → m ≡ y.count → y.next.at ≡ a → y.next.end ≡ a
+    → ◌≡◌ {A = Result Checked Fault} (Ok (checked m (cursor a a))) (Ok y)
+same_check p q r = λ k. Ok (checked (p k) (record { at = sym q k; end = sym r k }))
+
+-- one element's check, from what was found at the cursor
+module _ (l : ℕ) (s : List ℕ) (c : Cursor) (x : Result Element Fault) (p : x ≡ element_at s c) where
+  pub element_refused : (f : Fault) → x ≡ Err f → Err f ≡ opaque_at l s c
+  element_refused f q = opaque_step_lem l s c _ (rw (sym p ∙ q) refl)
+
+  module _ (e : Element) (q : x ≡ Ok e) where
+    pub element_deep : l ≡ 0 → Err (fault too_many c.at) ≡ opaque_at l s c
+    element_deep z = opaque_step_lem l s c _ (rw (sym p ∙ q, eq-eqb l 0 z) refl)
+
+    module _ (n : l ≡ 0 → ⊥) where
+      pub element_leaf : e.tag / 32 % 2 ≡ 0 → Ok (checked 1 e.next) ≡ opaque_at l s c
+      element_leaf z = opaque_step_lem l s c _ (rw (sym p ∙ q, ne_eqb l 0 n, eq-eqb (e.tag / 32 % 2) 0 z) refl)
+
+      module _ (t : e.tag / 32 % 2 ≡ 0 → ⊥) where
+        nested : on_checked (elements_at (l - 1) s e.body) Err (λ m k. Ok (checked (m + 1) e.next)) ≡ opaque_at l s c
+        nested = opaque_step_lem l s c _ (rw (sym p ∙ q, ne_eqb l 0 n, ne_eqb (e.tag / 32 % 2) 0 t) refl)
+
+        module _ (w : Result ℕ Fault) (b : w ≡ number_at (l - 1) s e.body) where
+          pub body_refused : (f : Fault) → w ≡ Err f → Err f ≡ opaque_at l s c
+          body_refused f r = go (elements_at (l - 1) s e.body) refl
+            where
+              go : (y : Result Checked Fault) → elements_at (l - 1) s e.body ≡ y → Err f ≡ opaque_at l s c
+              go (Err g) d = rw (err_fault (sym r ∙ rw d at b)) (rw d at nested)
+              go (Ok y) d = never_ok (sym r ∙ rw d at b)
+
+          pub body_counted : (m : ℕ) → w ≡ Ok m → Ok (checked (m + 1) e.next) ≡ opaque_at l s c
+          body_counted m r = go (elements_at (l - 1) s e.body) refl
+            where
+              go : (y : Result Checked Fault) → elements_at (l - 1) s e.body ≡ y
+                  → Ok (checked (m + 1) e.next) ≡ opaque_at l s c
+              go (Err g) d = never_ok (sym (sym r ∙ rw d at b))
+              go (Ok y) d = rw (ok_value (sym r ∙ rw d at b)) (rw d at nested)
+
 -- the loop over siblings in the code: its invariant, what it begins with, its two ways out and its
 -- turn
 pub record Running (l : ℕ) (s : List ℕ) (end : ℕ) (whole : Result Checked Fault) (m at : ℕ) : Type 0 where
@@ -162,23 +211,71 @@ module _ (l : ℕ) (s : List ℕ) (end : ℕ) (whole : Result Checked Fault) (m 
         };
       }
 
--- the numbers of a turn: the position moves on, and the count stays at most half of what was
--- passed
-module _ (l : ℕ) (s : List ℕ) (end at : ℕ) (w : Result Checked Fault) (x : Checked) (p : w ≡ opaque_at l s (cursor at end))
-    (q : w ≡ Ok x) where
-  pub step_falls : at < end → end - x.next.at < end - at
-  step_falls h = let v = went l s (cursor at end) w x.count x.next p q in omega (arith, v.some, v.long)
+-- the number of elements that were checked fits 64 bits
+pub body_fits : (l : ℕ) (s : List ℕ) (c : Cursor) (k : ℕ) (n : Cursor) → Ok (checked k n) ≡ opaque_at l s c
+    → length s < 2 ^ 64 → Fits w64 k
+body_fits l s c k n p z = let v = went l s c (Ok (checked k n)) k n p refl in omega (arith, v.long, v.within, v.inside)
 
-  pub step_long : (m from : ℕ) → from + 2 * m ≤ at → from + 2 * (m + x.count) ≤ x.next.at
-  step_long m from h = let v = went l s (cursor at end) w x.count x.next p q in omega (arith, v.long)
+-- The code's loop counts them: what it keeps, what it begins with, and how it ends.
+pub record Numbering (l : ℕ) (s : List ℕ) (from end m at : ℕ) : Type 0 where
+  pub running : Running l s end (elements_at l s (cursor from end)) m at
+  pub long : from + 2 * m ≤ at
 
-  pub step_fits : (m from : ℕ) → from + 2 * m ≤ at → length s < 2 ^ 64 → Fits w64 (m + x.count)
-  step_fits m from h k = let v = went l s (cursor at end) w x.count x.next p q in omega (arith, v.long, v.within, v.inside)
+pub numbering_start : (l : ℕ) (s : List ℕ) (from end : ℕ) → Numbering l s from end 0 from
+numbering_start l s from end = record { running = running_start l s (cursor from end); long = omega arith }
 
--- a run's count with one more for its parent, which was found in the bytes, fits 64 bits
-pub run_fits : (l : ℕ) (s : List ℕ) (c : Cursor) (x : Result Element Fault) (e : Element) (w : Result Checked Fault) (k : Checked)
-    → x ≡ element_at s c → x ≡ Ok e → w ≡ elements_at l s e.body → w ≡ Ok k → length s < 2 ^ 64 → Fits w64 (k.count + 1)
-run_fits l s c x e w k o f p q h =
-    let v = found s c x e.tag e.body e.next o f in
-    let r = ran l s e.body w k.count k.next p q in
-    omega (arith, v.body.past, v.body.within, v.inside, r.long, r.stop v.body.size)
+abbrev numbered : Result Checked Fault → Result ℕ Fault
+numbered x = on_result x Err (λ k. Ok k.count)
+
+module _ (l : ℕ) (s : List ℕ) (from end m at : ℕ) (g : Numbering l s from end m at) where
+  pub numbering_end : end ≤ at → Ok m ≡ number_at l s (cursor from end)
+  numbering_end h = ap numbered (running_end l s end _ m at g.running h)
+
+  module _ (h : at < end) where
+    pub numbering_refused : (f : Fault) → Err f ≡ opaque_at l s (cursor at end) → Err f ≡ number_at l s (cursor from end)
+    numbering_refused f p = ap numbered (running_refused l s end _ m at (Err f) f g.running h p refl)
+
+    module _ (k : ℕ) (n : Cursor) (p : Ok (checked k n) ≡ opaque_at l s (cursor at end)) where
+      gone : Went s (cursor at end) k n
+      gone = went l s (cursor at end) (Ok (checked k n)) k n p refl
+
+      pub numbering_on : Numbering l s from end (m + k) n.at
+      numbering_on =
+          record {
+            running = running_on l s end _ m at (Ok (checked k n)) (checked k n) g.running h p refl;
+            long = omega (arith, g.long, gone.long);
+          }
+
+      pub numbering_falls : end - n.at < end - at
+      numbering_falls = omega (arith, gone.some, gone.long)
+
+      pub numbering_fits : length s < 2 ^ 64 → Fits w64 (m + k)
+      numbering_fits z = omega (arith, g.long, gone.long, gone.within, gone.inside)
+
+-- The check of a run by the number of its elements: none where the cursor is at its end, and 1 at the
+-- end of a parent that is longer than the bytes.
+pub elements_none : (l : ℕ) (s : List ℕ) (c : Cursor) → c.end ≤ c.at → Ok (checked 0 c) ≡ elements_at l s c
+elements_none l s c h = running_end l s c.end _ 0 c.at (running_start l s c) h
+
+pub elements_missing : (l : ℕ) (s : List ℕ) (c : Cursor) → c.at < c.end → length s < c.end
+    → Err (fault missing c.end) ≡ elements_at l s c
+elements_missing l s c h k =
+    running_refused l s c.end _ 0 c.at _ (fault missing c.end) (running_start l s c) h
+    (element_refused l s c (element_at s c) refl (fault missing c.end) (element_missing s c k)) refl
+
+module _ (l : ℕ) (s : List ℕ) (c : Cursor) (w : Result ℕ Fault) (b : w ≡ number_at l s c) where
+  pub elements_refused : (f : Fault) → w ≡ Err f → Err f ≡ elements_at l s c
+  elements_refused f r = go (elements_at l s c) refl
+    where
+      go : (y : Result Checked Fault) → elements_at l s c ≡ y → Err f ≡ elements_at l s c
+      go (Err g) d = rw (err_fault (sym r ∙ rw d at b)) (sym d)
+      go (Ok y) d = never_ok (sym r ∙ rw d at b)
+
+  pub elements_counted : (m : ℕ) → w ≡ Ok m → c.at < c.end → Ok (checked m (cursor c.end c.end)) ≡ elements_at l s c
+  elements_counted m r h = go (elements_at l s c) refl
+    where
+      go : (y : Result Checked Fault) → elements_at l s c ≡ y → Ok (checked m (cursor c.end c.end)) ≡ elements_at l s c
+      go (Err g) d = never_ok (sym (sym r ∙ rw d at b))
+      go (Ok y) d =
+          let o = ran l s c _ y.count y.next refl d in
+          same_check (ok_value (sym r ∙ rw d at b)) (o.stop (omega arith)) o.end ∙ sym d

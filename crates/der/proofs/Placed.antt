@@ -10,8 +10,9 @@ use native.Mathlib.Omega.{arith}
 use lib.Dec.{ltb, eqb}
 use lib.ListN.{length, get_or, drop}
 use lib.Seq.{drop-cons}
-use borrow.Author.Tests.{le-ltb, le-leb, lt-leb, eq-eqb, leb-false, eqb-false}
-use Rattle.der.specs.Numbers.{tag_form, length_form, overrun, length_bound}
+use Rattle.std.specs.Prelude.{if◌then◌else◌}
+use borrow.Author.Tests.{lt-ltb, le-ltb, le-leb, lt-leb, eq-eqb, leb-false, eqb-false}
+use Rattle.der.specs.Numbers.{missing, tag_form, length_form, overrun, length_bound}
 use Rattle.der.specs.Element.{cursor, fault, no_byte_left, within, one_octet, two_octets, extent_at}
 use Rattle.der.specs.Element.{element_at, expect_at, on_result, on_element}
 use Rattle.der.specs.Octets.{length_octets}
@@ -234,6 +235,23 @@ element_of_lem s c =
   where
     tag_of : Why s c (fault tag_form c.at)
     tag_of = record { missing = apart 2 1 refl; past = λ b. apart 2 15 refl }
+
+-- no element where the parent is longer than the bytes
+pub element_missing : (s : List ℕ) (c : Cursor) → length s < c.end → element_at s c ≡ Err (fault missing c.end)
+unfolding element_at no_byte_left
+element_missing s c h = rw (lt-ltb (length s) c.end h)
+
+-- the element where a byte is left, as the code tests it
+abbrev pub present_step : List ℕ → ℕ → ℕ → Result Element Fault
+present_step s at end =
+    if eqb (get_or s at 0) 0 then Err (fault tag_form at) else
+    if eqb (get_or s at 0 % 0x20) 0x1F then Err (fault tag_form at) else
+    on_result (extent_at s at end) Err (λ b. Ok (element (get_or s at 0) b (cursor b.end end)))
+
+pub present_is : (s : List ℕ) (at end : ℕ) (r : Result Element Fault) → at < end → end ≤ length s
+    → r ≡ present_step s at end → r ≡ element_at s (cursor at end)
+unfolding element_at
+present_is s at end r h i e = rw (left_is s (cursor at end) h i) e
 
 -- the facts of an element that was found
 pub found : (s : List ℕ) (c : Cursor) (w : Result Element Fault) (t : ℕ) (b n : Cursor) → w ≡ element_at s c

@@ -45,3 +45,7 @@ opaque_at (suc l) s c =
 -- a body of zero or more opaque elements, each of l levels at most
 unfoldable pub elements_at : ℕ → List ℕ → Cursor → Result Checked Fault
 elements_at l s c = run (opaque_at l s) c
+
+-- the number of the elements of such a body, where it is taken
+abbrev pub number_at : ℕ → List ℕ → Cursor → Result ℕ Fault
+number_at l s c = on_result (elements_at l s c) Err (λ k. Ok k.count)

@@ -7,10 +7,10 @@ ghost use Rattle.std.specs.Prelude.{◌≡◌, ◌+◌, ◌^◌, ◌%◌, ◌<�
 ghost use Rattle.std.proofs.Math.Seq.{slice};
 ghost use Rattle.der.specs.Numbers.{octet_string_tag};
 ghost use Rattle.der.specs.Element.{whole_of, no_byte_left, tag_at, finish_at, within, one_octet};
-ghost use Rattle.der.specs.Element.{two_octets, extent_at, element_at, expect_at};
+ghost use Rattle.der.specs.Element.{two_octets, extent_at, element_at, expect_at, cursor};
 ghost use Rattle.der.specs.Content.{breaks, identifier_body, identifier_at, integer_body};
 ghost use Rattle.der.specs.Content.{and_digit, integer_value, integer_at, IntegerAt};
-ghost use Rattle.der.specs.Opaque.{opaque_at, elements_at};
+ghost use Rattle.der.specs.Opaque.{opaque_at, elements_at, number_at};
 ghost use Rattle.der.specs.Content.{begins_at};
 ghost use Rattle.der.specs.Report.{element_report, checked_report, integer_report};
 ghost use Rattle.der.specs.Span.{Bytes};
@@ -189,6 +189,54 @@ fn no_byte_left(s: &[u8], c: Cursor) -> bool
     end <= at
 }
 
+// The element at `at`, where a byte is left.
+#[inline(always)]
+fn present(s: &[u8], at: usize, end: usize) -> Result<Element, Fault>
+    requires { (at < end) × (end ≤ length s.now) }
+    ensures { result ≡ element_at s.now (cursor at end) }
+{
+    let tag = s[at];
+    if tag == 0 || tag % 0x20 == 0x1F {
+        return Err(Fault {
+            number: TAG_FORM,
+            offset: at,
+        });
+    }
+    let body = extent(s, at, end)?;
+    Ok(Element {
+        tag,
+        body,
+        next: Cursor { at: body.end, end },
+    })
+}
+
+// The number of elements from `from` up to `end`, each checked to the bottom with `level` levels
+// left.
+fn run(s: &[u8], level: u8, from: usize, end: usize) -> Result<usize, Fault>
+    requires { end ≤ length s.now }
+    ensures { result ≡ number_at level s.now (cursor from end) }
+{
+    let mut at = from;
+    let mut count: usize = 0;
+    while at < end {
+        let found = present(s, at, end)?;
+        if level == 0 {
+            return Err(Fault {
+                number: TOO_MANY,
+                offset: at,
+            });
+        }
+        if found.tag / 0x20 % 2 == 0 {
+            count += 1;
+        } else {
+            let below = run(s, level - 1, found.body.at, found.body.end)?;
+            count += below + 1;
+        }
+        at = found.next.at;
+    }
+    Ok(count)
+}
+
 // Whether a part of the identifier from `from` on begins at `i`.
 fn begins_at(s: &[u8], from: usize, i: usize) -> bool
     requires { i ≤ length s.now }
@@ -337,12 +385,12 @@ impl Cursor {
     }
 
     // The next element, of any tag.
+    #[inline(always)]
     pub fn element(self, s: &[u8]) -> Result<Element, Fault>
         ensures value { result ≡ element_at s.now self }
         ensures report { element_report result ≡ element_report (element_at s.now self) }
         ensures bytes { Bytes s.now }
     {
-        let at = self.at;
         let end = self.end;
         if no_byte_left(s, self) {
             return Err(Fault {
@@ -350,19 +398,7 @@ impl Cursor {
                 offset: end,
             });
         }
-        let tag = s[at];
-        if tag == 0 || tag % 0x20 == 0x1F {
-            return Err(Fault {
-                number: TAG_FORM,
-                offset: at,
-            });
-        }
-        let body = extent(s, at, end)?;
-        Ok(Element {
-            tag,
-            body,
-            next: Cursor { at: body.end, end },
-        })
+        present(s, self.at, end)
     }
 
     // The next element, with the tag that is due.
@@ -426,7 +462,6 @@ impl Cursor {
     }
 
     // The next element, checked to the bottom, with `level` levels left.
-    #[cycle(opaque_elements)]
     pub fn opaque(self, s: &[u8], level: u8) -> Result<Checked, Fault>
         ensures value { result ≡ opaque_at level s.now self }
         ensures report { checked_report result ≡ checked_report (opaque_at level s.now self) }
@@ -445,31 +480,36 @@ impl Cursor {
                 next: found.next,
             });
         }
-        let below = found.body.elements(s, level - 1)?;
+        let inside = run(s, level - 1, found.body.at, found.body.end)?;
         Ok(Checked {
-            count: below.count + 1,
+            count: inside + 1,
             next: found.next,
         })
     }
 
     // Zero or more elements up to the cursor's end, each checked to the bottom.
-    #[cycle(opaque_elements)]
     pub fn elements(self, s: &[u8], level: u8) -> Result<Checked, Fault>
         ensures value { result ≡ elements_at level s.now self }
         ensures report { checked_report result ≡ checked_report (elements_at level s.now self) }
         ensures bytes { Bytes s.now }
     {
         let end = self.end;
-        let mut at = self.at;
-        let mut count: usize = 0;
-        while at < end {
-            let one = Cursor { at, end }.opaque(s, level)?;
-            count += one.count;
-            at = one.next.at;
+        if end <= self.at {
+            return Ok(Checked {
+                count: 0,
+                next: self,
+            });
         }
+        if s.len() < end {
+            return Err(Fault {
+                number: MISSING,
+                offset: end,
+            });
+        }
+        let count = run(s, level, self.at, end)?;
         Ok(Checked {
             count,
-            next: Cursor { at, end },
+            next: Cursor { at: end, end },
         })
     }
 }

@@ -1,4 +1,4 @@
--- The bytes that the buffer has offsets for are copied.
+-- The bytes that the buffer has offsets for are stored.
 use mathlib.Core.Path.{refl}
 use native.Mathlib.Omega.{arith}
 use Rattle.buffer.proofs.Writes.{bytes_past, bytes_put}
@@ -11,7 +11,7 @@ returns c =
       | then-self w ↦
           let next = rw w.self-is at c.after-self.ensures in
           rw w.self-is record {
-            put = bytes_put _ _ _ _ w.if-self.true w.min-count.ensures _ _ (omega arith) w.copy_from_slice.ensures.after next;
+            put = bytes_put _ _ _ _ w.if-self.true w.min-count.ensures _ _ (omega arith) w.store.ensures next;
             same = refl;
           }
       | else-self w ↦
