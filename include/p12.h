@@ -34,10 +34,10 @@
  *
  * The stack that one call takes on x86-64, in bytes, measured and not proved:
  *
- *   p12_read           6,300       p12_certificate_for    77,300
- *   p12_mac_input     12,100       p12_write              71,100
- *   p12_list          15,100       p12_attribute          70,500
- *   p12_pairs         84,700       p12_element               100
+ *   p12_read           7,000       p12_certificate_for    74,700
+ *   p12_mac_input     12,800       p12_write              77,100
+ *   p12_list          15,400       p12_attribute          72,000
+ *   p12_pairs         82,100       p12_element               100
  *
  * and 500 for the calls on uploads, whatever arrives, and 400 for p12_import and p12_export,
  * whatever the text or the bytes.
