@@ -1,6 +1,6 @@
 -- The laws of the opaque check that the code leans on: how far it goes, how many elements it
 -- counts, and its loop over siblings.
-use mathlib.Core.Bool.{true, false}
+use mathlib.Core.Bool.{Bool, true, false}
 use mathlib.Core.Path.{◌≡◌, refl, sym, ap, ◌∙◌}
 use mathlib.Core.List.{List}
 use Prim.Native.Nat.{ℕ, zero, suc, ◌+◌, ◌*◌, ◌-◌, ◌/◌, ◌%◌, ◌^◌, ◌≤◌, ◌<◌}
@@ -10,10 +10,10 @@ use lib.ListN.{length}
 use mir.Val.{Fits}
 use mir.Syntax.{w64}
 use Rattle.std.specs.Prelude.{if◌then◌else◌}
-use borrow.Author.Tests.{eq-eqb, ne_eqb}
+use borrow.Author.Tests.{eq-eqb, ne_eqb, leb-true}
 use Rattle.der.specs.Element.{cursor, fault, element_at, on_element, on_result}
 use Rattle.der.specs.Numbers.{missing, too_many}
-use Rattle.der.specs.Opaque.{on_checked, counted, go_on, at_end, run, opaque_at, elements_at, number_at}
+use Rattle.der.specs.Opaque.{on_checked, counted, go_on, at_end, run, opaque_at, elements_at, number_at, childless}
 use Rattle.der.specs.declared.Fault.{Fault}
 use Rattle.der.specs.declared.Cursor.{Cursor}
 use Rattle.der.specs.Element.{checked}
@@ -279,3 +279,30 @@ module _ (l : ℕ) (s : List ℕ) (c : Cursor) (w : Result ℕ Fault) (b : w ≡
       go (Ok y) d =
           let o = ran l s c _ y.count y.next refl d in
           same_check (ok_value (sym r ∙ rw d at b)) (o.stop (omega arith)) o.end ∙ sym d
+
+-- an element with nothing below it, and one with something, as the code tests that
+module _ (l : ℕ) (s : List ℕ) (c : Cursor) (x : Result Element Fault) (p : x ≡ element_at s c) (e : Element)
+    (q : x ≡ Ok e) (n : l ≡ 0 → ⊥) where
+  bare : childless e ≡ true → Ok (checked 1 e.next) ≡ opaque_at l s c
+  unfolding childless
+  bare =
+      by_eq (λ u. u ≡ true → Ok (checked 1 e.next) ≡ opaque_at l s c) _ _ (e.tag / 32 % 2) 0
+      (λ z h. element_leaf l s c x p e q n z)
+      (λ t h.
+      body_counted l s c x p e q n t (Ok 0)
+      (ap numbered (elements_none (l - 1) s e.body (leb-true e.body.end e.body.at h))) 0 refl)
+
+  below : childless e ≡ false → e.tag / 32 % 2 ≡ 0 → ⊥
+  unfolding childless
+  below h z = never (sym (rw (eq-eqb (e.tag / 32 % 2) 0 z) at h))
+
+  module _ (u : Bool) (a : u ≡ childless e) where
+    pub childless_counted : u ≡ true → Ok (checked 1 e.next) ≡ opaque_at l s c
+    childless_counted h = bare (sym a ∙ h)
+
+    module _ (h : u ≡ false) (w : Result ℕ Fault) (b : w ≡ number_at (l - 1) s e.body) where
+      pub below_refused : (f : Fault) → w ≡ Err f → Err f ≡ opaque_at l s c
+      below_refused = body_refused l s c x p e q n (below (sym a ∙ h)) w b
+
+      pub below_counted : (m : ℕ) → w ≡ Ok m → Ok (checked (m + 1) e.next) ≡ opaque_at l s c
+      below_counted = body_counted l s c x p e q n (below (sym a ∙ h)) w b

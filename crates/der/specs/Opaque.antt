@@ -1,5 +1,5 @@
 -- An opaque element, checked in all its levels (Rules 2.6, 2.7).
-use Rattle.std.specs.Prelude.{List, ℕ, zero, suc, ◌+◌, ◌-◌, ◌/◌, ◌%◌, eqb}
+use Rattle.std.specs.Prelude.{Bool, true, List, ℕ, zero, suc, ◌+◌, ◌-◌, ◌/◌, ◌%◌, eqb, leb}
 use Rattle.std.specs.Prelude.{if◌then◌else◌}
 use Rattle.der.specs.Numbers.{too_many}
 use Rattle.der.specs.Element.{cursor, fault, element_at, on_element, on_result}
@@ -8,6 +8,7 @@ use Rattle.der.specs.declared.Fault.{Fault}
 use Rattle.der.specs.declared.Cursor.{Cursor}
 use Rattle.der.specs.Element.{checked}
 use Rattle.der.specs.declared.Checked.{Checked}
+use Rattle.der.specs.declared.Element.{Element}
 use Rattle.std.specs.Prelude.{Err, Ok, Result}
 
 -- what is made of a refusal, and of a check that passed
@@ -49,3 +50,8 @@ elements_at l s c = run (opaque_at l s) c
 -- the number of the elements of such a body, where it is taken
 abbrev pub number_at : ℕ → List ℕ → Cursor → Result ℕ Fault
 number_at l s c = on_result (elements_at l s c) Err (λ k. Ok k.count)
+
+-- whether nothing below an element is to be checked: bit 20 (hex) of its tag isn't set, or its body is
+-- empty
+unfoldable pub childless : Element → Bool
+childless e = if eqb (e.tag / 0x20 % 2) 0 then true else leb e.body.end e.body.at

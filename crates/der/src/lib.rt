@@ -10,7 +10,7 @@ ghost use Rattle.der.specs.Element.{whole_of, no_byte_left, tag_at, finish_at, w
 ghost use Rattle.der.specs.Element.{two_octets, extent_at, element_at, expect_at, cursor};
 ghost use Rattle.der.specs.Content.{breaks, identifier_body, identifier_at, integer_body};
 ghost use Rattle.der.specs.Content.{and_digit, integer_value, integer_at, IntegerAt};
-ghost use Rattle.der.specs.Opaque.{opaque_at, elements_at, number_at};
+ghost use Rattle.der.specs.Opaque.{opaque_at, elements_at, number_at, childless};
 ghost use Rattle.der.specs.Content.{begins_at};
 ghost use Rattle.der.specs.Report.{element_report, checked_report, integer_report};
 ghost use Rattle.der.specs.Span.{Bytes};
@@ -210,6 +210,13 @@ fn present(s: &[u8], at: usize, end: usize) -> Result<Element, Fault>
     })
 }
 
+// Whether nothing below the element is to be checked: its body is not examined, or it has none.
+fn childless(found: Element) -> bool
+    ensures { result ≡ childless found }
+{
+    found.tag / 0x20 % 2 == 0 || found.body.end <= found.body.at
+}
+
 // The number of elements from `from` up to `end`, each checked to the bottom with `level` levels
 // left.
 fn run(s: &[u8], level: u8, from: usize, end: usize) -> Result<usize, Fault>
@@ -226,7 +233,7 @@ fn run(s: &[u8], level: u8, from: usize, end: usize) -> Result<usize, Fault>
                 offset: at,
             });
         }
-        if found.tag / 0x20 % 2 == 0 {
+        if childless(found) {
             count += 1;
         } else {
             let below = run(s, level - 1, found.body.at, found.body.end)?;

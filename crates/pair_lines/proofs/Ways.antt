@@ -1,7 +1,7 @@
 -- The ways out of the functions.
-use mathlib.Core.Path.{◌≡◌, sym, ◌∙◌, ap}
+use mathlib.Core.Path.{◌≡◌, sym, ◌∙◌}
 use mathlib.Core.Bool.{Bool, true, false}
-use mathlib.Core.List.{List, ◌++◌}
+use mathlib.Core.List.{List}
 use Prim.Native.Nat.{ℕ, ◌≤◌, ◌<◌}
 use native.Mathlib.Omega.{arith}
 use lib.ListN.{length, take, drop}
@@ -17,7 +17,7 @@ use Rattle.buffer.proofs.Placing.{placed_end, placed_whole}
 use Rattle.buffer.proofs.Wrote.{wrote_nothing}
 use Rattle.buffer.specs.Wrote.{Wrote}
 use Rattle.buffer.specs.declared.write.Out.{Out}
-use Rattle.buffer.proofs.Outcomes.{too_short, written}
+use Rattle.buffer.proofs.Outcomes.{too_short, wrote}
 use Rattle.pairing.specs.Pairs.{is_key}
 use Rattle.pair_lines.specs.Lines.{pair_line, bag_line, pairs_text}
 use Rattle.pair_lines.specs.Listed.{pairs_bytes, pairs_listed}
@@ -62,9 +62,6 @@ module _ (s : List ℕ) (r : Reading) (d e : Out) (w : Wrote d (pairs_text s r) 
     pub list_refused : length buffer < e.at → Left (Err (fault short_buffer 0)) buffer
     list_refused h = too_short (pairs_text s r) buffer e.at made_length h
 
-    pub list_wrote : e.at ≤ length buffer → pairs_bytes ≡ length d.buffer.now → (text : List ℕ) → text ≡ e.buffer.now
-        → (z : List ℕ) → z ≡ take e.at text → Left (Ok e.at) (z ++ drop e.at buffer)
-    list_wrote h l text t z q =
-        let x : List ℕ = pairs_text s r in
-        rw (q, t, made_whole l, written x buffer (omega (arith, h, made_length)))
-        (ap {B = Result ℕ Fault} Ok made_length, ap {B = List ℕ} (λ (k : ℕ). x ++ drop k buffer) made_length)
+    pub list_wrote : e.at ≤ length buffer → pairs_bytes ≡ length d.buffer.now → (x : List ℕ) → x ≡ take e.at e.buffer.now
+        → (z : List ℕ) (k : ℕ) → Placed buffer 0 x z k → Left (Ok e.at) z
+    list_wrote h l x q z k w = wrote (pairs_text s r) buffer e.at made_length h below z k (rw (q ∙ made_whole l) at w)

@@ -87,6 +87,7 @@ pub fn list(file: &[u8], reading: Reading, out: &mut [u8]) -> Result<usize, Faul
             offset: 0,
         });
     }
-    out[..n].copy_from_slice(&text[..n]);
+    let mut to = Out { buffer: out, at: 0 };
+    to.bytes(&text[..n]);
     Ok(n)
 }

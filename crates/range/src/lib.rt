@@ -38,8 +38,8 @@ pub fn same(a: &[u8], b: &[u8]) -> bool
 pub fn part(bytes: &[u8], start: usize, end: usize) -> &[u8]
     ensures { result.now ≡ slice start end bytes.now }
 {
-    let to = end.min(bytes.len());
-    &bytes[start.min(to)..to]
+    let there = bytes.get(..end).unwrap_or(bytes);
+    &there[start.min(there.len())..]
 }
 
 // Whether a body is the given bytes.

@@ -3,7 +3,8 @@
 use native.Mathlib.Omega.{arith}
 use Rattle.der.proofs.Choices.{handed_as}
 use Rattle.der.proofs.Placed.{found}
-use Rattle.der.proofs.Opaque.{element_refused, element_deep, element_leaf, body_refused, body_counted}
+use Rattle.der.proofs.Opaque.{element_refused, element_deep}
+use Rattle.der.proofs.Opaque.{childless_counted, below_refused, below_counted}
 use Rattle.der.proofs.Opaque.{numbering_start, numbering_end, numbering_refused, numbering_on}
 use Rattle.der.proofs.Opaque.{numbering_falls, numbering_fits, body_fits}
 use Rattle.der.proofs.+run.Goals as goal
@@ -32,47 +33,49 @@ pub returns-in_err-below : goal.returns-in_err-below
 returns-in_err-below t c =
     handed_as _ c.in_err-below.field-0.0 _
     (numbering_refused _ _ _ _ _ _ c.loop-at.invariant c.loop-at-test.true _
-    (body_refused _ _ _ _ c.present.ensures _ c.in_ok-found.was c.if-level-eq0.false c.if-found-eq0.false _
+    (below_refused _ _ _ _ c.present.ensures _ c.in_ok-found.was c.if-level-eq0.false _ c.childless.ensures c.if-childless.false _
     c.run.ensures _ c.in_err-below.was))
     c.from_residual-in_err-below.ensures
 
-pub overflow_add-count-else-found-eq0 : goal.overflow_add-count-else-found-eq0
-overflow_add-count-else-found-eq0 t c =
+pub overflow_add-count-else-childless : goal.overflow_add-count-else-childless
+overflow_add-count-else-childless t c =
     let more =
-    body_counted _ _ _ _ c.present.ensures _ c.in_ok-found.was c.if-level-eq0.false c.if-found-eq0.false _
+    below_counted _ _ _ _ c.present.ensures _ c.in_ok-found.was c.if-level-eq0.false _ c.childless.ensures c.if-childless.false _
     c.run.ensures _ c.in_ok-below.was in
     search (body_fits _ _ _ _ _ more)
 
-pub overflow_add-count-else-found-eq0-2 : goal.overflow_add-count-else-found-eq0-2
-overflow_add-count-else-found-eq0-2 t c =
+pub overflow_add-count-else-childless-2 : goal.overflow_add-count-else-childless-2
+overflow_add-count-else-childless-2 t c =
     let more =
-    body_counted _ _ _ _ c.present.ensures _ c.in_ok-found.was c.if-level-eq0.false c.if-found-eq0.false _
+    below_counted _ _ _ _ c.present.ensures _ c.in_ok-found.was c.if-level-eq0.false _ c.childless.ensures c.if-childless.false _
     c.run.ensures _ c.in_ok-below.was in
     search (numbering_fits _ _ _ _ _ _ c.loop-at.invariant c.loop-at-test.true _ _ more)
 
-pub loop-at-smaller-then-found-eq0 : goal.loop-at-smaller-then-found-eq0
-loop-at-smaller-then-found-eq0 t c =
+pub loop-at-smaller-then-childless : goal.loop-at-smaller-then-childless
+loop-at-smaller-then-childless t c =
     let one =
-    element_leaf _ _ _ _ c.present.ensures _ c.in_ok-found.was c.if-level-eq0.false c.if-found-eq0.true in
+    childless_counted _ _ _ _ c.present.ensures _ c.in_ok-found.was c.if-level-eq0.false _ c.childless.ensures
+    c.if-childless.true in
     numbering_falls _ _ _ _ _ _ c.loop-at.invariant c.loop-at-test.true _ _ one
 
-pub loop-at-preserved-then-found-eq0 : goal.loop-at-preserved-then-found-eq0
-loop-at-preserved-then-found-eq0 t c =
+pub loop-at-preserved-then-childless : goal.loop-at-preserved-then-childless
+loop-at-preserved-then-childless t c =
     let one =
-    element_leaf _ _ _ _ c.present.ensures _ c.in_ok-found.was c.if-level-eq0.false c.if-found-eq0.true in
+    childless_counted _ _ _ _ c.present.ensures _ c.in_ok-found.was c.if-level-eq0.false _ c.childless.ensures
+    c.if-childless.true in
     numbering_on _ _ _ _ _ _ c.loop-at.invariant c.loop-at-test.true _ _ one
 
 pub loop-at-smaller : goal.loop-at-smaller
 loop-at-smaller t c =
     let more =
-    body_counted _ _ _ _ c.present.ensures _ c.in_ok-found.was c.if-level-eq0.false c.if-found-eq0.false _
+    below_counted _ _ _ _ c.present.ensures _ c.in_ok-found.was c.if-level-eq0.false _ c.childless.ensures c.if-childless.false _
     c.run.ensures _ c.in_ok-below.was in
     numbering_falls _ _ _ _ _ _ c.loop-at.invariant c.loop-at-test.true _ _ more
 
 pub loop-at-preserved : goal.loop-at-preserved
 loop-at-preserved t c =
     let more =
-    body_counted _ _ _ _ c.present.ensures _ c.in_ok-found.was c.if-level-eq0.false c.if-found-eq0.false _
+    below_counted _ _ _ _ c.present.ensures _ c.in_ok-found.was c.if-level-eq0.false _ c.childless.ensures c.if-childless.false _
     c.run.ensures _ c.in_ok-below.was in
     numbering_on _ _ _ _ _ _ c.loop-at.invariant c.loop-at-test.true _ _ more
 

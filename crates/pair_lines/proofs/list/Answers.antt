@@ -1,5 +1,6 @@
 -- The text is made whole; then the refusal, or the text is written.
-use mathlib.Core.Path.{refl}
+use mathlib.Core.Path.{refl, ◌∙◌}
+use lib.ListN.{take}
 use Rattle.std.proofs.Common.{rules, ap, arith, ℕ, length-take}
 use Rattle.der.proofs.Promised.{all_bytes}
 use Rattle.buffer.specs.Report.{written_report}
@@ -25,20 +26,16 @@ pub slice_bounds-text-end : goal.slice_bounds-text-end
 unfolding pairs_text
 slice_bounds-text-end c = omega (arith, made_most _ _ _ _ c.answered.ensures refl)
 
-pub slice_bounds-copy_from_slice-end-3 : goal.slice_bounds-copy_from_slice-end-3
+pub slice_bounds-bytes-end : goal.slice_bounds-bytes-end
 unfolding pairs_text
-slice_bounds-copy_from_slice-end-3 c =
+slice_bounds-bytes-end c =
     omega (arith, made_most _ _ _ _ c.answered.ensures refl, length-take {A = ℕ})
-
-pub copy_from_slice-requires : goal.copy_from_slice-requires
-unfolding pairs_text
-copy_from_slice-requires c = omega (arith, made_most _ _ _ _ c.answered.ensures refl, length-take {A = ℕ})
 
 pub returns-clause-value : goal.returns-clause-value
 unfolding pairs_text
 returns-clause-value c =
     (list_wrote _ _ _ _ c.answered.ensures refl _ c.if-out-n.false (omega arith) _
-    (search (rules, c.answered.ensures.same)) _ c.copy_from_slice.ensures.after).0
+    (ap (take _) (search (rules, c.answered.ensures.same))) _ _ c.bytes.ensures.put).0
 
 pub returns-clause-report : goal.returns-clause-report
 returns-clause-report c = ap written_report (returns-clause-value c)
@@ -46,8 +43,8 @@ returns-clause-report c = ap written_report (returns-clause-value c)
 pub returns-clause-out_after : goal.returns-clause-out_after
 unfolding pairs_text
 returns-clause-out_after c =
-    (list_wrote _ _ _ _ c.answered.ensures refl _ c.if-out-n.false (omega arith) _
-    (search (rules, c.answered.ensures.same)) _ c.copy_from_slice.ensures.after).1
+    search (rules, c.bytes.ensures.same) ∙ (list_wrote _ _ _ _ c.answered.ensures refl _ c.if-out-n.false (omega arith) _
+    (ap (take _) (search (rules, c.answered.ensures.same))) _ _ c.bytes.ensures.put).1
 
 pub returns-clause-bytes : goal.returns-clause-bytes
 returns-clause-bytes c = search all_bytes
